@@ -1,0 +1,129 @@
+-- What a comparison with zero or with an infinity says of an f64: the tests that the code makes are the definitions' cases. Assumes nothing.
+use mathlib.Core.Path.{_≡_, refl, sym, ap, _∙_, subst}
+use mathlib.Core.Bool.{Bool, true, false, not, _&&_, _||_, Bool·beq, true≢false, false≢true}
+use Prim.Native.Nat.{ℕ, zero, suc, _+_, _*_, _%_, _≤_, _<_}
+use native.Mathlib.Nat.{zero-lt-suc, mul-pos, zero-mul, lt-irrefl, add-zero}
+use native.Mathlib.Omega.{arith}
+use lib.IntN.{ℤ, pos}
+use lib.Dec.{T, ltb, eqb, ltb→lt, lt→ltb, eqb→eq, eqb·suc-zero}
+use lib.Ieee.{Float, nan, inf, fin, Format, binary64, up, down, level, lt, eq, ne, neg, ofBits, fits, isNan, nanBits}
+use lib.Ieee.Fits.{up-pos, down-pos, and-l}
+use lib.Ieee.Bits.{is-true, nanBits-is, nanBits-above}
+use lib.Ieee.Compare.{differs-from-itself}
+use lib.Arith.{le→nltb}
+use lib.Ieee.Back.{whole-unique}
+use lib.Ieee.Scale.{finite}
+use Rattle.exact.specs.F64.{f64, magnitude, isZero}
+
+-- a size above zero is no zero
+size-pos : (m : ℕ) (e d : ℤ) → 0 < suc m * up e * down d
+size-pos m e d = mul-pos (mul-pos (zero-lt-suc m) (up-pos e)) (down-pos d)
+
+not-below-zero : (a c : ℕ) → ltb a (0 * c) ≡ true → ⊥
+not-below-zero a c h = never a (subst (λ (z : ℕ). a < z) (zero-mul c) (ltb→lt a (0 * c) (subst T (sym h) tt)))
+  where
+    never : (a : ℕ) → a < 0 → ⊥
+    never a h = omega arith
+
+-- ---- finite: above the one infinity and below the other
+
+pub finite-under : (x : Float) → lt x (f64 0x7ff0_0000_0000_0000) ≡ true → lt (neg (f64 0x7ff0_0000_0000_0000)) x ≡ finite x
+unfolding lt ofBits neg
+finite-under nan h = absurd (false≢true h)
+finite-under (inf true) h = refl
+finite-under (inf false) h = absurd (false≢true h)
+finite-under (fin s m e) h = refl
+
+pub finite-not : (x : Float) → lt x (f64 0x7ff0_0000_0000_0000) ≡ false → false ≡ finite x
+unfolding lt ofBits
+finite-not nan h = refl
+finite-not (inf true) h = refl
+finite-not (inf false) h = refl
+finite-not (fin s m e) h = absurd (true≢false h)
+
+-- ---- zero
+
+level-zero : (s : Bool) → level s 0 false 0 ≡ true
+level-zero true = refl
+level-zero false = refl
+
+level-above : (s : Bool) (a : ℕ) → 0 < a → level s a false 0 ≡ false
+level-above s zero h = absurd (lt-irrefl 0 h)
+level-above s (suc a) h = ap (λ (b : Bool). b && (Bool·beq s false || b)) (eqb·suc-zero a)
+
+pub is-zero : (x : Float) → eq x (f64 0) ≡ isZero x
+unfolding eq ofBits isZero
+is-zero nan = refl
+is-zero (inf s) = refl
+is-zero (fin s zero e) = simp zero-mul (level-zero s)
+is-zero (fin s (suc m) e) = simp zero-mul (level-above s (suc m * up e * 1) (size-pos m e (pos 0)))
+
+-- ---- the sign taken off
+
+-- below zero: turn the sign
+pub turned : (x : Float) → lt x (f64 0) ≡ true → neg x ≡ magnitude x
+unfolding lt ofBits neg magnitude
+turned nan h = absurd (false≢true h)
+turned (inf true) h = refl
+turned (inf false) h = absurd (false≢true h)
+turned (fin true m e) h = refl
+turned (fin false m e) h = absurd (not-below-zero (m * up e * 1) (down e) h)
+
+-- zero: the one with no sign
+unsigned : (s : Bool) (e : ℤ) → T (fits binary64 (fin s zero e)) → T (fits binary64 (fin false zero e))
+unfolding fits
+unsigned s e t = t
+
+plain : T (fits binary64 (fin false 0 (pos 0)))
+unfolding fits
+plain = tt
+
+pub zeroed : (x : Float) → T (fits binary64 x) → isZero x ≡ true → f64 0 ≡ magnitude x
+unfolding ofBits magnitude isZero
+zeroed nan f h = absurd (false≢true h)
+zeroed (inf s) f h = absurd (false≢true h)
+zeroed (fin s zero e) f h =
+    whole-unique binary64 (fin false 0 (pos 0)) (fin false zero e) false 0 plain (unsigned s e f) (refl, refl)
+    (refl, ap (λ (z : ℕ). z * 1) (zero-mul (up e)) ∙ sym (zero-mul (down e)))
+zeroed (fin s (suc m) e) f h = absurd (false≢true h)
+
+-- neither: nothing to do
+below-zero : (m : ℕ) (e : ℤ) → ltb 0 (suc m * up e * 1 + 0 * down e) ≡ true
+below-zero m e = is-true (ltb 0 (suc m * up e * 1 + 0 * down e)) (lt→ltb 0 (suc m * up e * 1 + 0 * down e) (more (suc m * up e * 1) (0 * down e) (size-pos m e (pos 0))))
+  where
+    more : (a b : ℕ) → 0 < a → 0 < a + b
+    more a b h = omega arith
+
+pub unturned : (x : Float) → lt x (f64 0) ≡ false → isZero x ≡ false → x ≡ magnitude x
+unfolding lt ofBits magnitude isZero
+unturned nan l h = refl
+unturned (inf true) l h = absurd (true≢false l)
+unturned (inf false) l h = refl
+unturned (fin true zero e) l h = absurd (true≢false h)
+unturned (fin true (suc m) e) l h = absurd (true≢false (sym (below-zero m e) ∙ l))
+unturned (fin false zero e) l h = refl
+unturned (fin false (suc m) e) l h = refl
+
+-- ---- a NaN, by its difference from itself and by its pattern
+
+pub no-nan : (x : Float) → ne x x ≡ false → T (not (isNan x))
+unfolding ne isNan
+no-nan nan h = absurd (true≢false h)
+no-nan (inf s) h = tt
+no-nan (fin s m e) h = tt
+
+pub is-nan : (x : Float) → ne x x ≡ true → nan ≡ x
+is-nan x h = sym (differs-from-itself x (subst T (sym h) tt))
+
+-- past the infinity's pattern, the sign aside, stand the NaNs
+pub nan-pattern : (b : ℕ) → 0x7ff0_0000_0000_0000 < b % 0x8000_0000_0000_0000 → nan ≡ f64 b
+unfolding isNan
+nan-pattern b h = read (ofBits binary64 b) (subst T (sym (sym (nanBits-is binary64 b) ∙ nanBits-above binary64 b)) (lt→ltb 0x7ff0_0000_0000_0000 (b % 0x8000_0000_0000_0000) h))
+  where
+    read : (x : Float) → T (isNan x) → nan ≡ x
+    read nan t = refl
+    read (inf s) t = absurd t
+    read (fin s m e) t = absurd t
+
+pub number-pattern : (b : ℕ) → b % 0x8000_0000_0000_0000 ≤ 0x7ff0_0000_0000_0000 → T (not (nanBits binary64 b))
+number-pattern b h = subst (λ (t : Bool). T (not t)) (sym (nanBits-above binary64 b)) (le→nltb 0x7ff0_0000_0000_0000 (b % 0x8000_0000_0000_0000) h)

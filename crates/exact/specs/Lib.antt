@@ -1,0 +1,2 @@
+pub mod F64
+pub mod Fraction
