@@ -1,1 +1,3 @@
 pub mod Tests
+pub mod Pattern
+pub mod Rounding

@@ -1,2 +1,3 @@
 pub mod F64
 pub mod Fraction
+pub mod Rounding
