@@ -1,16 +1,17 @@
--- A float by its size. Its bit pattern is worked out from its size alone (`bits-of-value`), so two floats of one size and sign are one (`unique`).
+-- A float by its size. Its bit pattern is worked out from its size alone (`bits-of-value`), so two floats of one size and sign are one (`unique`). A size may be given by any fraction that equals it (`rescaled`).
 -- What a pattern's fields stand for (`low-value`, `mid-value`), and the pattern of a number of steps, for whoever puts a float together (`packed`). Assumes nothing.
 use mathlib.Core.Path.{_≡_, refl, sym, ap, _∙_, subst}
 use mathlib.Core.Logic.{_⊎_, inl, inr}
 use Prim.Native.Nat.{ℕ, zero, suc, _+_, _-_, _*_, _/_, _%_, _^_, _≤_, _<_}
-use native.Mathlib.Nat.{le-antisymm, lt-of-lt-of-le, lt-of-le-of-lt, eq-or-lt-of-le, lt-irrefl, lt-of-not-le, div-one, mul-one, one-mul, add-assoc, suc-mul, mul-comm, mul-right-comm, mul-div-cancel, mul-le-mul-right, pow-succ', pow-suc, zero-mul, zero-add, le-refl, mul-assoc}
+use native.Mathlib.Nat.{le-antisymm, lt-of-lt-of-le, lt-of-le-of-lt, eq-or-lt-of-le, lt-irrefl, lt-of-not-le, div-one, mul-one, one-mul, add-assoc, suc-mul, mul-comm, mul-right-comm, mul-div-cancel, mul-le-mul-right, pow-succ', pow-suc, zero-mul, zero-add, le-refl, mul-assoc, eq-of-mul-eq-mul-right, mul-pos, le-trans, le-of-eq, add-mul, add-lt-add-of-le-of-lt, mul-lt-mul-of-pos-right, div-lt-iff-lt-mul}
 use native.Mathlib.Omega.{arith}
-use mathlib.Core.Bool.{Bool, true, false, cond}
-use lib.Dec.{T, leb, eqb, eqb→eq, not-T, nleb→lt}
+use mathlib.Core.Bool.{Bool, true, false, cond, _&&_}
+use lib.IntN.{ℤ}
+use lib.Dec.{T, leb, ltb, eqb, eqb→eq, ltb→lt, not-T}
 use lib.Pow.{pow-add, pow-pos, pow-mono, shl-lt, pow-lt}
-use lib.Ieee.{Float, nan, inf, fin, Format, prec, low, up, down, size, odd, hid, ones, top, ofFields, ofBits, toBits, fits}
+use lib.Ieee.{Float, nan, inf, fin, Format, prec, emax, low, up, down, size, odd, hid, ones, top, ofFields, ofBits, toBits, fits}
 use lib.Ieee.Digits.{size-lt, size-le}
-use lib.Ieee.Fits.{down-pos, two, two-le-pos}
+use lib.Ieee.Fits.{down-pos, two, two-le-pos, reach, kept-lt, and-r}
 use lib.Ieee.Exact.{HasValue, odd-sign}
 use lib.Ieee.Nearest.{div-same}
 use lib.Ieee.Bits.{ofBits-toBits, cond-no}
@@ -32,6 +33,16 @@ bits-of-value f (fin t m e) s a c C h =
 pub unique : (f : Format) (x y : Float) (s : Bool) (a c : ℕ) → 0 < c → T (fits f x) → T (fits f y) → HasValue x s a c → HasValue y s a c → x ≡ y
 unique f x y s a c C p q v w =
     sym (ofBits-toBits f x p) ∙ ap (ofBits f) (bits-of-value f x s a c C v ∙ sym (bits-of-value f y s a c C w)) ∙ ofBits-toBits f y q
+
+-- one size by two fractions
+pub rescaled : (x : Float) (s : Bool) (a c b d : ℕ) → 0 < c → a * d ≡ b * c → HasValue x s a c → HasValue x s b d
+rescaled nan s a c b d C h v = v
+rescaled (inf t) s a c b d C h v = v
+rescaled (fin t m e) s a c b d C h v = (
+  v .0,
+  eq-of-mul-eq-mul-right c C (m * up e * d) (b * down e)
+      (mul-right-comm (m * up e) d c ∙ ap (λ (z : ℕ). z * d) (v .1) ∙ mul-right-comm a (down e) d ∙ ap (λ (z : ℕ). z * down e) h ∙ mul-right-comm b c (down e)),
+)
 
 -- ---- how many digits a number has
 pub size-exact : (a n : ℕ) → 2 ^ a ≤ n → n < 2 ^ suc a → size n ≡ suc a
@@ -106,6 +117,32 @@ packed f s q k x p v hi lo =
     is (inl e) b = carried f s q k e
     is (inr l) (inl z) = subst (λ (j : ℕ). written f s (q * 2 ^ j) ≡ cond s (top f) 0 + (j * hid f + q)) (sym z) (few f s q l)
     is (inr l) (inr g) = full f s q k g l
+
+-- ---- the pattern of a finite number that is not negative stands below the infinity's
+in-range : (f : Format) (m : ℕ) (e : ℤ) → T (fits f (fin false m e)) → m * up e < 2 ^ suc (emax f) * down e
+unfolding fits
+in-range f zero e t = subst (λ (x : ℕ). x < 2 ^ suc (emax f) * down e) (sym (zero-mul (up e))) (mul-pos (pow-pos (suc (emax f))) (down-pos e))
+in-range f (suc m) e t =
+    ltb→lt (suc m * up e) (2 ^ suc (emax f) * down e)
+    (and-r (eqb (suc m % 2) 1 && ltb (suc m) (2 ^ prec f) && leb (down e) (2 ^ low f)) (ltb (suc m * up e) (2 ^ suc (emax f) * down e)) t)
+
+few-fields : (z p e k q h : ℕ) → 2 ≤ p → p ≤ suc e → z ≤ suc e + (e + p - 2) → k ≡ z - p → q < 2 * h → k * h + q < (2 * e + 1) * h
+few-fields z p e k q h a b c d l = lt-of-lt-of-le (add-lt-add-of-le-of-lt (le-refl (k * h)) l) (le-trans (le-of-eq (sym (add-mul k 2 h))) (mul-le-mul-right h (fewer z p e k a b c d)))
+  where
+    fewer : (z p e k : ℕ) → 2 ≤ p → p ≤ suc e → z ≤ suc e + (e + p - 2) → k ≡ z - p → k + 2 ≤ 2 * e + 1
+    fewer z p e k a b c d = omega arith
+
+pub finite-bits : (f : Format) (m : ℕ) (e : ℤ) → T (fits f (fin false m e)) → toBits f (fin false m e) < ones f * hid f
+finite-bits f m e t =
+    let n = m * up e * 2 ^ low f / down e in
+    let k = size n - prec f in
+    let n-lt : n < 2 ^ (suc (emax f) + low f) =
+    div-lt-iff-lt-mul (down-pos e) .1
+    (lt-of-lt-of-le (mul-lt-mul-of-pos-right (in-range f m e t) (pow-pos (low f)))
+    (le-of-eq (mul-right-comm (2 ^ suc (emax f)) (down e) (2 ^ low f) ∙ ap (λ (x : ℕ). x * down e) (sym (pow-add 2 (suc (emax f)) (low f)))))) in
+    subst (λ (x : ℕ). x < ones f * hid f) (sym (bits-of-value f (fin false m e) false (m * up e) (down e) (down-pos e) (refl, refl) ∙ add-assoc 0 (k * hid f) (n / 2 ^ k) ∙ zero-add (k * hid f + n / 2 ^ k)))
+    (few-fields (size n) (prec f) (emax f) k (n / 2 ^ k) (hid f) (two f) (reach f) (size-le n (suc (emax f) + low f) n-lt) refl
+    (lt-of-lt-of-le (kept-lt (prec f) n) (le-of-eq (twice-hid f))))
 
 -- ---- what the fields of a pattern stand for, in units
 fields-of : (f : Format) (b : ℕ) → ofBits f b ≡ ofFields f (leb (top f) b) (b % top f / hid f) (b % hid f)

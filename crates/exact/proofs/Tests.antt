@@ -19,11 +19,26 @@ use Rattle.exact.specs.F64.{f64, magnitude, isZero}
 size-pos : (m : ℕ) (e d : ℤ) → 0 < suc m * up e * down d
 size-pos m e d = mul-pos (mul-pos (zero-lt-suc m) (up-pos e)) (down-pos d)
 
-not-below-zero : (a c : ℕ) → ltb a (0 * c) ≡ true → ⊥
-not-below-zero a c h = never a (subst (λ (z : ℕ). a < z) (zero-mul c) (ltb→lt a (0 * c) (subst T (sym h) tt)))
+never : (a c : ℕ) → ltb a (0 * c) ≡ true → ⊥
+never a c h = no a (subst (λ (z : ℕ). a < z) (zero-mul c) (ltb→lt a (0 * c) (subst T (sym h) tt)))
   where
-    never : (a : ℕ) → a < 0 → ⊥
-    never a h = omega arith
+    no : (a : ℕ) → a < 0 → ⊥
+    no a h = omega arith
+
+pub plus-not-below : (m : ℕ) (e : ℤ) → lt (fin false m e) (f64 0) ≡ true → ⊥
+unfolding lt ofBits
+plus-not-below m e h = never (m * up e * 1) (down e) h
+
+pub zero-not-below : (e : ℤ) → lt (fin true zero e) (f64 0) ≡ true → ⊥
+unfolding lt ofBits
+zero-not-below e h = no (0 * up e) (0 * down e) (zero-mul (up e)) (zero-mul (down e)) (ltb→lt 0 (0 * up e * 1 + 0 * down e) (subst T (sym h) tt))
+  where
+    no : (a b : ℕ) → a ≡ 0 → b ≡ 0 → 0 < a * 1 + b → ⊥
+    no a b p q h = omega arith
+
+pub above-zero : (m : ℕ) (e : ℤ) → lt (f64 0) (fin false (suc m) e) ≡ true
+unfolding lt ofBits
+above-zero m e = is-true (ltb (0 * down e) (suc m * up e * 1)) (lt→ltb (0 * down e) (suc m * up e * 1) (subst (λ (z : ℕ). z < suc m * up e * 1) (sym (zero-mul (down e))) (size-pos m e (pos 0))))
 
 -- ---- finite: above the one infinity and below the other
 
@@ -67,7 +82,7 @@ turned nan h = absurd (false≢true h)
 turned (inf true) h = refl
 turned (inf false) h = absurd (false≢true h)
 turned (fin true m e) h = refl
-turned (fin false m e) h = absurd (not-below-zero (m * up e * 1) (down e) h)
+turned (fin false m e) h = absurd (plus-not-below m e h)
 
 -- zero: the one with no sign
 unsigned : (s : Bool) (e : ℤ) → T (fits binary64 (fin s zero e)) → T (fits binary64 (fin false zero e))
@@ -88,7 +103,8 @@ zeroed (fin s zero e) f h =
 zeroed (fin s (suc m) e) f h = absurd (false≢true h)
 
 -- neither: nothing to do
-below-zero : (m : ℕ) (e : ℤ) → ltb 0 (suc m * up e * 1 + 0 * down e) ≡ true
+pub below-zero : (m : ℕ) (e : ℤ) → lt (fin true (suc m) e) (f64 0) ≡ true
+unfolding lt ofBits
 below-zero m e = is-true (ltb 0 (suc m * up e * 1 + 0 * down e)) (lt→ltb 0 (suc m * up e * 1 + 0 * down e) (more (suc m * up e * 1) (0 * down e) (size-pos m e (pos 0))))
   where
     more : (a b : ℕ) → 0 < a → 0 < a + b

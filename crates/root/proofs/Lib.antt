@@ -1,0 +1,5 @@
+pub mod Step
+pub mod Apart
+pub mod Nearest
+pub mod Whole
+pub mod Signs
