@@ -3,15 +3,15 @@
 use mathlib.Core.Path.{_≡_, refl, sym, ap, _∙_, subst}
 use mathlib.Core.Logic.{_⊎_, inl, inr}
 use Prim.Native.Nat.{ℕ, zero, suc, _+_, _-_, _*_, _/_, _%_, _^_, _≤_, _<_}
-use native.Mathlib.Nat.{le-antisymm, lt-of-lt-of-le, lt-of-le-of-lt, eq-or-lt-of-le, lt-irrefl, lt-of-not-le, div-one, mul-one, one-mul, add-assoc, suc-mul, mul-comm, mul-right-comm, mul-div-cancel, mul-le-mul-right, pow-succ', pow-suc, zero-mul, zero-add, le-refl, mul-assoc, eq-of-mul-eq-mul-right, mul-pos, le-trans, le-of-eq, add-mul, add-lt-add-of-le-of-lt, mul-lt-mul-of-pos-right, div-lt-iff-lt-mul}
+use native.Mathlib.Nat.{le-antisymm, lt-of-lt-of-le, lt-of-le-of-lt, eq-or-lt-of-le, lt-irrefl, lt-of-not-le, div-one, mul-one, one-mul, add-assoc, suc-mul, mul-comm, mul-right-comm, mul-div-cancel, mul-le-mul-right, pow-succ', pow-suc, zero-mul, zero-add, le-refl, mul-assoc, eq-of-mul-eq-mul-right, mul-pos, le-trans, le-of-eq, add-mul, add-lt-add-of-le-of-lt, mul-lt-mul-of-pos-right, div-lt-iff-lt-mul, le-of-suc-le-suc}
 use native.Mathlib.Omega.{arith}
 use mathlib.Core.Bool.{Bool, true, false, cond, _&&_}
-use lib.IntN.{ℤ}
-use lib.Dec.{T, leb, ltb, eqb, eqb→eq, ltb→lt, not-T}
+use lib.IntN.{ℤ, pos, negsuc}
+use lib.Dec.{T, leb, ltb, eqb, eqb→eq, ltb→lt, leb→le, not-T}
 use lib.Pow.{pow-add, pow-pos, pow-mono, shl-lt, pow-lt}
 use lib.Ieee.{Float, nan, inf, fin, Format, prec, emax, low, up, down, size, odd, hid, ones, top, ofFields, ofBits, toBits, fits}
 use lib.Ieee.Digits.{size-lt, size-le}
-use lib.Ieee.Fits.{down-pos, two, two-le-pos, reach, kept-lt, and-r}
+use lib.Ieee.Fits.{up-pos, down-pos, two, two-le-pos, reach, kept-lt, and-l, and-r}
 use lib.Ieee.Exact.{HasValue, odd-sign}
 use lib.Ieee.Nearest.{div-same}
 use lib.Ieee.Bits.{ofBits-toBits, cond-no}
@@ -119,7 +119,7 @@ packed f s q k x p v hi lo =
     is (inr l) (inr g) = full f s q k g l
 
 -- ---- the pattern of a finite number that is not negative stands below the infinity's
-in-range : (f : Format) (m : ℕ) (e : ℤ) → T (fits f (fin false m e)) → m * up e < 2 ^ suc (emax f) * down e
+pub in-range : (f : Format) (m : ℕ) (e : ℤ) → T (fits f (fin false m e)) → m * up e < 2 ^ suc (emax f) * down e
 unfolding fits
 in-range f zero e t = subst (λ (x : ℕ). x < 2 ^ suc (emax f) * down e) (sym (zero-mul (up e))) (mul-pos (pow-pos (suc (emax f))) (down-pos e))
 in-range f (suc m) e t =
@@ -173,3 +173,59 @@ at-mid f s t (suc x) h l =
 pub mid-value : (f : Format) (b : ℕ) → 0 < b % top f / hid f → b % top f / hid f < ones f
     → HasValue (ofBits f b) (leb (top f) b) ((hid f + b % hid f) * 2 ^ (b % top f / hid f - 1)) (2 ^ low f)
 mid-value f b h l = rw (fields-of f b) (at-mid f (leb (top f) b) (b % hid f) (b % top f / hid f) h l)
+
+-- ---- a finite value is a whole number of units: an m of at most prec digits, and zeros after it
+pow-le-back : (a l : ℕ) → 2 ^ a ≤ 2 ^ l → a ≤ l
+pow-le-back a l h = le-of-suc-le-suc (lt-of-not-le (λ (g : suc l ≤ a). lt-irrefl (2 ^ l) (lt-of-lt-of-le (pow-lt g) h)))
+
+pub record InUnits (f : Format) (x : Float) (s : Bool) : Type 0 where
+  pub digits : ℕ
+  pub zeros : ℕ
+  pub few : digits < 2 ^ prec f
+  pub value : HasValue x s (digits * 2 ^ zeros) (2 ^ low f)
+
+placed : (f : Format) (s : Bool) (m : ℕ) (e : ℤ) → m < 2 ^ prec f → down e ≤ 2 ^ low f → InUnits f (fin s m e) s
+placed f s m (pos a) h l = record {
+  digits = m;
+  zeros = a + low f;
+  few = h;
+  value = (refl, mul-assoc m (2 ^ a) (2 ^ low f) ∙ ap (λ (z : ℕ). m * z) (sym (pow-add 2 a (low f))) ∙ sym (mul-one (m * 2 ^ (a + low f))))
+}
+placed f s m (negsuc a) h l =
+    let le = pow-le-back (suc a) (low f) l in
+    record {
+      digits = m;
+      zeros = low f - suc a;
+      few = h;
+      value = (
+        refl,
+        ap (λ (z : ℕ). z * 2 ^ low f) (mul-one m)
+            ∙ ap (λ (z : ℕ). m * z) (ap (λ (z : ℕ). 2 ^ z) (sym (back (low f) (suc a) le)) ∙ pow-add 2 (low f - suc a) (suc a))
+            ∙ sym (mul-assoc m (2 ^ (low f - suc a)) (2 ^ suc a)),
+      )
+    }
+  where
+    back : (l a : ℕ) → a ≤ l → l - a + a ≡ l
+    back l a h = omega arith
+
+flat : (e : ℤ) (l : ℕ) → up e * down e ≡ 1 → down e ≤ 2 ^ l
+flat e l h = le-trans (at-most (up e) (down e) (up-pos e) h) (pow-pos l)
+  where
+    at-most : (u d : ℕ) → 0 < u → u * d ≡ 1 → d ≤ 1
+    at-most u d p e = le-trans (le-of-eq (sym (one-mul d))) (le-trans (mul-le-mul-right d p) (le-of-eq e))
+
+pub in-units : (f : Format) (s : Bool) (m : ℕ) (e : ℤ) → T (fits f (fin s m e)) → InUnits f (fin s m e) s
+unfolding fits
+in-units f s zero e t = placed f s zero e (pow-pos (prec f)) (flat e (low f) (eqb→eq (up e * down e) 1 t))
+in-units f s (suc m) e t =
+    let A = eqb (suc m % 2) 1 in
+    let B = ltb (suc m) (2 ^ prec f) in
+    let C = leb (down e) (2 ^ low f) in
+    let D = ltb (suc m * up e) (2 ^ suc (emax f) * down e) in
+    placed f s (suc m) e (ltb→lt (suc m) (2 ^ prec f) (and-r A B (and-l (A && B) C (and-l (A && B && C) D t)))) (leb→le (down e) (2 ^ low f) (and-r (A && B) C (and-l (A && B && C) D t)))
+
+-- two fractions of one size and one denominator have one numerator
+pub same-units : (x : Float) (s : Bool) (a b c : ℕ) → 0 < c → HasValue x s a c → HasValue x s b c → a ≡ b
+same-units nan s a b c C v w = absurd v
+same-units (inf t) s a b c C v w = absurd v
+same-units (fin t m e) s a b c C v w = eq-of-mul-eq-mul-right (down e) (down-pos e) a b (sym (v .1) ∙ w .1)

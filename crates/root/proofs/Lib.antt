@@ -3,3 +3,5 @@ pub mod Apart
 pub mod Nearest
 pub mod Whole
 pub mod Signs
+pub mod Middle
+pub mod Laws

@@ -19,7 +19,7 @@ use Rattle.root.specs.Digits.{number, Found, Finer, Split, Start, Nearer
 use Rattle.root.proofs.Nearest.{Passes, Fails, nearer-passes, nearest-steps, four-pow, last-place}
 
 -- ---- the root of a number above zero is that of its count
-root-of : (x : Float) (n : ℕ) → 0 < n → HasValue x false n (2 ^ 2148) → root x ≡ nearestRoot n
+pub root-of : (x : Float) (n : ℕ) → 0 < n → HasValue x false n (2 ^ 2148) → root x ≡ nearestRoot n
 unfolding root
 root-of nan n p h = absurd h
 root-of (inf t) n p h = absurd h
