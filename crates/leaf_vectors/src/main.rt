@@ -1,0 +1,135 @@
+// Runs root and narrow over outside vectors, which tools/make_leaf_vectors.py makes by whole-number
+// arithmetic. The gate runs this on the file stdin, and holds what it writes to the file stdout.
+//
+// A line of the input is `root` or `narrow`, a tab and the 16 lower-case hexadecimal digits of an
+// f64's bit pattern. It is written again with a tab and the answer's bit pattern, or, where it is
+// not of that form, answered by `bad`. The last line says how many were answered.
+ghost use Prim.Native.Nat.{_<_, _≤_};
+ghost use lib.ListN.{length};
+use libc::STDIN_FILENO;
+use libc::STDOUT_FILENO;
+
+// What a text spells: a number, or none.
+enum Bits {
+    Of(u64),
+    None,
+}
+
+// The value of a hexadecimal digit in lower case, and 16 for any other byte.
+fn digit(b: u8) -> u8 {
+    match b {
+        b'0'..=b'9' => b - b'0',
+        b'a'..=b'f' => b - b'a' + 10,
+        _ => 16,
+    }
+}
+
+// What is spelled by the digits so far and the digit b after them: nothing where b is no digit. Only
+// the last 16 digits count, since the shift drops the first of 17.
+fn pushed(so_far: Bits, b: u8) -> Bits {
+    let Bits::Of(bits) = so_far else {
+        return Bits::None;
+    };
+    let d = digit(b);
+    if d < 16 {
+        Bits::Of(bits << 4 | d as u64)
+    } else {
+        Bits::None
+    }
+}
+
+// The number that text spells, if it is 16 hexadecimal digits and nothing else.
+fn spelled(text: &[u8]) -> Bits {
+    if text.len() != 16 {
+        return Bits::None;
+    }
+    let mut bits = Bits::Of(0);
+    let mut i = 0;
+    while i < text.len() {
+        bits = pushed(bits, text[i]);
+        i += 1;
+    }
+    bits
+}
+
+// The number that line spells after word, if it starts with word.
+fn after(word: &[u8], line: &[u8]) -> Bits {
+    let n = word.len();
+    if n <= line.len() {
+        if check::same(&line[0..n], word) {
+            return spelled(&line[n..]);
+        }
+    }
+    Bits::None
+}
+
+// Writes the question's line again, with its answer in width digits.
+fn say(line: &[u8], answer: u64, width: usize) {
+    io::write_all(STDOUT_FILENO, line);
+    io::write_all(STDOUT_FILENO, b"\t");
+    io::print_hex(STDOUT_FILENO, answer, width);
+    io::write_all(STDOUT_FILENO, b"\n");
+}
+
+// Answers a line that is not of the form.
+fn refuse() {
+    io::write_all(STDOUT_FILENO, b"bad\n");
+}
+
+// The bit pattern of the root of the f64 with the pattern bits.
+fn root_of(bits: u64) -> u64 {
+    exact::to_bits(root::root(exact::of_bits(bits)))
+}
+
+// The bit pattern of the f32 that is nearest to the f64 with the pattern bits.
+fn narrowed(bits: u64) -> u64 {
+    exact::to_bits32(narrow::narrow(exact::of_bits(bits))) as u64
+}
+
+// Answers one line, given without its end.
+fn answer(line: &[u8]) {
+    if let Bits::Of(bits) = after(b"root\t", line) {
+        say(line, root_of(bits), 16);
+    } else if let Bits::Of(bits) = after(b"narrow\t", line) {
+        say(line, narrowed(bits), 8);
+    } else {
+        refuse();
+    }
+}
+
+// Answers the line of text that starts at index `at`, and gives the index past its end. A last line
+// that the text cuts off is bad, however much of it is there.
+fn answer_at(text: &[u8], at: usize) -> usize
+    requires { ⌜ at < length (now text) ⌝ }
+    ensures { λ r. ⌜ (at < r) × (r ≤ length (now (text .entry))) ⌝ }
+{
+    let end = bytes::scan::find(text, at, text.len(), b'\n');
+    if end < text.len() {
+        answer(&text[at..end]);
+        end + 1
+    } else {
+        refuse();
+        text.len()
+    }
+}
+
+// Answers each line of text in turn, and gives how many there are.
+fn answer_all(text: &[u8]) -> u64 {
+    let mut at = 0;
+    let mut lines: u64 = 0;
+    while at < text.len() {
+        at = answer_at(text, at);
+        lines += 1;
+    }
+    lines
+}
+
+// Reads the questions, at most 64 KiB of them, and answers each.
+fn main() {
+    let mut buf = io::large_buffer();
+    let n = io::read_full(STDIN_FILENO, &mut buf);
+    let lines = answer_all(&buf[..n]);
+    io::write_all(STDOUT_FILENO, b"lines\t");
+    io::print_decimal(STDOUT_FILENO, lines);
+    io::write_all(STDOUT_FILENO, b"\n");
+}

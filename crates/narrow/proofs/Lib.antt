@@ -1,0 +1,9 @@
+pub mod Even
+pub mod Units
+pub mod Packed
+pub mod Fields
+pub mod Ranges
+pub mod Sign
+pub mod Limit
+pub mod Same
+pub mod Laws
