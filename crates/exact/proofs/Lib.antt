@@ -1,3 +1,5 @@
 pub mod Tests
 pub mod Pattern
 pub mod Rounding
+pub mod Infinite
+pub mod Laws

@@ -44,12 +44,16 @@ rescaled (fin t m e) s a c b d C h v = (
       (mul-right-comm (m * up e) d c ∙ ap (λ (z : ℕ). z * d) (v .1) ∙ mul-right-comm a (down e) d ∙ ap (λ (z : ℕ). z * down e) h ∙ mul-right-comm b c (down e)),
 )
 
+-- ---- powers of two are in their exponents' order
+pub exponent-lt : (i j : ℕ) → 2 ^ i < 2 ^ j → i < j
+exponent-lt i j h = lt-of-not-le (λ (g : j ≤ i). lt-irrefl (2 ^ i) (lt-of-lt-of-le h (pow-mono g)))
+
+pub exponent-le : (i j : ℕ) → 2 ^ i ≤ 2 ^ j → i ≤ j
+exponent-le i j h = le-of-suc-le-suc (lt-of-not-le (λ (g : suc j ≤ i). lt-irrefl (2 ^ j) (lt-of-lt-of-le (pow-lt g) h)))
+
 -- ---- how many digits a number has
 pub size-exact : (a n : ℕ) → 2 ^ a ≤ n → n < 2 ^ suc a → size n ≡ suc a
-size-exact a n lo hi = le-antisymm (size-le n (suc a) hi) (reaches (size n) (lt-of-le-of-lt lo (size-lt n)))
-  where
-    reaches : (z : ℕ) → 2 ^ a < 2 ^ z → a < z
-    reaches z h = lt-of-not-le (λ (g : z ≤ a). lt-irrefl (2 ^ a) (lt-of-lt-of-le h (pow-mono g)))
+size-exact a n lo hi = le-antisymm (size-le n (suc a) hi) (exponent-lt a (size n) (lt-of-le-of-lt lo (size-lt n)))
 
 none-dropped : (z p : ℕ) → z ≤ p → z - p ≡ 0
 none-dropped z p h = omega arith
@@ -175,9 +179,6 @@ pub mid-value : (f : Format) (b : ℕ) → 0 < b % top f / hid f → b % top f /
 mid-value f b h l = rw (fields-of f b) (at-mid f (leb (top f) b) (b % hid f) (b % top f / hid f) h l)
 
 -- ---- a finite value is a whole number of units: an m of at most prec digits, and zeros after it
-pow-le-back : (a l : ℕ) → 2 ^ a ≤ 2 ^ l → a ≤ l
-pow-le-back a l h = le-of-suc-le-suc (lt-of-not-le (λ (g : suc l ≤ a). lt-irrefl (2 ^ l) (lt-of-lt-of-le (pow-lt g) h)))
-
 pub record InUnits (f : Format) (x : Float) (s : Bool) : Type 0 where
   pub digits : ℕ
   pub zeros : ℕ
@@ -192,7 +193,7 @@ placed f s m (pos a) h l = record {
   value = (refl, mul-assoc m (2 ^ a) (2 ^ low f) ∙ ap (λ (z : ℕ). m * z) (sym (pow-add 2 a (low f))) ∙ sym (mul-one (m * 2 ^ (a + low f))))
 }
 placed f s m (negsuc a) h l =
-    let le = pow-le-back (suc a) (low f) l in
+    let le = exponent-le (suc a) (low f) l in
     record {
       digits = m;
       zeros = low f - suc a;

@@ -63,7 +63,7 @@ reached p n c P C = elim (eq-zero-or-pos (drop p n c)) [
     all z p P h = omega arith
 
 -- ---- from `overflow` units on
-past : (f : Format) (s : Bool) (q k : ℕ) → overflow f ≤ q * 2 ^ k → units f s q k ≡ inf s
+pub past : (f : Format) (s : Bool) (q k : ℕ) → overflow f ≤ q * 2 ^ k → units f s q k ≡ inf s
 unfolding units
 past f s q k h = cond-no (ltb (q * 2 ^ k) (overflow f)) (odd (suc (prec f)) s q k (low f)) (inf s) (le→nltb (q * 2 ^ k) (overflow f) h)
 

@@ -2,8 +2,8 @@
 use mathlib.Core.Path.{_≡_}
 use mathlib.Core.Logic.{_⊎_}
 use mathlib.Core.Bool.{Bool}
-use Prim.Native.Nat.{ℕ, _+_, _-_, _*_, _^_, _≤_, _<_}
-use lib.Ieee.{inf, Format, prec, low, round}
+use Prim.Native.Nat.{ℕ, suc, _+_, _-_, _*_, _^_, _≤_, _<_}
+use lib.Ieee.{inf, Format, prec, emax, low, round}
 use lib.Ieee.Exact.{HasValue}
 use lib.Ieee.Scale.{overflow}
 
@@ -20,3 +20,8 @@ pub record Rounded (f : Format) (s : Bool) (a c : ℕ) : Type 0 where
   -- below `overflow` units the result is that number, and from there on it is the infinity
   pub under : steps < overflow f → HasValue (round f s a c) s steps (2 ^ low f)
   pub over : overflow f ≤ steps → round f s a c ≡ inf s
+
+-- The least size that rounds to an infinity: half a unit in the last place above the format's largest number, where the tie goes up. It is 2 ^ 1024 - 2 ^ 970 for an f64 and
+-- 2 ^ 128 - 2 ^ 103 for an f32.
+abbrev pub limit : Format → ℕ
+limit f = (2 ^ suc (prec f) - 1) * 2 ^ (emax f - prec f)

@@ -1,18 +1,17 @@
 -- What the nearest f32 is known by, for whoever stands on it. Assumes nothing.
-use mathlib.Core.Path.{_≡_, refl, sym, _∙_, subst}
+use mathlib.Core.Path.{_≡_, refl, sym, _∙_}
 use mathlib.Core.Bool.{Bool}
 use mathlib.Core.Logic.{_↔_}
 use Prim.Native.Nat.{ℕ, _*_, _≤_, _<_}
-use native.Mathlib.Nat.{le-of-suc-le-suc, lt-of-not-le}
 use lib.IntN.{ℤ}
 use lib.Dec.{T}
 use lib.Ieee.{Float, nan, inf, fin, binary32, up, down, round, fits}
 use lib.Ieee.Fits.{nan-fits, inf-fits, round-fits, down-pos}
 use lib.Ieee.Scale.{finite}
-use Rattle.exact.specs.Rounding.{Rounded}
+use Rattle.exact.specs.Rounding.{Rounded, limit}
 use Rattle.exact.proofs.Rounding.{rounded}
-use Rattle.narrow.specs.Narrow.{narrowed, limit}
-use Rattle.narrow.proofs.Limit.{stays-finite, goes-infinite}
+use Rattle.exact.proofs.Laws.{rounding-infinite, rounding-finite}
+use Rattle.narrow.specs.Narrow.{narrowed}
 use Rattle.narrow.proofs.Same.{same}
 
 -- There is one answer: two that the contract permits are equal.
@@ -36,17 +35,11 @@ pub narrow-same : (x : Float) → T (fits binary32 x) → narrowed x ≡ x
 narrow-same x p = same x p
 
 -- A finite x gives an infinity, that of its sign, exactly where its size is 2 ^ 128 - 2 ^ 103 or more: half way from the largest f32 to 2 ^ 128.
-pub narrow-infinite : (s : Bool) (m : ℕ) (e : ℤ) → (narrowed (fin s m e) ≡ inf s) ↔ (limit * down e ≤ m * up e)
+pub narrow-infinite : (s : Bool) (m : ℕ) (e : ℤ) → (narrowed (fin s m e) ≡ inf s) ↔ (limit binary32 * down e ≤ m * up e)
 unfolding narrowed
-narrow-infinite s m e = (
-  λ (h : narrowed (fin s m e) ≡ inf s). le-of-suc-le-suc (lt-of-not-le (λ (l : m * up e < limit * down e). subst (λ (x : Float). T (finite x)) h (stays-finite s (m * up e) (down e) (down-pos e) l))),
-  goes-infinite s (m * up e) (down e) (down-pos e),
-)
+narrow-infinite s m e = rounding-infinite binary32 s (m * up e) (down e) (down-pos e)
 
--- And it stays finite exactly where its size is smaller.
-pub narrow-finite : (s : Bool) (m : ℕ) (e : ℤ) → T (finite (narrowed (fin s m e))) ↔ (m * up e < limit * down e)
+-- And below that size it gives a number.
+pub narrow-finite : (s : Bool) (m : ℕ) (e : ℤ) → m * up e < limit binary32 * down e → T (finite (narrowed (fin s m e)))
 unfolding narrowed
-narrow-finite s m e = (
-  λ (h : T (finite (narrowed (fin s m e)))). lt-of-not-le (λ (l : limit * down e ≤ m * up e). subst (λ (x : Float). T (finite x)) (goes-infinite s (m * up e) (down e) (down-pos e) l) h),
-  stays-finite s (m * up e) (down e) (down-pos e),
-)
+narrow-finite s m e h = rounding-finite binary32 s (m * up e) (down e) (down-pos e) h

@@ -4,6 +4,5 @@ pub mod Packed
 pub mod Fields
 pub mod Ranges
 pub mod Sign
-pub mod Limit
 pub mod Same
 pub mod Laws

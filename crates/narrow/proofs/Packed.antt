@@ -6,16 +6,13 @@ use mathlib.Core.Bool.{Bool, true, false, cond}
 use Prim.Native.Nat.{ℕ, suc, _+_, _*_, _^_, _≤_, _<_}
 use native.Mathlib.Nat.{le-trans, le-of-eq, lt-of-lt-of-le, eq-or-lt-of-le, mul-le-mul-right}
 use native.Mathlib.Omega.{arith}
-use lib.Dec.{ltb}
-use lib.Arith.{le→nltb}
 use lib.Pow.{pow-add, pow-lt, pow-mono, shl-lt}
-use lib.Ieee.{Float, inf, Format, binary32, prec, low, top, odd, units, round, ofBits}
-use lib.Ieee.Bits.{cond-no}
+use lib.Ieee.{Float, inf, binary32, low, top, round, ofBits}
 use lib.Ieee.Fits.{round-fits}
 use lib.Ieee.Exact.{HasValue, units-val}
 use lib.Ieee.Nearest.{closest}
-use lib.Ieee.Scale.{overflow}
 use Rattle.exact.proofs.Pattern.{packed}
+use Rattle.exact.proofs.Rounding.{past}
 use Rattle.narrow.proofs.Units.{Placed, in-units, kept-le, kept-ge}
 
 -- ---- the pattern and the size: q steps of 2 ^ k units are past the largest f32 where the pattern is the infinity's or more
@@ -46,10 +43,6 @@ over q k hi (inr lo) l = elim (eq-or-lt-of-le hi) [
 ]
 
 -- ---- the nearest f32, by its pattern
-pub past : (f : Format) (s : Bool) (q k : ℕ) → overflow f ≤ q * 2 ^ k → units f s q k ≡ inf s
-unfolding units
-past f s q k h = cond-no (ltb (q * 2 ^ k) (overflow f)) (odd (suc (prec f)) s q k (low f)) (inf s) (le→nltb (q * 2 ^ k) (overflow f) h)
-
 pub infinity : (s : Bool) → ofBits binary32 (cond s (top binary32) 0 + 0x7f80_0000) ≡ inf s
 unfolding ofBits
 infinity true = refl

@@ -1,0 +1,36 @@
+-- The four operations of affine.rs: each product, sum, difference and quotient rounds once, in the Rust's order. Definitions only.
+use mathlib.Core.List.{[], _∷_}
+use Rattle.exact.specs.F64.{_⊕_, _⊖_, _⊗_, _⊘_}
+use Rattle.lens.specs.Constants.{zeros, ones}
+use Rattle.lens.specs.Jacobian.{twoRows}
+use Rattle.lens.specs.Undistorted.{direct}
+use Rattle.lens.specs.declared.Jacobian.{Jacobian}
+use Rattle.lens.specs.declared.Pixel.{Pixel}
+use Rattle.lens.specs.declared.Point.{Point}
+use Rattle.lens.specs.declared.Settled.{Settled}
+use Rattle.affine.specs.declared.AffineParams.{AffineParams}
+
+abbrev pub distort : AffineParams → Point → Pixel
+distort params point = record {
+  0 = point .0 ⊗ params .fx ⊕ params .cx;
+  1 = point .1 ⊗ params .fy ⊕ params .cy;
+}
+
+abbrev pub undistort : AffineParams → Pixel → Settled
+undistort params pixel = direct record {
+  0 = (pixel .0 ⊖ params .cx) ⊘ params .fx;
+  1 = (pixel .1 ⊖ params .cy) ⊘ params .fy;
+}
+
+abbrev pub dx-distort-x : AffineParams → Point → Jacobian
+dx-distort-x params point =
+    twoRows
+    (params .fx ∷ zeros ∷ [])
+    (zeros ∷ params .fy ∷ [])
+
+-- columns fx, fy, cx, cy
+abbrev pub dx-distort-params : AffineParams → Point → Jacobian
+dx-distort-params params point =
+    twoRows
+    (point .0 ∷ zeros ∷ ones ∷ zeros ∷ [])
+    (zeros ∷ point .1 ∷ zeros ∷ ones ∷ [])

@@ -1,0 +1,146 @@
+// The words that the lens models and all above them share: point, pixel, Jacobian, what undistort answers, refusal, EPS.
+ghost use mathlib.Core.Path.{_≡_};
+ghost use mathlib.Core.List.{[], _∷_, _++_};
+ghost use lib.ListN.{getD};
+ghost use Rattle.lens.specs.Constants.{zeros, eps};
+ghost use Rattle.lens.specs.Jacobian.{twoRows};
+ghost use Rattle.lens.specs.Refusal.{number};
+ghost use Rattle.lens.specs.Undistorted.{direct};
+
+// The Rust's EPS_F64. Its value stands in no text that we have: 1e-6 until it is read at the commit, which decides.
+pub const EPS: f64 = 1e-6;
+
+// How many numbers a Jacobian holds, whatever the model: two rows of the most columns that a model has.
+pub const ENTRIES: usize = 24;
+
+// A point on the z=1 plane, x and y.
+pub struct Point(pub f64, pub f64);
+
+// A pixel, u and v. It is no Point: only distort and undistort turn one into the other.
+pub struct Pixel(pub f64, pub f64);
+
+// A matrix of two rows, row by row: with n columns row 0 stands at 0..n and row 1 at n..2n. Every place after them holds 0.0.
+pub struct Jacobian {
+    pub entries: [f64; ENTRIES],
+    pub columns: usize,
+}
+
+// Where an undistort ended, after how many updates, and whether it settled there.
+pub struct Settled {
+    pub point: Point,
+    pub updates: u32,
+    pub flag: bool,
+}
+
+// An undistort's answer, or why there is none.
+pub enum Undistorted {
+    At(Settled),
+    Refused(Refusal),
+}
+
+// Why a call is refused, in the order of the numbers.
+pub enum Refusal {
+    // no model has this number or name
+    UnknownModel,
+    // the parameter Jacobian of bc, which the Rust leaves undone
+    NoParameterJacobian,
+    // not as many parameters as the model has
+    WrongCount,
+    // a caller's parameter or point, or a region's edge, is NaN or infinite
+    NotFinite,
+    // fx or fy is zero, of either sign
+    ZeroFocalLength,
+    // a width or height outside 2 to 4,096
+    WrongSize,
+    // a table or a buffer of another length than asked
+    WrongLength,
+    // a table's increment is finite and not above 0
+    IncrementNotPositive,
+    // a lookup's index below the first cell or above the last
+    OutsideTable,
+    // an angle past the tangent's limit
+    AngleTooLarge,
+    // a number of the answer, an increment or a cell's point is NaN or infinite
+    AnswerNotFinite,
+    // a table's pixel rounds to an infinite f32
+    CellInfinite,
+    // a job record that no build can have
+    ImpossibleRecord,
+    // a program's text is not of the form
+    NotTheForm,
+}
+
+// EPS as a call, so that a contract ties the constant to the definition.
+pub fn eps() -> f64
+    ensures { λ r. ⌜ r ≡ eps ⌝ }
+{
+    EPS
+}
+
+// A refusal's number. By a match, which the check proves by itself; it does not so prove a cast of the enum.
+pub fn number(refusal: Refusal) -> u8
+    ensures { λ r. ⌜ r ≡ number refusal ⌝ }
+{
+    match refusal {
+        Refusal::UnknownModel => 1,
+        Refusal::NoParameterJacobian => 2,
+        Refusal::WrongCount => 3,
+        Refusal::NotFinite => 4,
+        Refusal::ZeroFocalLength => 5,
+        Refusal::WrongSize => 6,
+        Refusal::WrongLength => 7,
+        Refusal::IncrementNotPositive => 8,
+        Refusal::OutsideTable => 9,
+        Refusal::AngleTooLarge => 10,
+        Refusal::AnswerNotFinite => 11,
+        Refusal::CellInfinite => 12,
+        Refusal::ImpossibleRecord => 13,
+        Refusal::NotTheForm => 14,
+    }
+}
+
+// A point that took no update to find: 0 updates, and the flag says yes.
+pub fn direct(point: Point) -> Settled
+    ensures { λ r. ⌜ r ≡ direct point ⌝ }
+{
+    Settled {
+        point,
+        updates: 0,
+        flag: true,
+    }
+}
+
+// The number at place i of the two rows one after the other, and 0.0 past them.
+fn placed(top: &[f64], bottom: &[f64], i: usize) -> f64
+    ensures { λ r. ⌜ r ≡ getD (now (top .entry) ++ now (bottom .entry)) i zeros ⌝ }
+{
+    if i < top.len() {
+        return top[i];
+    }
+    let j = i - top.len();
+    if j < bottom.len() { bottom[j] } else { 0.0 }
+}
+
+// The Jacobian of two rows, of any number of columns: one function for every model's. Each place is written from the rows, so that no model
+// spells the zeros out. What does not fit the record is cut off; no model has such rows.
+pub fn two_rows(top: &[f64], bottom: &[f64]) -> Jacobian
+    ensures { λ r. ⌜ r ≡ twoRows (now (top .entry)) (now (bottom .entry)) ⌝ }
+{
+    let mut entries = [0.0; ENTRIES];
+    let mut i = 0;
+    while i < ENTRIES {
+        entries[i] = placed(top, bottom, i);
+        i += 1;
+    }
+    Jacobian {
+        entries,
+        columns: top.len(),
+    }
+}
+
+// The Jacobian of two columns, a b above c d.
+pub fn two_columns(a: f64, b: f64, c: f64, d: f64) -> Jacobian
+    ensures { λ r. ⌜ r ≡ twoRows (a ∷ b ∷ []) (c ∷ d ∷ []) ⌝ }
+{
+    two_rows(&[a, b], &[c, d])
+}
