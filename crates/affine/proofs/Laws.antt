@@ -3,7 +3,7 @@ use mathlib.Core.Path.{_≡_, refl, sym, _∙_}
 use mathlib.Core.Bool.{true}
 use lib.Ieee.{add, sub, mul, div, ofBits}
 use Rattle.exact.specs.F64.{f64}
-use Rattle.lens.specs.Determined.{Determined}
+use Rattle.exact.specs.Determined.{Determined}
 use Rattle.lens.specs.Undistorted.{direct}
 use Rattle.lens.specs.declared.Pixel.{Pixel}
 use Rattle.lens.specs.declared.Point.{Point}

@@ -15,6 +15,13 @@ use Rattle.exact.specs.Rounding.{Rounded, limit}
 use Rattle.exact.proofs.Rounding.{rounded}
 use Rattle.exact.proofs.Infinite.{stays-finite, goes-infinite}
 use Rattle.exact.proofs.Pattern.{unique, InUnits, in-units}
+use Rattle.exact.specs.Determined.{Determined}
+use Rattle.exact.proofs.is_finite.Reads as is-finite-contract
+use Rattle.exact.proofs.magnitude.Reads as magnitude-contract
+use Rattle.exact.proofs.is_zero.Reads as is-zero-contract
+use Rattle.exact.proofs.to_bits.Reads as to-bits-contract
+use Rattle.exact.proofs.to_bits32.Reads as to-bits32-contract
+use Rattle.exact.proofs.of_bits.Reads as of-bits-contract
 
 -- A rounding goes at most half a unit in the last place, in either format, for subnormal results too and up to the step to infinity.
 pub rounding-near : (f : Format) (s : Bool) (a c : ℕ) → 0 < c → Rounded f s a c
@@ -102,3 +109,22 @@ value-unique = unique
 -- A finite value of a format is a whole number of its smallest value, 2 ^ -low: of at most prec binary digits, with zeros after them.
 pub value-in-units : (f : Format) (s : Bool) (m : ℕ) (e : ℤ) → T (fits f (fin s m e)) → InUnits f (fin s m e) s
 value-in-units = in-units
+
+-- Any two answers to one call that the contract of `is_finite` permits are equal; and so for the other functions.
+pub is-finite-determined : Determined is-finite-contract.Post
+is-finite-determined κ a s s' r r' p q = p ∙ sym q
+
+pub magnitude-determined : Determined magnitude-contract.Post
+magnitude-determined κ a s s' r r' p q = p ∙ sym q
+
+pub is-zero-determined : Determined is-zero-contract.Post
+is-zero-determined κ a s s' r r' p q = p ∙ sym q
+
+pub to-bits-determined : Determined to-bits-contract.Post
+to-bits-determined κ a s s' r r' p q = p ∙ sym q
+
+pub to-bits32-determined : Determined to-bits32-contract.Post
+to-bits32-determined κ a s s' r r' p q = p ∙ sym q
+
+pub of-bits-determined : Determined of-bits-contract.Post
+of-bits-determined κ a s s' r r' p q = p ∙ sym q

@@ -190,7 +190,7 @@ placed f s m (pos a) h l = record {
   digits = m;
   zeros = a + low f;
   few = h;
-  value = (refl, mul-assoc m (2 ^ a) (2 ^ low f) ∙ ap (λ (z : ℕ). m * z) (sym (pow-add 2 a (low f))) ∙ sym (mul-one (m * 2 ^ (a + low f))))
+  value = (refl, mul-assoc m (2 ^ a) (2 ^ low f) ∙ ap (λ (z : ℕ). m * z) (sym (pow-add 2 a (low f))) ∙ sym (mul-one (m * 2 ^ (a + low f))));
 }
 placed f s m (negsuc a) h l =
     let le = exponent-le (suc a) (low f) l in
@@ -203,7 +203,7 @@ placed f s m (negsuc a) h l =
         ap (λ (z : ℕ). z * 2 ^ low f) (mul-one m)
             ∙ ap (λ (z : ℕ). m * z) (ap (λ (z : ℕ). 2 ^ z) (sym (back (low f) (suc a) le)) ∙ pow-add 2 (low f - suc a) (suc a))
             ∙ sym (mul-assoc m (2 ^ (low f - suc a)) (2 ^ suc a)),
-      )
+      );
     }
   where
     back : (l a : ℕ) → a ≤ l → l - a + a ≡ l

@@ -82,5 +82,5 @@ rounded f s a c C =
       not-below = subst (λ (x : ℕ). 2 * n ≤ 2 * x + c * 2 ^ k) same (near .1);
       place = reached p n c (two-le-pos p (two f)) C;
       under = λ (h : q * 2 ^ k < overflow f). subst (λ (x : Float). HasValue x s (q * 2 ^ k) (2 ^ low f)) (sym (round-is f s a c)) (units-val f s q k h);
-      over = λ (h : overflow f ≤ q * 2 ^ k). round-is f s a c ∙ past f s q k h
+      over = λ (h : overflow f ≤ q * 2 ^ k). round-is f s a c ∙ past f s q k h;
     }

@@ -6,7 +6,6 @@ use lib.Ieee.{Float, nan, inf, fin, binary64, add, sub, mul, div, neg, ofBits}
 
 infixl 60 _⊕_ _⊖_
 infixl 70 _⊗_ _⊘_
-
 abbrev pub _⊕_ : Float → Float → Float
 x ⊕ y = add binary64 x y
 

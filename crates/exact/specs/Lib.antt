@@ -1,3 +1,4 @@
+pub mod Determined
 pub mod F64
 pub mod Fraction
 pub mod Rounding

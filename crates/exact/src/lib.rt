@@ -5,7 +5,9 @@ ghost use lib.Ieee.Scale.{finite};
 ghost use Rattle.exact.specs.F64.{f64, magnitude, isZero};
 
 const INFINITY: u64 = 0x7ff0_0000_0000_0000;
+
 const NAN: u64 = 0x7ff8_0000_0000_0000;
+
 const NAN32: u32 = 0x7fc0_0000;
 
 // Whether x is a number, and neither a NaN nor an infinity.

@@ -9,7 +9,7 @@ use lib.Ieee.{Float}
 use lib.ListN.{length, getD, length-append, List·getD-append, List·getD-eq-default, List·getD-map}
 use lib.Seq.{getD-append-add}
 use Rattle.lens.specs.Constants.{zeros}
-use Rattle.lens.specs.Determined.{Determined}
+use Rattle.exact.specs.Determined.{Determined}
 use Rattle.lens.specs.Jacobian.{entries, twoRows}
 use Rattle.lens.specs.Refusal.{number}
 use Rattle.lens.specs.Undistorted.{Told, told}

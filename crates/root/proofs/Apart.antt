@@ -36,7 +36,7 @@ up-of t p h =
       enough = a .0;
       few = a .1;
       low = subst (λ (x : ℕ). 2 ^ x ≤ t * 2 ^ (z - 11)) (a .2) (subst (λ (x : ℕ). x ≤ t * 2 ^ (z - 11)) (sym (pow-add 2 j (z - 11))) (mul-le-mul-right (2 ^ (z - 11)) (top .2)));
-      high = subst (λ (x : ℕ). t * 2 ^ (z - 11) < 2 ^ x) (a .3) (shl-lt (suc j) (z - 11) (top .3))
+      high = subst (λ (x : ℕ). t * 2 ^ (z - 11) < 2 ^ x) (a .3) (shl-lt (suc j) (z - 11) (top .3));
     }
 
 -- ---- the number itself
@@ -74,7 +74,7 @@ low b p h r te pe =
           (rescaled (ofBits binary64 b) false (b * 2 ^ 0) (2 ^ 1074) ((2 ^ 52 + r .tail) * 2 ^ (1074 - u)) (2 ^ 2148) (pow-pos 1074)
           (low-power b u 1074 (2 ^ 52 + r .tail) (omega (arith, U .few)) (omega (arith, U .low)))
           (subst (λ (t : ℕ). HasValue (ofBits binary64 b) false (t * 2 ^ 0) (2 ^ 1074)) (small-mod b h)
-          (subst (λ (s : Bool). HasValue (ofBits binary64 b) s (b % 0x10_0000_0000_0000 * 2 ^ 0) (2 ^ 1074)) (unsigned b (omega arith)) (low-value binary64 b (omega arith)))))
+          (subst (λ (s : Bool). HasValue (ofBits binary64 b) s (b % 0x10_0000_0000_0000 * 2 ^ 0) (2 ^ 1074)) (unsigned b (omega arith)) (low-value binary64 b (omega arith)))));
     }
   where
     small-mod : (b : ℕ) → b < 2 ^ 52 → b % 0x10_0000_0000_0000 ≡ b
@@ -91,5 +91,5 @@ mid b l h r te pe =
           rescaled (ofBits binary64 b) false ((2 ^ 52 + r .tail) * 2 ^ (x - 1)) (2 ^ 1074) ((2 ^ 52 + r .tail) * 2 ^ (r .power)) (2 ^ 2148) (pow-pos 1074)
           (mid-power (2 ^ 52 + r .tail) (x - 1) 1074 (r .power) (omega arith))
           (subst (λ (t : ℕ). HasValue (ofBits binary64 b) false ((2 ^ 52 + t) * 2 ^ (x - 1)) (2 ^ 1074)) (sym te)
-          (subst (λ (s : Bool). HasValue (ofBits binary64 b) s ((2 ^ 52 + b % 2 ^ 52) * 2 ^ (x - 1)) (2 ^ 1074)) (unsigned b h) (mid-value binary64 b (omega arith) (omega arith))))
+          (subst (λ (s : Bool). HasValue (ofBits binary64 b) s ((2 ^ 52 + b % 2 ^ 52) * 2 ^ (x - 1)) (2 ^ 1074)) (unsigned b h) (mid-value binary64 b (omega arith) (omega arith))));
     }

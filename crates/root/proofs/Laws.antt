@@ -19,6 +19,8 @@ use lib.Ieee.Bits.{ofBits-fits}
 use Rattle.root.proofs.Step.{binomial}
 use Rattle.root.proofs.Whole.{root-of}
 use Rattle.root.proofs.Middle.{Nearest, nearest, no-nearer, largest-up-to}
+use Rattle.exact.specs.Determined.{Determined}
+use Rattle.root.proofs.root.Reads as root-contract
 
 -- ---- a finite f64 above zero, counted in 2 ^ -2148: at least 2 ^ 1074, and below 2 ^ 3172
 at-least : (x : Float) (n : ℕ) → T (fits binary64 x) → 0 < n → HasValue x false n (2 ^ 2148) → 2 ^ 105 ≤ n
@@ -130,9 +132,9 @@ pub root-special : (root nan ≡ nan) × (root (inf false) ≡ inf false) × (ro
 unfolding root
 root-special = (refl, refl, refl, λ s e. refl, λ m e. refl)
 
--- Two answers that the contract permits are one.
-pub determined : (x r r' : Float) → r ≡ root x → r' ≡ root x → r ≡ r'
-determined x r r' p q = p ∙ sym q
+-- Any two answers to one call that the contract of `root` permits are equal.
+pub root-determined : Determined root-contract.Post
+root-determined κ a s s' r r' p q = p ∙ sym q
 
 -- The number to check by hand: the root of 2.25 is 1.5.
 pub by-hand : root (f64 0x4002_0000_0000_0000) ≡ f64 0x3ff8_0000_0000_0000

@@ -107,7 +107,7 @@ nearest n h =
       passes = leb→le ((2 * r - 1) * (2 * r - 1) * 4 ^ k) (4 * n) (largest-passes test (2 ^ 53) (zero-reaches n k));
       fails = go n k r (b .1) next (eq-or-lt-of-le (largest-up-to test (2 ^ 53)));
       least = largest-most test (2 ^ 53) (2 ^ 52) (lit≤ tt) (le→leb ((2 * 2 ^ 52 - 1) * (2 * 2 ^ 52 - 1) * 4 ^ k) (4 * n) (least-passes n k (b .0)));
-      reached = b .0
+      reached = b .0;
     }
   where
     odd : (r : ℕ) → 2 * suc r - 1 ≡ 2 * r + 1

@@ -78,7 +78,7 @@ first c w p h E F (inl (g, e, k)) =
       same =
           as-number c h (p .rest * 2 ^ 2 % 2 ^ 64 - t) (q + 2 * c) e (half-of (p .twice) q (2 * c) (h .twice) T (omega arith))
           ∙ pay (p .rest * 2 ^ 2 % 2 ^ 64 - t) t (p .rest * 4) c q (2 * c) (omega arith) (first-cost q c t (omega arith))
-          ∙ four-times (p .rest) c w (q * q) E
+          ∙ four-times (p .rest) c w (q * q) E;
     }
 first c w p h E F (inr (g, e, k)) =
     let W : p .rest * 2 ^ 2 % 2 ^ 64 ≡ p .rest * 4 = omega (arith, F .most, F .room) in
@@ -87,7 +87,7 @@ first c w p h E F (inr (g, e, k)) =
       most = omega arith;
       room = omega (arith, F .room);
       lead = omega (arith, F .lead);
-      same = as-number c h (p .rest * 4) (p .twice / 2) (e ∙ W) (ap (λ (z : ℕ). z / 2) k) ∙ four-times (p .rest) c w (p .twice / 2 * (p .twice / 2)) E
+      same = as-number c h (p .rest * 4) (p .twice / 2) (e ∙ W) (ap (λ (z : ℕ). z / 2) k) ∙ four-times (p .rest) c w (p .twice / 2 * (p .twice / 2)) E;
     }
 
 pub second : (c n : ℕ) (h r : Partial) → Half c n h → Digit h (h .twice + c) (h .twice + c + c) r → Finer c n r
@@ -100,10 +100,10 @@ second c n h r H (inl (g, e, k)) =
       same =
           as-number c r (h .rest - t) (q + c) e (half-of (h .twice) q c (r .twice) T (omega arith))
           ∙ pay (h .rest - t) t (h .rest) c q c (omega arith) (second-cost q c t (omega arith))
-          ∙ H .same
+          ∙ H .same;
     }
 second c n h r H (inr (g, e, k)) =
     record {
       found = record { even = omega (arith, H .even); most = omega arith; room = omega (arith, H .room); lead = omega (arith, H .lead) };
-      same = as-number c r (h .rest) (h .twice / 2) e (ap (λ (z : ℕ). z / 2) k) ∙ H .same
+      same = as-number c r (h .rest) (h .twice / 2) e (ap (λ (z : ℕ). z / 2) k) ∙ H .same;
     }

@@ -94,4 +94,3 @@ root-is b s rest r S B R =
     let place : last (n * 4 ^ k) ≡ k = last-place n k (omega arith) (omega (arith, B .small)) in
     steps-pattern r k (R .least) (R .most) (omega (arith, S .greatest))
     ∙ sym (root-of (ofBits binary64 b) (d * 2 ^ (s .power)) (mul-pos (omega arith) (pow-pos (s .power))) (S .value) ∙ ap nearestRoot same ∙ nearest n k r place (nearest-steps n k r (2 ^ 53) (R .passes) (R .fails) (le-of-lt (R .most))))
-
