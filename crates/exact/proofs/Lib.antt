@@ -3,3 +3,4 @@ pub mod Pattern
 pub mod Rounding
 pub mod Infinite
 pub mod Laws
+pub mod Fractions

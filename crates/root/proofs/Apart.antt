@@ -1,4 +1,4 @@
--- A number above zero, taken apart: a subnormal's leading digit is brought up to its place (`Up`), and (2 ^ 52 + tail) * 2 ^ power of 2 ^ -2148 is the number (`low`, `mid`). Assumes nothing.
+-- A number above zero, taken apart: a subnormal's leading digit is brought up to its place (`Up`), and (2 ^ 52 + tail) * 2 ^ (52 + power) of 2 ^ -2148 is the number (`low`, `mid`). Assumes nothing.
 use mathlib.Core.Path.{_≡_, refl, sym, ap, _∙_, subst}
 use mathlib.Core.Bool.{Bool, true, false}
 use Prim.Native.Nat.{ℕ, zero, suc, _+_, _-_, _*_, _/_, _%_, _^_, _≤_, _<_}
@@ -61,35 +61,36 @@ mid-power d x l y e =
     ∙ ap (λ (z : ℕ). d * z) (sym (pow-add 2 x (l + l)) ∙ ap (λ (z : ℕ). 2 ^ z) e ∙ pow-add 2 y l)
     ∙ sym (mul-assoc d (2 ^ y) (2 ^ l))
 
-pub low : (b : ℕ) → 0 < b → b < 2 ^ 52 → (r : Scaled) → r .tail ≡ b * 2 ^ (leadingZeros 64 b - 11) - 2 ^ 52 → r .power ≡ 1074 - (leadingZeros 64 b - 11) → Split b r
+pub low : (b : ℕ) → 0 < b → b < 2 ^ 52 → (r : Scaled) → r .tail ≡ b * 2 ^ (leadingZeros 64 b - 11) - 2 ^ 52 → r .power ≡ 1033 - leadingZeros 64 b → Split b r
 low b p h r te pe =
     let u = leadingZeros 64 b - 11 in
     let U = up-of b p h in
     record {
       small = omega (arith, U .high);
-      least = omega (arith, U .few);
       greatest = omega arith;
       value =
-          subst (λ (k : ℕ). HasValue (ofBits binary64 b) false ((2 ^ 52 + r .tail) * 2 ^ k) (2 ^ 2148)) (sym pe)
+          subst (λ (k : ℕ). HasValue (ofBits binary64 b) false ((2 ^ 52 + r .tail) * 2 ^ k) (2 ^ 2148)) (more (leadingZeros 64 b) (r .power) (U .enough) (U .few) pe)
           (rescaled (ofBits binary64 b) false (b * 2 ^ 0) (2 ^ 1074) ((2 ^ 52 + r .tail) * 2 ^ (1074 - u)) (2 ^ 2148) (pow-pos 1074)
           (low-power b u 1074 (2 ^ 52 + r .tail) (omega (arith, U .few)) (omega (arith, U .low)))
           (subst (λ (t : ℕ). HasValue (ofBits binary64 b) false (t * 2 ^ 0) (2 ^ 1074)) (small-mod b h)
           (subst (λ (s : Bool). HasValue (ofBits binary64 b) s (b % 0x10_0000_0000_0000 * 2 ^ 0) (2 ^ 1074)) (unsigned b (omega arith)) (low-value binary64 b (omega arith)))));
     }
   where
+    more : (z p : ℕ) → 11 ≤ z → z - 11 ≤ 52 → p ≡ 1033 - z → 1074 - (z - 11) ≡ 52 + p
+    more z p l h e = omega arith
+
     small-mod : (b : ℕ) → b < 2 ^ 52 → b % 0x10_0000_0000_0000 ≡ b
     small-mod b h = omega arith
 
-pub mid : (b : ℕ) → 2 ^ 52 ≤ b → b < 0x7ff0_0000_0000_0000 → (r : Scaled) → r .tail ≡ b % 2 ^ 52 → r .power ≡ b / 2 ^ 52 + 1073 → Split b r
+pub mid : (b : ℕ) → 2 ^ 52 ≤ b → b < 0x7ff0_0000_0000_0000 → (r : Scaled) → r .tail ≡ b % 2 ^ 52 → r .power ≡ b / 2 ^ 52 + 1021 → Split b r
 mid b l h r te pe =
     let x = b % 0x8000_0000_0000_0000 / 0x10_0000_0000_0000 in
     record {
       small = omega arith;
-      least = omega arith;
       greatest = omega arith;
       value =
-          rescaled (ofBits binary64 b) false ((2 ^ 52 + r .tail) * 2 ^ (x - 1)) (2 ^ 1074) ((2 ^ 52 + r .tail) * 2 ^ (r .power)) (2 ^ 2148) (pow-pos 1074)
-          (mid-power (2 ^ 52 + r .tail) (x - 1) 1074 (r .power) (omega arith))
+          rescaled (ofBits binary64 b) false ((2 ^ 52 + r .tail) * 2 ^ (x - 1)) (2 ^ 1074) ((2 ^ 52 + r .tail) * 2 ^ (52 + r .power)) (2 ^ 2148) (pow-pos 1074)
+          (mid-power (2 ^ 52 + r .tail) (x - 1) 1074 (52 + r .power) (omega arith))
           (subst (λ (t : ℕ). HasValue (ofBits binary64 b) false ((2 ^ 52 + t) * 2 ^ (x - 1)) (2 ^ 1074)) (sym te)
           (subst (λ (s : Bool). HasValue (ofBits binary64 b) s ((2 ^ 52 + b % 2 ^ 52) * 2 ^ (x - 1)) (2 ^ 1074)) (unsigned b h) (mid-value binary64 b (omega arith) (omega arith))));
     }

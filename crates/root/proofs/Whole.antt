@@ -53,14 +53,14 @@ below n r h p = lt-of-not-le (λ (g : 2 ^ 53 ≤ r). not-le-of-lt (large n h) (l
     wide r g = omega arith
 
 -- ---- the number's power, halved
-power : (d p : ℕ) → 52 ≤ p → d * 2 ^ p ≡ d * 2 ^ (52 + p % 2) * 4 ^ ((p - 52) / 2)
-power d p h =
-    ap (λ (z : ℕ). d * 2 ^ z) (split p h)
-    ∙ ap (λ (z : ℕ). d * z) (pow-add 2 (52 + p % 2) (2 * ((p - 52) / 2)) ∙ ap (λ (z : ℕ). 2 ^ (52 + p % 2) * z) (sym (four-pow ((p - 52) / 2))))
-    ∙ sym (mul-assoc d (2 ^ (52 + p % 2)) (4 ^ ((p - 52) / 2)))
+power : (d p : ℕ) → d * 2 ^ (52 + p) ≡ d * 2 ^ (52 + p % 2) * 4 ^ (p / 2)
+power d p =
+    ap (λ (z : ℕ). d * 2 ^ z) (split p)
+    ∙ ap (λ (z : ℕ). d * z) (pow-add 2 (52 + p % 2) (2 * (p / 2)) ∙ ap (λ (z : ℕ). 2 ^ (52 + p % 2) * z) (sym (four-pow (p / 2))))
+    ∙ sym (mul-assoc d (2 ^ (52 + p % 2)) (4 ^ (p / 2)))
   where
-    split : (p : ℕ) → 52 ≤ p → p ≡ 52 + p % 2 + 2 * ((p - 52) / 2)
-    split p h = omega arith
+    split : (p : ℕ) → 52 + p ≡ 52 + p % 2 + 2 * (p / 2)
+    split p = omega arith
 
 -- ---- what the digits say of r
 pub record Result (n r : ℕ) : Type 0 where
@@ -85,12 +85,12 @@ result rest r p h F N =
     at-least q r l (inr (a, b)) = omega arith
 
 pub root-is : (b : ℕ) (s : Scaled) (rest r : ℕ) → Split b s → Start s rest → Result (rest * 2 ^ 52 + 2 ^ 52 * 2 ^ 52) r
-    → ofBits binary64 ((s .power - 52) / 2 * 2 ^ 52 + r) ≡ root (ofBits binary64 b)
+    → ofBits binary64 (s .power / 2 * 2 ^ 52 + r) ≡ root (ofBits binary64 b)
 root-is b s rest r S B R =
     let n = rest * 2 ^ 52 + 2 ^ 52 * 2 ^ 52 in
-    let k = (s .power - 52) / 2 in
+    let k = s .power / 2 in
     let d = 2 ^ 52 + s .tail in
-    let same : d * 2 ^ (s .power) ≡ n * 4 ^ k = power d (s .power) (omega (arith, S .least)) ∙ ap (λ (z : ℕ). z * 4 ^ k) (sym (B .lent)) in
+    let same : d * 2 ^ (52 + s .power) ≡ n * 4 ^ k = power d (s .power) ∙ ap (λ (z : ℕ). z * 4 ^ k) (sym (B .lent)) in
     let place : last (n * 4 ^ k) ≡ k = last-place n k (omega arith) (omega (arith, B .small)) in
     steps-pattern r k (R .least) (R .most) (omega (arith, S .greatest))
-    ∙ sym (root-of (ofBits binary64 b) (d * 2 ^ (s .power)) (mul-pos (omega arith) (pow-pos (s .power))) (S .value) ∙ ap nearestRoot same ∙ nearest n k r place (nearest-steps n k r (2 ^ 53) (R .passes) (R .fails) (le-of-lt (R .most))))
+    ∙ sym (root-of (ofBits binary64 b) (d * 2 ^ (52 + s .power)) (mul-pos (omega arith) (pow-pos (52 + s .power))) (S .value) ∙ ap nearestRoot same ∙ nearest n k r place (nearest-steps n k r (2 ^ 53) (R .passes) (R .fails) (le-of-lt (R .most))))

@@ -28,12 +28,11 @@ pub record Finer (w : ℕ) (n : ℕ) (r : Partial) : Type 0 where
   pub found : Found w r
   pub same : number w r ≡ n
 
--- a number above zero, whose pattern is `bits`, as (2 ^ 52 + tail) * 2 ^ power of 2 ^ -2148
+-- a number above zero, whose pattern is `bits`, as (2 ^ 52 + tail) * 2 ^ (52 + power) of 2 ^ -2148
 pub record Split (bits : ℕ) (r : Scaled) : Type 0 where
   pub small : r .tail < 2 ^ 52
-  pub least : 1022 ≤ r .power
-  pub greatest : r .power < 3120
-  pub value : HasValue (ofBits binary64 bits) false ((2 ^ 52 + r .tail) * 2 ^ (r .power)) (2 ^ 2148)
+  pub greatest : r .power < 3068
+  pub value : HasValue (ofBits binary64 bits) false ((2 ^ 52 + r .tail) * 2 ^ (52 + r .power)) (2 ^ 2148)
 
 -- `r` is what the first digit leaves, in steps of 2 ^ 52, of a number of 105 or 106 digits: the significand with 52 zeros, or 53 where the power is odd
 pub record Start (s : Scaled) (r : ℕ) : Type 0 where

@@ -22,7 +22,8 @@ pub struct Partial {
     pub twice: u64,
 }
 
-// A number above zero by its significand, less the leading digit, and its power of two.
+// A number above zero: its significand, less the leading digit, and the power of two that stands
+// beside the significand with 52 zeros after it.
 pub struct Scaled {
     pub tail: u64,
     pub power: u64,
@@ -95,15 +96,15 @@ fn take_apart(bits: u64) -> Scaled
     let field = bits >> 52;
     let tail = bits % LEAD;
     if field == 0 {
-        let up = u64::leading_zeros(tail) - 11;
+        let zeros = u64::leading_zeros(tail) as u64;
         Scaled {
-            tail: (tail << up) - LEAD,
-            power: 1074 - (up as u64),
+            tail: (tail << (zeros - 11)) - LEAD,
+            power: 1033 - zeros,
         }
     } else {
         Scaled {
             tail,
-            power: field + 1073,
+            power: field + 1021,
         }
     }
 }
@@ -138,7 +139,7 @@ fn above_zero(bits: u64) -> f64
 {
     let s = take_apart(bits);
     let q = nearer(digits(first_rest(s)));
-    let half = (s.power - 52) >> 1;
+    let half = s.power >> 1;
     f64::from_bits((half << 52) + q)
 }
 

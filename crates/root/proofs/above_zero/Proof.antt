@@ -16,7 +16,7 @@ found : (c : tie.After-nearer) → Result (c .before .before .first-rest .result
 found c = result (c .before .before .first-rest .result) (c .nearer .result) (c .before .digits .result) (c .before .before .first-rest .ensures .small) (c .before .digits .ensures) (c .nearer .ensures)
 
 -- the power has few digits, so none is shifted out
-kept : (p : ℕ) → p < 3120 → (p - 52) / 2 * 2 ^ 52 % 2 ^ 64 ≡ (p - 52) / 2 * 2 ^ 52
+kept : (p : ℕ) → p < 3068 → p / 2 * 2 ^ 52 % 2 ^ 64 ≡ p / 2 * 2 ^ 52
 kept p h = omega arith
 
 take-apart-requires : tie.Need-take-apart-requires
@@ -30,9 +30,6 @@ digits-requires c κs = search needs
 
 nearer-requires : tie.Need-nearer-requires
 nearer-requires c κs = search needs
-
-sub-half : tie.Need-sub-half
-sub-half c = search needs
 
 add-result : tie.Need-add-result
 add-result c = omega (arith, found (c .before) .most, c .before .before .before .before .take-apart .ensures .greatest)
@@ -55,7 +52,6 @@ above-zero-spec =
     first-rest-requires
     digits-requires
     nearer-requires
-    sub-half
     add-result
     float-from-bits-result
     returns)

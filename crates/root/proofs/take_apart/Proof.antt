@@ -15,11 +15,11 @@ whole c = omega arith
 up : (c : tie.Then1) → Up (c .before .args .bits % 2 ^ 52)
 up c = up-of (c .before .args .bits % 2 ^ 52) (omega arith) (omega arith)
 
-sub-up : tie.Need-sub-up
-sub-up c = up c .enough
+cast-zeros : tie.Need-cast-zeros
+cast-zeros c = omega (arith, up c .few)
 
-cast-t8 : tie.Need-cast-t8
-cast-t8 c = omega (arith, up c .few)
+sub-t8 : tie.Need-sub-t8
+sub-t8 c = up c .enough
 
 shl-t9 : tie.Need-shl-t9
 shl-t9 c = omega (arith, up c .few)
@@ -27,14 +27,11 @@ shl-t9 c = omega (arith, up c .few)
 sub-t10 : tie.Need-sub-t10
 sub-t10 c = omega (arith, up c .low, up c .high)
 
-cast-t11 : tie.Need-cast-t11
-cast-t11 c = omega (arith, up c .few)
+sub-t11 : tie.Need-sub-t11
+sub-t11 c = omega (arith, up c .few)
 
-sub-t12 : tie.Need-sub-t12
-sub-t12 c = omega (arith, up c .few)
-
-add-t13 : tie.Need-add-t13
-add-t13 c = search needs
+add-t12 : tie.Need-add-t12
+add-t12 c = search needs
 
 returns : tie.Need-returns
 returns c =
@@ -42,7 +39,7 @@ returns c =
     let U = up-of b (omega arith) (omega arith) in
     low b (omega arith) (omega arith) _
     (ap (λ (t : ℕ). t * 2 ^ (leadingZeros 64 t - 11) % 2 ^ 64 - 2 ^ 52) (whole c) ∙ kept (b * 2 ^ (leadingZeros 64 b - 11)) (U .high))
-    (ap (λ (t : ℕ). 1074 - (leadingZeros 64 t - 11)) (whole c))
+    (ap (λ (t : ℕ). 1033 - leadingZeros 64 t) (whole c))
   where
     kept : (n : ℕ) → n < 2 ^ 53 → n % 2 ^ 64 - 2 ^ 52 ≡ n - 2 ^ 52
     kept n h = omega arith
@@ -51,4 +48,4 @@ returns-2 : tie.Need-returns-2
 returns-2 c = mid (c .before .args .bits) (omega arith) (omega arith) _ refl refl
 
 pub take-apart-spec : {M : Type 1} → statement M
-take-apart-spec = tie.close (tie.spec sub-up cast-t8 shl-t9 sub-t10 cast-t11 sub-t12 add-t13 returns returns-2)
+take-apart-spec = tie.close (tie.spec cast-zeros sub-t8 shl-t9 sub-t10 sub-t11 add-t12 returns returns-2)
