@@ -1,0 +1,14 @@
+pub mod Horner
+pub mod Slope
+pub mod Table
+pub mod Bounds
+pub mod Whole
+pub mod Rounds
+pub mod Counts
+pub mod Compared
+pub mod Reduced
+pub mod Pieces
+pub mod Cases
+pub mod Near
+pub mod Ways
+pub mod Laws
