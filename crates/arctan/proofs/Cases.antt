@@ -1,4 +1,4 @@
--- A(x) by its cases (`A-low`, `A-mid`, `A-high`, `A-far`), and that what the series runs over lies between 0 and 1/2. Assumes nothing.
+-- A(x) by its cases (`A-up` and `A-past` around 1; `A-low`, `A-mid`, `A-high`, `A-far`), and that what the series runs over lies between 0 and 1/2. Assumes nothing.
 use mathlib.Core.Path.{_≡_, refl, sym, ap, _∙_, subst}
 use mathlib.Core.Logic.{inl, inr}
 use mathlib.Core.Bool.{Bool, true, false, cond}
@@ -10,42 +10,42 @@ use lib.Ieee.Bits.{is-true, is-false}
 use Rattle.exact.specs.Fraction.{Fraction, Proper, cross, over, whole, opposite, _≼_, _≺_, _≈_, _⊞_, _⊟_, _⊠_, _⧄_}
 use Rattle.exact.proofs.Fractions.{over-proper, whole-proper, ⊞-proper, ⊟-proper, ⊠-proper, ⧄-proper, ≼-trans, ≺→≼, ≼-≺-trans, ≺-≼-trans, ⧄-≼, ≼-⧄, over-≼, ≼-or-≺, ≼-refl, ⊟-mono, ⊞-mono, ⊠-mono, ⊠-comm}
 use Rattle.arctan.proofs.Horner.{rest-low}
-use Rattle.arctan.proofs.Slope.{G-proper}
+use Rattle.arctan.proofs.Rise.{G-proper}
 use Rattle.arctan.specs.Series.{G, P, A, upToOne, atMost}
 
-at-most : {a b : Fraction} → a ≼ b → atMost a b ≡ true
+pub at-most : {a b : Fraction} → a ≼ b → atMost a b ≡ true
 at-most {a} {b} h = is-true (atMost a b) (le→leb (cross a b) (cross b a) (h .holds))
 
-not-at-most : {a b : Fraction} → b ≺ a → atMost a b ≡ false
+pub not-at-most : {a b : Fraction} → b ≺ a → atMost a b ≡ false
 not-at-most {a} {b} h = is-false (atMost a b) (lt→nleb (cross a b) (cross b a) (h .holds))
 
-low : {x : Fraction} → x ≼ over 2 5 → upToOne x ≡ G x
+pub up-low : {x : Fraction} → x ≼ over 2 5 → upToOne x ≡ G x
 unfolding upToOne
-low {x} h = ap (λ (t : Bool). cond t (G x) (P ⊟ G ((whole 1 ⊟ x) ⧄ (whole 1 ⊞ x)))) (at-most h)
+up-low {x} h = ap (λ (t : Bool). cond t (G x) (P ⊟ G ((whole 1 ⊟ x) ⧄ (whole 1 ⊞ x)))) (at-most h)
 
-mid : {x : Fraction} → over 2 5 ≺ x → upToOne x ≡ P ⊟ G ((whole 1 ⊟ x) ⧄ (whole 1 ⊞ x))
+pub up-mid : {x : Fraction} → over 2 5 ≺ x → upToOne x ≡ P ⊟ G ((whole 1 ⊟ x) ⧄ (whole 1 ⊞ x))
 unfolding upToOne
-mid {x} h = ap (λ (t : Bool). cond t (G x) (P ⊟ G ((whole 1 ⊟ x) ⧄ (whole 1 ⊞ x)))) (not-at-most h)
+up-mid {x} h = ap (λ (t : Bool). cond t (G x) (P ⊟ G ((whole 1 ⊟ x) ⧄ (whole 1 ⊞ x)))) (not-at-most h)
 
-near-one : {x : Fraction} → x ≼ whole 1 → A x ≡ upToOne x
+pub A-up : {x : Fraction} → x ≼ whole 1 → A x ≡ upToOne x
 unfolding A
-near-one {x} h = ap (λ (t : Bool). cond t (upToOne x) (P ⊞ P ⊟ upToOne (whole 1 ⧄ x))) (at-most h)
+A-up {x} h = ap (λ (t : Bool). cond t (upToOne x) (P ⊞ P ⊟ upToOne (whole 1 ⧄ x))) (at-most h)
 
-past-one : {x : Fraction} → whole 1 ≺ x → A x ≡ P ⊞ P ⊟ upToOne (whole 1 ⧄ x)
+pub A-past : {x : Fraction} → whole 1 ≺ x → A x ≡ P ⊞ P ⊟ upToOne (whole 1 ⧄ x)
 unfolding A
-past-one {x} h = ap (λ (t : Bool). cond t (upToOne x) (P ⊞ P ⊟ upToOne (whole 1 ⧄ x))) (not-at-most h)
+A-past {x} h = ap (λ (t : Bool). cond t (upToOne x) (P ⊞ P ⊟ upToOne (whole 1 ⧄ x))) (not-at-most h)
 
 pub A-low : {x : Fraction} → x ≼ over 2 5 → A x ≡ G x
-A-low h = near-one (≼-trans (over-proper 2 5 (omega arith)) h (over-≼ 2 5 1 1 .1 (omega arith))) ∙ low h
+A-low h = A-up (≼-trans (over-proper 2 5 (omega arith)) h (over-≼ 2 5 1 1 .1 (omega arith))) ∙ up-low h
 
 pub A-mid : {x : Fraction} → over 2 5 ≺ x → x ≼ whole 1 → A x ≡ P ⊟ G ((whole 1 ⊟ x) ⧄ (whole 1 ⊞ x))
-A-mid h k = near-one k ∙ mid h
+A-mid h k = A-up k ∙ up-mid h
 
 pub A-high : {x : Fraction} → whole 1 ≺ x → over 2 5 ≺ whole 1 ⧄ x → A x ≡ P ⊞ P ⊟ (P ⊟ G ((whole 1 ⊟ whole 1 ⧄ x) ⧄ (whole 1 ⊞ whole 1 ⧄ x)))
-A-high h k = past-one h ∙ ap (λ (a : Fraction). P ⊞ P ⊟ a) (mid k)
+A-high h k = A-past h ∙ ap (λ (a : Fraction). P ⊞ P ⊟ a) (up-mid k)
 
 pub A-far : {x : Fraction} → whole 1 ≺ x → whole 1 ⧄ x ≼ over 2 5 → A x ≡ P ⊞ P ⊟ G (whole 1 ⧄ x)
-A-far h k = past-one h ∙ ap (λ (a : Fraction). P ⊞ P ⊟ a) (low k)
+A-far h k = A-past h ∙ ap (λ (a : Fraction). P ⊞ P ⊟ a) (up-low k)
 
 pub P-proper : Proper P
 unfolding P

@@ -1,15 +1,28 @@
--- What a caller may hold of arctangent, stated over its definition, which stays shut, and over its contract. Assumes nothing.
-use mathlib.Core.Path.{_≡_, refl, sym, ap, _∙_}
-use mathlib.Core.Bool.{Bool, true, false}
+-- What a caller may hold of arctangent and tangent, stated over their definitions, which stay shut, and over their contracts. Assumes nothing.
+use mathlib.Core.Path.{_≡_, refl, sym, ap, _∙_, subst}
+use mathlib.Core.Logic.{_⊎_, inl, inr, _↔_}
+use mathlib.Core.Bool.{Bool, true, false, not, cond}
 use Prim.Native.Nat.{ℕ, zero, suc, _*_}
 use lib.Dec.{T}
 use lib.IntN.{ℤ}
-use lib.Ieee.{Float, nan, inf, fin, binary64, fits, neg, lt, eq}
+use lib.Ieee.{Float, nan, inf, fin, binary64, up, down, fits, neg, lt, le, eq}
 use Rattle.exact.specs.Determined.{Determined}
-use Rattle.arctan.specs.Series.{Arctangent}
+use Rattle.exact.specs.F64.{magnitude}
+use Rattle.exact.specs.Fraction.{Fraction, over, _≼_, _≺_}
+use Rattle.exact.proofs.Fractions.{≼-or-≺}
+use Rattle.arctan.specs.Series.{Arctangent, limit}
+use Rattle.arctan.specs.Owed.{Answered, Tangent, falling}
+use Rattle.arctan.specs.Tangent.{steep, limitEnd, tangent}
+use Rattle.arctan.specs.declared.Slope.{Slope}
+use Rattle.arctan.specs.declared.Slope.the-variants.{Is, TooSteep}
 use Rattle.arctan.specs.Arctangent.{forward, arctangent}
-use Rattle.arctan.proofs.Near.{arctangent-near, zero-itself, minus-turned, plus-itself, minus-infinite}
+use Rattle.arctan.proofs.Compared.{tiny}
+use Rattle.arctan.proofs.Cases.{at-most, not-at-most}
+use Rattle.arctan.proofs.Near.{arctangent-near, zero-itself, minus-turned, plus-itself, minus-infinite, zero-tiny}
+use Rattle.arctan.proofs.Choice.{tangent-tiny, tangent-refused}
+use Rattle.arctan.proofs.Answers.{with-sign, tangent-near}
 use Rattle.arctan.proofs.arctangent.Reads as arctangent-contract
+use Rattle.arctan.proofs.tangent.Reads as tangent-contract
 
 -- Near the series: for every x that an f64 can be, the arctangent is NaN, or within 2 ^ -40 of A(x), of 2P at infinity, with the sign of x.
 pub arctangent-within : (x : Float) → T (fits binary64 x) → Arctangent x (arctangent x)
@@ -46,3 +59,54 @@ arctangent-odd (fin false (suc m) e) = minus-turned m e ∙ ap neg (sym (plus-it
 -- Any two answers to one call that the contract of `arctangent` permits are equal: it names the definition, beside the bound.
 pub arctangent-determined : Determined arctangent-contract.Post
 arctangent-determined κ a s s' r r' p q = p .0 ∙ sym (q .0)
+
+-- ---- tangent
+
+-- The series leads back: for every theta that an f64 can be, up to 3/2 in size, the tangent is a t of theta's sign with A of its size within 2 ^ -38 of theta's; past it there is none; a NaN and the infinities give NaN.
+pub tangent-within : (theta : Float) → T (fits binary64 theta) → Tangent theta (tangent theta)
+tangent-within = tangent-near
+
+-- A NaN gives a NaN.
+pub tangent-nan : tangent nan ≡ Is nan
+tangent-nan = tangent-near nan (unfold fits in tt)
+
+-- And so do the infinities.
+pub tangent-infinite : (s : Bool) → tangent (inf s) ≡ Is nan
+tangent-infinite s = tangent-near (inf s) (unfold fits in tt)
+
+-- A zero keeps its sign.
+pub tangent-zero : (s : Bool) (e : ℤ) → tangent (fin s 0 e) ≡ Is (fin s 0 e)
+unfolding magnitude
+tangent-zero s e = sym (tangent-tiny (fin s 0 e) (zero-tiny false e))
+
+-- It is refused exactly past 3/2.
+pub tangent-refused-past : (s : Bool) (m : ℕ) (e : ℤ) → T (fits binary64 (fin s m e)) → (tangent (fin s m e) ≡ TooSteep) ↔ (limit ≺ over (m * up e) (down e))
+tangent-refused-past s m e f = (λ r. past r (≼-or-≺ a limit), λ h. subst (λ (t : Bool). Answered t s a (tangent (fin s m e))) (not-at-most h) (tangent-near (fin s m e) f))
+  where
+    a : Fraction
+    a = over (m * up e) (down e)
+
+    past : tangent (fin s m e) ≡ TooSteep → (a ≼ limit) ⊎ (limit ≺ a) → limit ≺ a
+    past r (inl h) = absurd (subst (λ (x : Slope). Answered true s a x) r (subst (λ (t : Bool). Answered t s a (tangent (fin s m e))) (at-most h) (tangent-near (fin s m e) f)))
+    past r (inr h) = h
+
+both-signs : (s : Bool) (t : Float) → cond (not s) (neg t) t ≡ neg (cond s (neg t) t)
+both-signs true t = sym (twice-turned t)
+both-signs false t = refl
+
+number-odd : (s : Bool) (m : ℕ) (e : ℤ) (b : Bool) → lt (fin false m e) tiny ≡ b → (c : Bool) → le (fin false m e) limitEnd ≡ c → tangent (fin (not s) m e) ≡ falling (tangent (fin s m e))
+unfolding magnitude neg
+number-odd s m e true h c k = sym (tangent-tiny (fin (not s) m e) h) ∙ ap falling (tangent-tiny (fin s m e) h)
+number-odd s m e false h true k = sym (with-sign (not s) m e h k) ∙ ap Is (both-signs s (steep (fin false m e))) ∙ ap falling (with-sign s m e h k)
+number-odd s m e false h false k = sym (tangent-refused (fin (not s) m e) h k refl) ∙ ap falling (tangent-refused (fin s m e) h k refl)
+
+-- Of -theta it gives the negation, a zero's too, and the same refusal.
+pub tangent-odd : (theta : Float) → tangent (neg theta) ≡ falling (tangent theta)
+unfolding neg
+tangent-odd nan = tangent-nan ∙ ap falling (sym tangent-nan)
+tangent-odd (inf s) = tangent-infinite (not s) ∙ ap falling (sym (tangent-infinite s))
+tangent-odd (fin s m e) = number-odd s m e (lt (fin false m e) tiny) refl (le (fin false m e) limitEnd) refl
+
+-- Any two answers to one call that the contract of `tangent` permits are equal: it names the definition, beside the bound.
+pub tangent-determined : Determined tangent-contract.Post
+tangent-determined κ a s s' r r' p q = p .0 ∙ sym (q .0)

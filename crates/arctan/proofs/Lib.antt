@@ -1,5 +1,5 @@
 pub mod Horner
-pub mod Slope
+pub mod Rise
 pub mod Table
 pub mod Bounds
 pub mod Whole
@@ -11,4 +11,9 @@ pub mod Pieces
 pub mod Cases
 pub mod Near
 pub mod Ways
+pub mod Growth
+pub mod Choice
+pub mod Tested
+pub mod Searched
+pub mod Answers
 pub mod Laws

@@ -20,7 +20,7 @@ use Rattle.arctan.specs.Whole.{series, quarter, half}
 use Rattle.arctan.specs.Arctangent.{Countable, counted, angle, back, one, scale, forward, arctangent}
 use Rattle.arctan.proofs.Compared.{tiny, two-fifths, five-halves, below-tiny, below-fifths, from-fifths, up-to-one, past-one, below-halves, from-halves}
 use Rattle.arctan.proofs.Reduced.{Piece, up-to-one-near, past-one-near, inverse-same, inverse-between, from-halves-near, infinite-near}
-use Rattle.arctan.proofs.Slope.{G-proper, G-zero, small}
+use Rattle.arctan.proofs.Rise.{G-proper, G-zero, small}
 use Rattle.arctan.proofs.Pieces.{u, unit-proper, to, alone, from-quarter, past-quarter, from-half}
 use Rattle.arctan.proofs.Cases.{P-proper, A-low, A-mid, A-high, A-far, two-less-one, quotient-low, quotient-high, quotient-proper, inverse-low, inverse-one, inverse-proper, inverse-far, inverse-near}
 
@@ -64,7 +64,7 @@ module _ (x : Float) (f : T (fits binary64 x)) (n : T (finite x)) (l : whole 0 �
   proper = exactly-proper x
 
   -- below 2 ^ -20 x stands for its own angle
-  near-zero : T (lt x tiny) → Good (A (exactly x)) x
+  pub near-zero : T (lt x tiny) → Good (A (exactly x)) x
   near-zero t =
       let twenty : Proper (over 1 (2 ^ 20)) = over-proper 1 (2 ^ 20) (lit≤ tt) in
       let h : exactly x ≼ over 1 (2 ^ 20) = ≺→≼ (below-tiny x n t) in
@@ -114,7 +114,7 @@ module _ (x : Float) (f : T (fits binary64 x)) (n : T (finite x)) (l : whole 0 �
   fourth-good : T (not (le x one)) → T (not (lt x five-halves)) → Good (A (exactly x)) (back (half - angle (one ⊘ x)))
   fourth-good t s = rw (A-far (past-one x n t) (from-halves-near x n (from-halves x n s) .1)) (from-half (div-fits binary64 one x) (fourth s))
 
-  forward-finite : Good (A (exactly x)) (forward x)
+  pub forward-finite : Good (A (exactly x)) (forward x)
   unfolding forward
   forward-finite =
       let Q = Good (A (exactly x)) in
@@ -146,10 +146,14 @@ unfolding forward lt le ofBits
 forward-infinite = half-of-nothing
 
 -- ---- of every x
-bounded : {a : Fraction} {r : Float} → Good a r → Angle false a r
-bounded g = record { number = g .0; within = within-wider (unit-proper 1129) (over-≼ 1129 (2 ^ 60) 1 (2 ^ 40) .1 (lit≤ tt)) (g .1) }
+enough : u 1129 ≼ arctangentBound
+unfolding over
+enough = record { holds = lit≤ tt }
 
-neg-finite : (r : Float) → T (finite r) → T (finite (neg r))
+bounded : {a : Fraction} {r : Float} → Good a r → Angle false a r
+bounded g = record { number = g .0; within = within-wider (unit-proper 1129) enough (g .1) }
+
+pub neg-finite : (r : Float) → T (finite r) → T (finite (neg r))
 unfolding neg
 neg-finite nan t = t
 neg-finite (inf s) t = t
@@ -158,7 +162,7 @@ neg-finite (fin s m e) t = tt
 turned : {a : Fraction} {r : Float} → Angle false a r → Angle true a (neg r)
 turned {a} {r} g = record { number = neg-finite r (g .number); within = rw (exactly-neg r) (within-opposite (g .within)) }
 
-zero-tiny : (s : Bool) (e : ℤ) → lt (fin s 0 e) (f64 0x3eb0_0000_0000_0000) ≡ true
+pub zero-tiny : (s : Bool) (e : ℤ) → lt (fin s 0 e) (f64 0x3eb0_0000_0000_0000) ≡ true
 unfolding lt ofBits
 zero-tiny true e = is-true (ltb 0 (0 * up e * 1048576 + 1 * down e)) (lt→ltb 0 (0 * up e * 1048576 + 1 * down e) (omega (arith, down-pos e)))
 zero-tiny false e = is-true (ltb (0 * up e * 1048576) (1 * down e)) (lt→ltb (0 * up e * 1048576) (1 * down e) (omega (arith, down-pos e)))
@@ -167,22 +171,22 @@ zero-forward : (s : Bool) (e : ℤ) → forward (fin s 0 e) ≡ fin s 0 e
 unfolding forward
 zero-forward s e = ap (λ (t : Bool). cond t (fin s 0 e) (cond (lt (fin s 0 e) (f64 0x3fd9_9999_9999_999a)) (back (angle (fin s 0 e))) (cond (le (fin s 0 e) one) (back (quarter - angle ((one ⊖ fin s 0 e) ⊘ (one ⊕ fin s 0 e)))) (cond (lt (fin s 0 e) (f64 0x4004_0000_0000_0000)) (back (quarter + angle ((fin s 0 e ⊖ one) ⊘ (fin s 0 e ⊕ one)))) (back (half - angle (one ⊘ fin s 0 e))))))) (zero-tiny s e)
 
-same-itself : (s : Bool) (m : ℕ) (e : ℤ) → eq (fin s m e) (fin s m e) ≡ true
+pub same-itself : (s : Bool) (m : ℕ) (e : ℤ) → eq (fin s m e) (fin s m e) ≡ true
 unfolding eq
 same-itself true m e = is-true (level true (m * up e * down e) true (m * up e * down e)) (and-i (eqb (m * up e * down e) (m * up e * down e)) true (eqb-refl (m * up e * down e)) tt)
 same-itself false m e = is-true (level false (m * up e * down e) false (m * up e * down e)) (and-i (eqb (m * up e * down e) (m * up e * down e)) true (eqb-refl (m * up e * down e)) tt)
 
-plus-not-negative : (m : ℕ) (e : ℤ) → whole 0 ≼ exactly (fin false m e)
+pub plus-not-negative : (m : ℕ) (e : ℤ) → whole 0 ≼ exactly (fin false m e)
 unfolding exactly
 plus-not-negative m e = over-≼ 0 1 (m * up e) (down e) .1 (omega arith)
 
-plus-held : (m : ℕ) (e : ℤ) → T (fits binary64 (fin true m e)) → T (fits binary64 (fin false m e))
+pub plus-held : (m : ℕ) (e : ℤ) → T (fits binary64 (fin true m e)) → T (fits binary64 (fin false m e))
 plus-held m e f = subst (λ (x : Float). T (fits binary64 x)) turned-back (neg-fits binary64 (fin true m e) f)
   where
     turned-back : neg (fin true m e) ≡ fin false m e
     turned-back = unfold neg in refl
 
-at-plus : (m : ℕ) (e : ℤ) → exactly (fin false m e) ≡ over (m * up e) (down e)
+pub at-plus : (m : ℕ) (e : ℤ) → exactly (fin false m e) ≡ over (m * up e) (down e)
 unfolding exactly
 at-plus m e = refl
 
@@ -198,7 +202,7 @@ pub when-not-below : (x : Float) → lt x (f64 0) ≡ false → eq x x ≡ true 
 unfolding arctangent
 when-not-below x h k = ap (λ (t : Bool). cond t (neg (forward (neg x))) (cond (eq x x) (forward x) nan)) h ∙ ap (λ (t : Bool). cond t (forward x) nan) k
 
-not-below : (x : Float) → (lt x (f64 0) ≡ true → ⊥) → lt x (f64 0) ≡ false
+pub not-below : (x : Float) → (lt x (f64 0) ≡ true → ⊥) → lt x (f64 0) ≡ false
 not-below x n = go (lt x (f64 0)) n
   where
     go : (b : Bool) → (b ≡ true → ⊥) → b ≡ false

@@ -14,7 +14,7 @@ use Rattle.arctan.specs.Series.{G, P, sum, term}
 use Rattle.arctan.specs.Arctangent.{Countable, counted, angle, back}
 use Rattle.arctan.specs.Whole.{quarter, half, series}
 use Rattle.arctan.proofs.Horner.{H, H-proper}
-use Rattle.arctan.proofs.Slope.{nested}
+use Rattle.arctan.proofs.Rise.{nested}
 use Rattle.arctan.proofs.Rounds.{plain-finite}
 use Rattle.arctan.proofs.Counts.{counted-near, back-near}
 use Rattle.arctan.proofs.Reduced.{Piece, piece-counted}

@@ -4,13 +4,15 @@
 // numbers are brought there by a quotient, and the angle by a quarter or a half of pi.
 
 ghost use mathlib.Core.Path.{_≡_};
-ghost use Prim.Native.Nat.{_^_, _≤_};
+ghost use Prim.Native.Nat.{_+_, _^_, _≤_, _<_};
 ghost use lib.Dec.{T};
 ghost use lib.Ieee.{le};
 ghost use Rattle.exact.specs.F64.{f64};
 ghost use Rattle.arctan.specs.Series.{Arctangent};
 ghost use Rattle.arctan.specs.Whole.{product, nested, reciprocals, series};
 ghost use Rattle.arctan.specs.Arctangent.{Countable, counted, angle, back, forward, arctangent};
+ghost use Rattle.arctan.specs.Tangent.{close, sine, cosine, grid, digits, halved, found, steep, tangent};
+ghost use Rattle.arctan.specs.Owed.{Tangent};
 
 // The odd reciprocals 1, 1/3, 1/5, .., 1/47, counted in 2^-60 and cut.
 const RECIPROCALS: [u64; 24] = [
@@ -137,4 +139,124 @@ pub fn arctangent(x: f64) -> f64
         return forward(x);
     }
     x
+}
+
+// What the tangent of an angle is: a number, or nothing where the angle is past the limit.
+pub enum Slope {
+    Is(f64),
+    TooSteep,
+}
+
+// How far the arctangent of a guess may be off: 2^-46.
+const NEAR: f64 = 1.4210854715202004e-14;
+
+// Whether t may stand for the tangent of theta: a number, not negative, whose arctangent is near
+// theta. The test carries the promise, whatever made the guess.
+fn close(t: f64, theta: f64) -> bool
+    ensures { λ r. ⌜ r ≡ close t theta ⌝ }
+{
+    if exact::is_finite(t) {
+        if 0.0 <= t {
+            let a = arctangent(t);
+            if theta - NEAR < a {
+                return a < theta + NEAR;
+            }
+        }
+    }
+    false
+}
+
+// The first terms of the sine's series, for an angle of at most 3/2.
+fn sine(theta: f64) -> f64
+    ensures { λ r. ⌜ r ≡ sine theta ⌝ }
+{
+    let y = theta * theta;
+    let a = ((1.9572941063391263e-20 * y - 8.22063524662433e-18) * y + 2.8114572543455206e-15) * y;
+    let b = ((a - 7.647163731819816e-13) * y + 1.6059043836821613e-10) * y - 2.505210838544172e-8;
+    let c = ((b * y + 2.7557319223985893e-6) * y - 0.0001984126984126984) * y;
+    (((c + 0.008333333333333333) * y - 0.16666666666666666) * y + 1.0) * theta
+}
+
+// The first terms of the cosine's.
+fn cosine(theta: f64) -> f64
+    ensures { λ r. ⌜ r ≡ cosine theta ⌝ }
+{
+    let y = theta * theta;
+    let a = ((4.110317623312165e-19 - 8.896791392450574e-22 * y) * y - 1.5619206968586225e-16) * y;
+    let b = ((a + 4.779477332387385e-14) * y - 1.1470745597729725e-11) * y + 2.08767569878681e-9;
+    let c = ((b * y - 2.755731922398589e-7) * y + 0.0000248015873015873) * y;
+    (((c - 0.001388888888888889) * y + 0.041666666666666664) * y - 0.5) * y + 1.0
+}
+
+// How far the search steps: 2^-47.
+const PACE: f64 = 7.105427357601002e-15;
+
+// The n-th step.
+fn grid(n: u64) -> f64
+    ensures { λ r. ⌜ r ≡ grid n ⌝ }
+{
+    std::num::nearest_u64_to_f64(n) * PACE
+}
+
+// The search narrowed to one half: from low to low + 2 * width.
+fn halved(low: u64, width: u64, theta: f64) -> u64
+    requires { ⌜ low + width < 2 ^ digits ⌝ }
+    ensures { λ r. ⌜ r ≡ halved low width theta ⌝ }
+{
+    if arctangent(grid(low + width)) <= theta {
+        low + width
+    } else {
+        low
+    }
+}
+
+// The last step below 64 whose arctangent is at most theta.
+fn found(theta: f64) -> u64
+    ensures { λ r. ⌜ r ≡ found digits 0 theta ⌝ }
+{
+    let mut low: u64 = 0;
+    let mut width: u64 = 0x20_0000_0000_0000;
+    while 1 < width {
+        width = width >> 1;
+        low = halved(low, width, theta);
+    }
+    low
+}
+
+// The tangent of a theta from 2^-20 to the limit: the guess if it passes its test, else what the search
+// finds.
+fn steep(theta: f64) -> f64
+    ensures { λ r. ⌜ r ≡ steep theta ⌝ }
+{
+    let t = sine(theta) / cosine(theta);
+    if close(t, theta) {
+        return t;
+    }
+    grid(found(theta))
+}
+
+// The largest angle that has a tangent here.
+const LIMIT: f64 = 1.5;
+
+// The tangent of theta, for an angle of at most the limit in size; a larger one is refused with the number 10. A NaN and
+// the infinities give a NaN, and a zero itself.
+pub fn tangent(theta: f64) -> Slope
+    ensures is { λ r. ⌜ r ≡ tangent theta ⌝ }
+    ensures near { λ r. ⌜ Tangent theta r ⌝ }
+{
+    let size = exact::magnitude(theta);
+    if size < 9.5367431640625e-7 {
+        return Slope::Is(theta);
+    }
+    if size <= LIMIT {
+        let t = steep(size);
+        if theta < 0.0 {
+            return Slope::Is(-t);
+        }
+        return Slope::Is(t);
+    }
+    if exact::is_finite(theta) {
+        return Slope::TooSteep;
+    }
+    Slope::Is(0.0 / 0.0)
 }
