@@ -385,4 +385,5 @@ def main():
         (folder / name).write_bytes(text)
 
 
-main()
+if __name__ == "__main__":
+    main()

@@ -6,62 +6,9 @@
 // not of that form, answered by `bad`. The last line says how many were answered.
 ghost use Prim.Native.Nat.{_<_, _≤_};
 ghost use lib.ListN.{length};
+use hex::Bits;
 use libc::STDIN_FILENO;
 use libc::STDOUT_FILENO;
-
-// What a text spells: a number, or none.
-enum Bits {
-    Of(u64),
-    None,
-}
-
-// The value of a hexadecimal digit in lower case, and 16 for any other byte.
-fn digit(b: u8) -> u8 {
-    match b {
-        b'0'..=b'9' => b - b'0',
-        b'a'..=b'f' => b - b'a' + 10,
-        _ => 16,
-    }
-}
-
-// What is spelled by the digits so far and the digit b after them: nothing where b is no digit. Only
-// the last 16 digits count, since the shift drops the first of 17.
-fn pushed(so_far: Bits, b: u8) -> Bits {
-    let Bits::Of(bits) = so_far else {
-        return Bits::None;
-    };
-    let d = digit(b);
-    if d < 16 {
-        Bits::Of(bits << 4 | d as u64)
-    } else {
-        Bits::None
-    }
-}
-
-// The number that text spells, if it is 16 hexadecimal digits and nothing else.
-fn spelled(text: &[u8]) -> Bits {
-    if text.len() != 16 {
-        return Bits::None;
-    }
-    let mut bits = Bits::Of(0);
-    let mut i = 0;
-    while i < text.len() {
-        bits = pushed(bits, text[i]);
-        i += 1;
-    }
-    bits
-}
-
-// The number that line spells after word, if it starts with word.
-fn after(word: &[u8], line: &[u8]) -> Bits {
-    let n = word.len();
-    if n <= line.len() {
-        if check::same(&line[0..n], word) {
-            return spelled(&line[n..]);
-        }
-    }
-    Bits::None
-}
 
 // Writes the question's line again, with its answer in width digits.
 fn say(line: &[u8], answer: u64, width: usize) {
@@ -88,9 +35,9 @@ fn narrowed(bits: u64) -> u64 {
 
 // Answers one line, given without its end.
 fn answer(line: &[u8]) {
-    if let Bits::Of(bits) = after(b"root\t", line) {
+    if let Bits::Of(bits) = hex::after(b"root\t", line) {
         say(line, root_of(bits), 16);
-    } else if let Bits::Of(bits) = after(b"narrow\t", line) {
+    } else if let Bits::Of(bits) = hex::after(b"narrow\t", line) {
         say(line, narrowed(bits), 8);
     } else {
         refuse();

@@ -1,0 +1,52 @@
+-- What a caller may rely on, of the definitions of specs/ and of the contracts of src/. Assumes nothing.
+use mathlib.Core.Path.{_≡_, refl, sym, ap, _∙_}
+use mathlib.Core.Bool.{Bool, true, false, cond}
+use mathlib.Core.List.{List, [], _∷_, _++_}
+use Prim.Native.Nat.{ℕ, _^_, _<_}
+use native.Mathlib.Nat.{zero-add}
+use borrow.Author.Tests.{eq-eqb, eqb-true}
+use lib.Dec.{eqb}
+use lib.ListN.{length, take}
+use Rattle.exact.specs.Determined.{Determined}
+use Rattle.io.specs.Digits.{digits}
+use Rattle.hex.specs.Hex.{read, spelled, after}
+use Rattle.hex.specs.declared.Bits.the-variants.{Of, None}
+use Rattle.hex.proofs.Written.{none-of, read-digits, digits-read}
+use Rattle.hex.proofs.Word.{after-other}
+use Rattle.hex.proofs.spelled.Reads as spelled-contract
+use Rattle.hex.proofs.after.Reads as after-contract
+
+-- ---- reading and writing
+
+-- The 16 digits that `io::hex` writes of a u64 are read as that number.
+pub written-spelled : (n : ℕ) → n < 2 ^ 64 → spelled (digits 16 16 n) ≡ Of n
+unfolding spelled
+written-spelled n h = read-digits 16 n h
+
+sixteen : (text : List ℕ) (n : ℕ) (t : Bool) → eqb (length text) 16 ≡ t → cond t (read (Of 0) text) None ≡ Of n → text ≡ digits 16 16 n
+sixteen text n true e f = digits-read text 0 0 n f ∙ ap (λ (k : ℕ). digits 16 k n) (zero-add (length text) ∙ eqb-true (length text) 16 e)
+sixteen text n false e f = absurd (none-of f)
+
+-- A text that is read as a number is what `io::hex` writes of it: there is one spelling for a number.
+pub spelled-written : (text : List ℕ) (n : ℕ) → spelled text ≡ Of n → text ≡ digits 16 16 n
+unfolding spelled
+spelled-written text n e = sixteen text n (eqb (length text) 16) refl e
+
+-- Where a line starts with the word, the number is what the rest of it spells.
+pub after-rest : (word rest : List ℕ) → after word (word ++ rest) ≡ spelled rest
+unfolding after
+after-rest [] rest = refl
+after-rest (w ∷ word) rest = simp (eq-eqb w w refl) (after-rest word rest)
+
+-- Where it does not, there is none.
+pub after-none : (word line : List ℕ) → (take (length word) line ≡ word → ⊥) → after word line ≡ None
+after-none word line ne = sym (after-other word line ne)
+
+-- ---- each contract permits one answer
+
+-- Any two answers to one call that the contract of `spelled` permits are equal; and so for `after`.
+pub spelled-determined : Determined spelled-contract.Post
+spelled-determined κ a s s' r r' p q = p ∙ sym q
+
+pub after-determined : Determined after-contract.Post
+after-determined κ a s s' r r' p q = p ∙ sym q

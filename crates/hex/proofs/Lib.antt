@@ -1,0 +1,4 @@
+pub mod Reading
+pub mod Word
+pub mod Written
+pub mod Laws

@@ -1,0 +1,65 @@
+// Reads a number as our texts spell it: 16 hexadecimal digits in lower case, as of an f64's bit pattern.
+ghost use mathlib.Core.Path.{_≡_};
+ghost use Rattle.hex.specs.Hex.{Short, digit, pushed, spelled, after};
+
+// What a text spells: a number, or none.
+pub enum Bits {
+    Of(u64),
+    None,
+}
+
+// The value of a digit, and 16 for any other byte.
+fn digit(b: u8) -> u8
+    ensures { λ r. ⌜ r ≡ digit b ⌝ }
+{
+    match b {
+        b'0'..=b'9' => b - b'0',
+        b'a'..=b'f' => b - b'a' + 10,
+        _ => 16,
+    }
+}
+
+// What is spelled by the digits so far, of which there are at most 15, and the byte b after them.
+fn pushed(before: Bits, b: u8) -> Bits
+    requires { ⌜ Short 15 before ⌝ }
+    ensures { λ r. ⌜ r ≡ pushed before b ⌝ }
+{
+    let Bits::Of(bits) = before else {
+        return Bits::None;
+    };
+    let d = digit(b);
+    if d < 16 {
+        Bits::Of(bits * 16 + d as u64)
+    } else {
+        Bits::None
+    }
+}
+
+// The number that text spells, if it is 16 digits and nothing else.
+pub fn spelled(text: &[u8]) -> Bits
+    ensures { λ r. ⌜ r ≡ spelled (now (text .entry)) ⌝ }
+{
+    if text.len() != 16 {
+        return Bits::None;
+    }
+    let mut bits = Bits::Of(0);
+    let mut i = 0;
+    while i < text.len() {
+        bits = pushed(bits, text[i]);
+        i += 1;
+    }
+    bits
+}
+
+// The number that line spells after word, if it starts with word.
+pub fn after(word: &[u8], line: &[u8]) -> Bits
+    ensures { λ r. ⌜ r ≡ after (now (word .entry)) (now (line .entry)) ⌝ }
+{
+    let n = word.len();
+    if n <= line.len() {
+        if check::same(&line[..n], word) {
+            return spelled(&line[n..]);
+        }
+    }
+    Bits::None
+}
