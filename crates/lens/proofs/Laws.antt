@@ -24,6 +24,7 @@ use Rattle.lens.proofs.number.Reads as number-contract
 use Rattle.lens.proofs.direct.Reads as direct-contract
 use Rattle.lens.proofs.two_rows.Reads as two-rows-contract
 use Rattle.lens.proofs.two_columns.Reads as two-columns-contract
+use Rattle.lens.proofs.squared_radius.Reads as squared-radius-contract
 
 -- ---- refusals
 
@@ -128,3 +129,6 @@ two-rows-determined κ a s s' r r' p q = p ∙ sym q
 
 pub two-columns-determined : Determined two-columns-contract.Post
 two-columns-determined κ a s s' r r' p q = p ∙ sym q
+
+pub squared-radius-determined : Determined squared-radius-contract.Post
+squared-radius-determined κ a s s' r r' p q = p ∙ sym q

@@ -2,3 +2,4 @@ pub mod Constants
 pub mod Jacobian
 pub mod Refusal
 pub mod Undistorted
+pub mod Radius

@@ -5,6 +5,7 @@ ghost use lib.ListN.{getD};
 ghost use Rattle.lens.specs.Constants.{zeros, eps};
 ghost use Rattle.lens.specs.Jacobian.{twoRows};
 ghost use Rattle.lens.specs.Refusal.{number};
+ghost use Rattle.lens.specs.Radius.{squared-radius};
 ghost use Rattle.lens.specs.Undistorted.{direct};
 
 // The Rust's EPS_F64. Its value stands in no text that we have: 1e-6 until it is read at the commit, which decides.
@@ -143,4 +144,11 @@ pub fn two_columns(a: f64, b: f64, c: f64, d: f64) -> Jacobian
     ensures { λ r. ⌜ r ≡ twoRows (a ∷ b ∷ []) (c ∷ d ∷ []) ⌝ }
 {
     two_rows(&[a, b], &[c, d])
+}
+
+// The squared distance of (x, y) from the axis, as every model that asks for it works it out.
+pub fn squared_radius(x: f64, y: f64) -> f64
+    ensures { λ r. ⌜ r ≡ squared-radius x y ⌝ }
+{
+    x * x + y * y
 }
