@@ -114,7 +114,7 @@ module _ (top bottom : List Float) where
 
 -- ---- each contract permits one answer
 
--- Any two answers to one call that the contract of `eps` permits are equal; and so for the four other functions.
+-- Any two answers to one call that the contract of `eps` permits are equal; and so for the five other functions.
 pub eps-determined : Determined eps-contract.Post
 eps-determined κ a s s' r r' p q = p ∙ sym q
 
