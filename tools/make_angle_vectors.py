@@ -181,6 +181,18 @@ SOME = [Fraction(x) for x in "1/239 1/10 1/5 1/4 1/3 3/8 3/7 5/12 9/20 1/2 3/5 2
 SOME += [Fraction(x) for x in "11/10 7/5 2 12/5 13/5 3 4 5 7 10 14 100".split()]
 
 
+def shared_kinds(rng):
+    """The kinds that both functions are asked alike."""
+    return {
+        "NaN": NANS,
+        "infinity": both([INF]),
+        "zero": both([0]),
+        "subnormal": subnormals(rng),
+        "small": small(),
+        "beside 2^-20": both(beside(Fraction(1, 2**20), NEAR)),
+    }
+
+
 def arctangent_kinds(rng):
     two_fifths, one, five_halves = at_least(TWO_FIFTHS), f64(1, 0), at_least(FIVE_HALVES)
     powers = [-19, -18, -12, -8, -6, -5, -4, -3, -2, -1, 1, 2, 3, 4, 6, 10, 20, 48, 49, 50, 53, 54, 60, 61]
@@ -189,12 +201,7 @@ def arctangent_kinds(rng):
     # where the angle passes 1/4, 1/2 and 1, from where on an f64's unit is twice as large
     steps = [first(lambda place: angle(place) >= Fraction(1, n), 0, LARGEST) for n in (4, 2, 1)]
     return {
-        "NaN": NANS,
-        "infinity": both([INF]),
-        "zero": both([0]),
-        "subnormal": subnormals(rng),
-        "small": small(),
-        "beside 2^-20": both(beside(Fraction(1, 2**20), NEAR)),
+        **shared_kinds(rng),
         "beside 2/5": both(beside(TWO_FIFTHS, NEAR)),
         "beside 1": both(beside(Fraction(1), NEAR)),
         "beside 5/2": both(beside(FIVE_HALVES, NEAR)),
@@ -219,12 +226,7 @@ def tangent_kinds(rng):
     steep = [at_least(Fraction(99, 64)), at_least(2 * P), f64(1, 1), f64(3, 0), at_least(4 * P), f64(1, 2)]
     steep += [f64(10, 0), f64(355, 0), f64(1, 53), f64(1, 500), at_least(Fraction(10) ** 308), LARGEST]
     return {
-        "NaN": NANS,
-        "infinity": both([INF]),
-        "zero": both([0]),
-        "subnormal": subnormals(rng),
-        "small": small(),
-        "beside 2^-20": both(beside(Fraction(1, 2**20), NEAR)),
+        **shared_kinds(rng),
         "tangent near 2/5": both(beside(A(TWO_FIFTHS), NEAR)),
         "tangent near 1": both(beside(P, NEAR)),
         "tangent near 5/2": both(beside(A(FIVE_HALVES), NEAR)),

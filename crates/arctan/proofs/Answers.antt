@@ -1,5 +1,5 @@
 -- The tangent owes what specs/Owed.antt says (`tangent-near`): below 2 ^ -20 the angle itself, up to 3/2 a guess that passed its test or what the search found, and past it a refusal. Assumes nothing.
-use mathlib.Core.Path.{_≡_, refl, sym, ap, _∙_, subst}
+use mathlib.Core.Path.{_≡_, refl, sym, _∙_, subst}
 use mathlib.Core.Bool.{Bool, true, false, not, cond, true≢false}
 use Prim.Native.Nat.{ℕ, zero, suc, _*_, _^_}
 use lib.Dec.{T, lit≤}
@@ -7,16 +7,17 @@ use lib.IntN.{ℤ}
 use lib.Ieee.{Float, nan, inf, fin, binary64, up, down, fits, lt, le, neg, ofBits}
 use lib.Ieee.Fits.{div-fits}
 use lib.Ieee.Scale.{finite}
-use Rattle.exact.specs.F64.{f64, magnitude, _⊘_}
-use Rattle.exact.specs.Fraction.{Fraction, Within, over, whole, signed, exactly, opposite, _≼_, _≺_}
-use Rattle.exact.proofs.Fractions.{over-proper, ≼-trans, ≺→≼, opposite-opposite, over-≼, exactly-neg, within-sym, within-wider}
+use Rattle.exact.specs.F64.{magnitude, _⊘_}
+use Rattle.exact.specs.Fraction.{Fraction, over, signed, exactly, _≼_, _≺_}
+use Rattle.exact.proofs.Fractions.{over-proper, ≼-trans, ≺→≼, opposite-opposite, exactly-neg, within-sym, within-wider}
 use Rattle.exact.proofs.Tests.{below-zero, plus-not-below}
-use Rattle.arctan.specs.Series.{A, atMost, limit, tangentBound}
+use Rattle.arctan.specs.Arctangent.{tiny}
+use Rattle.arctan.specs.Series.{atMost, limit}
 use Rattle.arctan.specs.Tangent.{close, sine, cosine, steep, limitEnd, tangent}
 use Rattle.arctan.specs.Owed.{Leads, Answered, Tangent}
 use Rattle.arctan.specs.declared.Slope.{Slope}
-use Rattle.arctan.specs.declared.Slope.the-variants.{Is, TooSteep}
-use Rattle.arctan.proofs.Compared.{tiny, le-says, le-denies, below-tiny, from-tiny}
+use Rattle.arctan.specs.declared.Slope.the-variants.{Is}
+use Rattle.arctan.proofs.Compared.{le-says, le-denies, below-tiny, from-tiny}
 use Rattle.arctan.proofs.Pieces.{unit-proper}
 use Rattle.arctan.proofs.Cases.{at-most, not-at-most}
 use Rattle.arctan.proofs.Near.{near-zero, neg-finite, zero-tiny, not-below, plus-not-negative, plus-held, at-plus}

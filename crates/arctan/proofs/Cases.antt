@@ -1,14 +1,13 @@
 -- A(x) by its cases (`A-up` and `A-past` around 1; `A-low`, `A-mid`, `A-high`, `A-far`), and that what the series runs over lies between 0 and 1/2. Assumes nothing.
-use mathlib.Core.Path.{_≡_, refl, sym, ap, _∙_, subst}
+use mathlib.Core.Path.{_≡_, ap, _∙_}
 use mathlib.Core.Logic.{inl, inr}
 use mathlib.Core.Bool.{Bool, true, false, cond}
-use Prim.Native.Nat.{ℕ, _+_, _*_, _^_, _≤_, _<_}
 use native.Mathlib.Omega.{arith}
-use lib.Dec.{leb, le→leb, lit≤}
+use lib.Dec.{le→leb, lit≤}
 use lib.Arith.{lt→nleb}
 use lib.Ieee.Bits.{is-true, is-false}
 use Rattle.exact.specs.Fraction.{Fraction, Proper, cross, over, whole, opposite, _≼_, _≺_, _≈_, _⊞_, _⊟_, _⊠_, _⧄_}
-use Rattle.exact.proofs.Fractions.{over-proper, whole-proper, ⊞-proper, ⊟-proper, ⊠-proper, ⧄-proper, ≼-trans, ≺→≼, ≼-≺-trans, ≺-≼-trans, ⧄-≼, ≼-⧄, over-≼, ≼-or-≺, ≼-refl, ⊟-mono, ⊞-mono, ⊠-mono, ⊠-comm}
+use Rattle.exact.proofs.Fractions.{over-proper, whole-proper, ⊞-proper, ⊟-proper, ⊠-proper, ⧄-proper, ≼-trans, ⧄-≼, ≼-⧄, over-≼, ≼-or-≺, ≼-refl, ⊟-mono, ⊞-mono, ⊠-mono, ⊠-comm}
 use Rattle.arctan.proofs.Horner.{rest-low}
 use Rattle.arctan.proofs.Rise.{G-proper}
 use Rattle.arctan.specs.Series.{G, P, A, upToOne, atMost}

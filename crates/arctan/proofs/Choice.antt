@@ -1,15 +1,14 @@
 -- Which way a definition goes, by its tests: the tests of `close`, `halved`, `steep` and `tangent`. Assumes nothing.
-use mathlib.Core.Path.{_≡_, refl, sym, ap, _∙_}
+use mathlib.Core.Path.{_≡_, sym, ap, _∙_}
 use mathlib.Core.Bool.{Bool, true, false, cond}
 use Prim.Native.Nat.{ℕ, _+_}
 use lib.Ieee.{Float, nan, lt, le, neg}
 use lib.Ieee.Scale.{finite}
 use Rattle.exact.specs.F64.{f64, magnitude, _⊕_, _⊖_, _⊘_}
-use Rattle.arctan.specs.Arctangent.{arctangent}
+use Rattle.arctan.specs.Arctangent.{arctangent, tiny}
 use Rattle.arctan.specs.Tangent.{near, close, sine, cosine, grid, digits, halved, found, steep, limitEnd, tangent}
 use Rattle.arctan.specs.declared.Slope.{Slope}
 use Rattle.arctan.specs.declared.Slope.the-variants.{Is, TooSteep}
-use Rattle.arctan.proofs.Compared.{tiny}
 
 pub yes-way : {X : Type 0} {b : Bool} (x y : X) → b ≡ true → cond b x y ≡ x
 yes-way x y e = ap (λ (t : Bool). cond t x y) e

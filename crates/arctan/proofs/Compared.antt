@@ -14,7 +14,7 @@ use Rattle.exact.specs.F64.{f64}
 use Rattle.exact.specs.Fraction.{_≼_, _≺_, over, whole, exactly}
 use Rattle.exact.proofs.Fractions.{whole-proper, exactly-proper, over-≼, ≼-or-≺, ≼-≺-trans, ≺-≼-trans, lt-≺, le-≼}
 use Rattle.exact.proofs.Pattern.{exponent-lt}
-use Rattle.arctan.specs.Arctangent.{one}
+use Rattle.arctan.specs.Arctangent.{one, tiny, two-fifths, five-halves}
 use Rattle.arctan.proofs.Rounds.{plain, plain-finite, plain-exactly, above-plain, over-≺, units-of, at-least}
 
 -- ---- a test is one of the numbers
@@ -32,15 +32,6 @@ pub le-denies : (x c : Float) → T (finite x) → T (finite c) → T (not (le x
 le-denies x c p q t = elim (≼-or-≺ (exactly x) (exactly c)) [ inl h ↦ absurd (T-not (le x c) t (le-≼ x c p q .1 h)) | inr h ↦ h ]
 
 -- ---- the numbers that the code compares with: 0.4, 2.5 and 2 ^ -20
-
-abbrev pub two-fifths : Float
-two-fifths = f64 0x3fd9_9999_9999_999a
-
-abbrev pub five-halves : Float
-five-halves = f64 0x4004_0000_0000_0000
-
-abbrev pub tiny : Float
-tiny = f64 0x3eb0_0000_0000_0000
 
 -- ---- against 0.4: no f64 lies between 2/5 and it
 

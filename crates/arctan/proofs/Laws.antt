@@ -15,8 +15,7 @@ use Rattle.arctan.specs.Owed.{Answered, Tangent, falling}
 use Rattle.arctan.specs.Tangent.{steep, limitEnd, tangent}
 use Rattle.arctan.specs.declared.Slope.{Slope}
 use Rattle.arctan.specs.declared.Slope.the-variants.{Is, TooSteep}
-use Rattle.arctan.specs.Arctangent.{forward, arctangent}
-use Rattle.arctan.proofs.Compared.{tiny}
+use Rattle.arctan.specs.Arctangent.{forward, arctangent, tiny}
 use Rattle.arctan.proofs.Cases.{at-most, not-at-most}
 use Rattle.arctan.proofs.Near.{arctangent-near, zero-itself, minus-turned, plus-itself, minus-infinite, zero-tiny}
 use Rattle.arctan.proofs.Choice.{tangent-tiny, tangent-refused}

@@ -1,28 +1,27 @@
 -- The arctangent of the definition is near the series: piece by piece for an x that is not negative (`forward-near`), and so for every x (`arctangent-near`). Assumes nothing.
 use mathlib.Core.Path.{_≡_, refl, sym, ap, _∙_, subst}
-use mathlib.Core.Logic.{_⊎_, inl, inr}
 use mathlib.Core.Bool.{Bool, true, false, not, cond, true≢false, false≢true}
-use Prim.Native.Nat.{ℕ, zero, suc, _+_, _-_, _*_, _^_, _≤_, _<_}
+use Prim.Native.Nat.{ℕ, zero, suc, _+_, _-_, _*_, _^_, _≤_}
 use native.Mathlib.Nat.{zero-mul}
 use native.Mathlib.Omega.{arith}
-use lib.Dec.{T, ltb, eqb, lit≤, T-not, lt→ltb, eqb-refl}
-use lib.IntN.{ℤ, pos}
-use lib.Ieee.{Float, nan, inf, fin, binary64, up, down, level, fits, lt, le, eq, neg, add, sub, div, ofBits}
+use lib.Dec.{T, ltb, eqb, lit≤, lt→ltb, eqb-refl}
+use lib.IntN.{ℤ}
+use lib.Ieee.{Float, nan, inf, fin, binary64, up, down, level, fits, lt, le, eq, neg, ofBits}
 use lib.Ieee.Fits.{div-fits, neg-fits, down-pos, and-i}
 use lib.Ieee.Bits.{is-true}
 use Rattle.exact.proofs.Tests.{below-zero, plus-not-below, zero-not-below}
 use lib.Ieee.Scale.{finite}
-use Rattle.exact.specs.F64.{f64, _⊕_, _⊖_, _⊗_, _⊘_}
-use Rattle.exact.specs.Fraction.{Fraction, Proper, Within, over, whole, exactly, opposite, signed, _≼_, _≺_, _≈_, _⊞_, _⊟_, _⊠_, _⧄_}
-use Rattle.exact.proofs.Fractions.{over-proper, whole-proper, exactly-proper, ⊠-proper, ⊟-proper, ⊞-proper, ⧄-proper, ≼-trans, ≼-refl, ≺→≼, ≼-≺-trans, ≺-≼-trans, ≈-sym, ≈-trans, ≈-refl, ≈-≼, ≼-≈, ≡→≈, ⊞-zero, ⊞-cong, opposite-cong, ≼-or-≺, ⊠-mono, ⊠-comm, ⊠-not-negative, over-≼, lt-≺, le-≼, exactly-neg, within-sym, within-wider, within-same, within-opposite, within-refl}
+use Rattle.exact.specs.F64.{f64, _⊕_, _⊖_, _⊘_}
+use Rattle.exact.specs.Fraction.{Fraction, Proper, Within, over, whole, exactly, opposite, _≼_, _≈_, _⊞_, _⊟_, _⊠_, _⧄_}
+use Rattle.exact.proofs.Fractions.{over-proper, whole-proper, exactly-proper, ⊠-proper, ⊟-proper, ⊞-proper, ≼-trans, ≺→≼, ≈-sym, ≈-trans, ≈-refl, ≈-≼, ≼-≈, ≡→≈, ⊞-zero, ⊞-cong, opposite-cong, ⊠-mono, ⊠-comm, ⊠-not-negative, over-≼, le-≼, exactly-neg, within-sym, within-wider, within-opposite, within-refl}
 use Rattle.arctan.specs.Series.{G, P, A, Angle, Arctangent, arctangentBound}
-use Rattle.arctan.specs.Whole.{series, quarter, half}
-use Rattle.arctan.specs.Arctangent.{Countable, counted, angle, back, one, scale, forward, arctangent}
-use Rattle.arctan.proofs.Compared.{tiny, two-fifths, five-halves, below-tiny, below-fifths, from-fifths, up-to-one, past-one, below-halves, from-halves}
+use Rattle.arctan.specs.Whole.{quarter, half}
+use Rattle.arctan.specs.Arctangent.{angle, back, one, forward, arctangent, tiny, two-fifths, five-halves}
+use Rattle.arctan.proofs.Compared.{below-tiny, below-fifths, from-fifths, up-to-one, past-one, below-halves, from-halves}
 use Rattle.arctan.proofs.Reduced.{Piece, up-to-one-near, past-one-near, inverse-same, inverse-between, from-halves-near, infinite-near}
 use Rattle.arctan.proofs.Rise.{G-proper, G-zero, small}
 use Rattle.arctan.proofs.Pieces.{u, unit-proper, to, alone, from-quarter, past-quarter, from-half}
-use Rattle.arctan.proofs.Cases.{P-proper, A-low, A-mid, A-high, A-far, two-less-one, quotient-low, quotient-high, quotient-proper, inverse-low, inverse-one, inverse-proper, inverse-far, inverse-near}
+use Rattle.arctan.proofs.Cases.{P-proper, A-low, A-mid, A-high, A-far, two-less-one, quotient-proper, inverse-proper}
 
 -- a number within 1129 of 2 ^ -60 of a
 abbrev pub Good : Fraction → Float → Type 0
@@ -162,14 +161,14 @@ neg-finite (fin s m e) t = tt
 turned : {a : Fraction} {r : Float} → Angle false a r → Angle true a (neg r)
 turned {a} {r} g = record { number = neg-finite r (g .number); within = rw (exactly-neg r) (within-opposite (g .within)) }
 
-pub zero-tiny : (s : Bool) (e : ℤ) → lt (fin s 0 e) (f64 0x3eb0_0000_0000_0000) ≡ true
+pub zero-tiny : (s : Bool) (e : ℤ) → lt (fin s 0 e) tiny ≡ true
 unfolding lt ofBits
 zero-tiny true e = is-true (ltb 0 (0 * up e * 1048576 + 1 * down e)) (lt→ltb 0 (0 * up e * 1048576 + 1 * down e) (omega (arith, down-pos e)))
 zero-tiny false e = is-true (ltb (0 * up e * 1048576) (1 * down e)) (lt→ltb (0 * up e * 1048576) (1 * down e) (omega (arith, down-pos e)))
 
 zero-forward : (s : Bool) (e : ℤ) → forward (fin s 0 e) ≡ fin s 0 e
 unfolding forward
-zero-forward s e = ap (λ (t : Bool). cond t (fin s 0 e) (cond (lt (fin s 0 e) (f64 0x3fd9_9999_9999_999a)) (back (angle (fin s 0 e))) (cond (le (fin s 0 e) one) (back (quarter - angle ((one ⊖ fin s 0 e) ⊘ (one ⊕ fin s 0 e)))) (cond (lt (fin s 0 e) (f64 0x4004_0000_0000_0000)) (back (quarter + angle ((fin s 0 e ⊖ one) ⊘ (fin s 0 e ⊕ one)))) (back (half - angle (one ⊘ fin s 0 e))))))) (zero-tiny s e)
+zero-forward s e = ap (λ (t : Bool). cond t (fin s 0 e) (cond (lt (fin s 0 e) two-fifths) (back (angle (fin s 0 e))) (cond (le (fin s 0 e) one) (back (quarter - angle ((one ⊖ fin s 0 e) ⊘ (one ⊕ fin s 0 e)))) (cond (lt (fin s 0 e) five-halves) (back (quarter + angle ((fin s 0 e ⊖ one) ⊘ (fin s 0 e ⊕ one)))) (back (half - angle (one ⊘ fin s 0 e))))))) (zero-tiny s e)
 
 pub same-itself : (s : Bool) (m : ℕ) (e : ℤ) → eq (fin s m e) (fin s m e) ≡ true
 unfolding eq

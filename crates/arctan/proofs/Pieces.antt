@@ -1,19 +1,19 @@
 -- The whole-number series and the f64 around it, held to the exact series: an angle worked out from z is near G of what z stands for (`angle-near`),
 -- and so is the f64 made of it with a quarter or a half of pi (`alone`, `from-quarter`, `past-quarter`, `from-half`). Assumes nothing.
-use mathlib.Core.Path.{_≡_, refl, sym, ap, _∙_, subst}
-use Prim.Native.Nat.{ℕ, _+_, _-_, _*_, _^_, _≤_, _<_}
+use mathlib.Core.Path.{_≡_, ap}
+use Prim.Native.Nat.{ℕ, _+_, _-_, _*_, _^_, _≤_}
 use native.Mathlib.Nat.{mul-assoc, add-mul, zero-mul, zero-add, add-zero, le-trans}
 use native.Mathlib.Omega.{arith}
 use lib.Dec.{T, lit≤}
 use lib.Pow.{pow-pos}
 use lib.Ieee.{Float, binary64, fits}
 use lib.Ieee.Scale.{finite}
-use Rattle.exact.specs.Fraction.{Fraction, Proper, Within, over, whole, exactly, opposite, power, _≼_, _≈_, _⊞_, _⊟_, _⊠_, _⧄_}
-use Rattle.exact.proofs.Fractions.{over-proper, ≼-trans, ⊠-proper, ⊞-proper, ⊟-proper, exactly-proper, ≈→≼, ≈-sym, ≼-refl, over-≼, over-⊞, within-sym, within-wider, within-trans, within-same, within-⊞, within-opposite}
+use Rattle.exact.specs.Fraction.{Fraction, Proper, Within, over, exactly, opposite, power, _≼_, _≈_, _⊞_, _⊟_, _⊠_, _⧄_}
+use Rattle.exact.proofs.Fractions.{over-proper, ≼-trans, ⊠-proper, ⊞-proper, ⊟-proper, ≈→≼, ≈-sym, over-≼, over-⊞, within-sym, within-wider, within-trans, within-same, within-⊞, within-opposite}
 use Rattle.arctan.specs.Series.{G, P, sum, term}
 use Rattle.arctan.specs.Arctangent.{Countable, counted, angle, back}
-use Rattle.arctan.specs.Whole.{quarter, half, series}
-use Rattle.arctan.proofs.Horner.{H, H-proper}
+use Rattle.arctan.specs.Whole.{quarter, half}
+use Rattle.arctan.proofs.Horner.{H-proper}
 use Rattle.arctan.proofs.Rise.{nested}
 use Rattle.arctan.proofs.Rounds.{plain-finite}
 use Rattle.arctan.proofs.Counts.{counted-near, back-near}

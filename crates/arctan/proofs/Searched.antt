@@ -1,22 +1,22 @@
 -- What the search finds (`search-leads`): the n-th step is n / 2 ^ 47 (`step-is`). At the step it ends on the series lies at most at theta, and at the next one it no longer does;
 -- between the two it grows by little. Assumes nothing.
 use mathlib.Core.Path.{_≡_, refl, sym, ap, _∙_, subst}
-use mathlib.Core.Logic.{_⊎_, inl, inr}
-use mathlib.Core.Bool.{Bool, true, false, not, cond}
+use mathlib.Core.Logic.{inl, inr}
+use mathlib.Core.Bool.{Bool, true, false, not}
 use Prim.Native.Nat.{ℕ, zero, suc, _+_, _*_, _^_, _≤_, _<_}
-use native.Mathlib.Nat.{eq-or-lt-of-le, le-of-lt, lt-of-le-of-lt, lt-of-lt-of-le, mul-le-mul-right, mul-one, mul-pos, one-mul, zero-lt-suc, mul-assoc, add-assoc, pow-succ'}
+use native.Mathlib.Nat.{eq-or-lt-of-le, le-of-lt, lt-of-le-of-lt, lt-of-lt-of-le, mul-le-mul-right, mul-one, mul-pos, zero-lt-suc, mul-assoc, pow-succ'}
 use native.Mathlib.Omega.{arith}
 use lib.Dec.{T, lit≤}
-use lib.Pow.{pow-pos, pow-add}
+use lib.Pow.{pow-pos}
 use lib.IntN.{pos}
 use lib.Ieee.{Float, fin, binary64, round, mul, le, ofInt, ofBits, fits}
 use lib.Ieee.Exact.{HasValue, round-exact}
-use lib.Ieee.Fits.{round-fits, mul-fits}
+use lib.Ieee.Fits.{mul-fits}
 use lib.Ieee.Scale.{finite}
 use lib.Ieee.Positive.{num, den, den-pos, value→cross}
 use Rattle.exact.specs.F64.{f64, _⊗_}
-use Rattle.exact.specs.Fraction.{Fraction, Proper, Within, over, whole, exactly, opposite, power, _≼_, _≺_, _≈_, _⊞_, _⊟_, _⊠_, _⧄_}
-use Rattle.exact.proofs.Fractions.{value, over-proper, whole-proper, exactly-proper, ⊞-proper, ⊟-proper, ⊠-proper, ≼-refl, ≼-trans, ≺→≼, ≈→≼, ≈-sym, ≈-trans, ≈-≼, ≼-≈, ⊞-mono, ⊞-comm, ⊞-assoc, ⊞-zero, ⊞-cong, opposite-cong, ⊠-cong, ⊠-mono, ⊠-comm, move, over-≼, over-≈, over-⊠, le-≼, within-wider}
+use Rattle.exact.specs.Fraction.{Fraction, Proper, Within, over, whole, exactly, opposite, power, _≼_, _≈_, _⊞_, _⊟_, _⊠_, _⧄_}
+use Rattle.exact.proofs.Fractions.{value, over-proper, whole-proper, exactly-proper, ⊞-proper, ⊟-proper, ⊠-proper, ≼-refl, ≼-trans, ≺→≼, ≈-sym, ≈-≼, ≼-≈, ⊞-mono, ⊞-assoc, ⊞-zero, ⊞-cong, opposite-cong, ⊠-mono, ⊠-comm, move, over-≼, le-≼}
 use Rattle.exact.proofs.Pattern.{rescaled}
 use Rattle.arctan.specs.Series.{A, G, P, upToOne, sum, term, tangentBound, limit}
 use Rattle.arctan.specs.Owed.{Leads}

@@ -1,18 +1,17 @@
 -- A guess that passes its test lies within 2 ^ -44 of the angle (`guess-leads`): between theta - 2 ^ -46 and theta + 2 ^ -46, each rounded once, lies its arctangent. Assumes nothing.
-use mathlib.Core.Path.{_≡_, refl, sym, ap, _∙_, subst}
-use mathlib.Core.Bool.{Bool, true, false, cond, true≢false, false≢true}
-use Prim.Native.Nat.{ℕ, zero, suc, _+_, _*_, _^_, _≤_, _<_}
+use mathlib.Core.Path.{_≡_, refl, sym, subst}
+use mathlib.Core.Bool.{Bool, true, false, cond, false≢true}
+use Prim.Native.Nat.{zero, suc, _^_}
 use lib.Dec.{T, lit≤}
-use lib.IntN.{ℤ}
 use lib.Ieee.{Float, nan, inf, fin, binary64, fits, lt, le, eq, ofBits}
 use lib.Ieee.Scale.{finite}
 use Rattle.exact.specs.F64.{f64, _⊕_, _⊖_}
-use Rattle.exact.specs.Fraction.{Fraction, Proper, Within, over, whole, exactly, opposite, _≼_, _≺_, _⊞_, _⊟_}
-use Rattle.exact.proofs.Fractions.{over-proper, whole-proper, exactly-proper, ⊞-proper, ⊟-proper, ≼-trans, ≼-≺-trans, ≺-≼-trans, ≺→≼, ≺-not-≼, ≼-refl, ⊞-mono, ⊟-mono, ⊞-comm, ⊞-assoc, ⊞-left-comm, move, over-≼, lt-≺, le-≼, within-sym, within-trans, within-wider}
+use Rattle.exact.specs.Fraction.{Fraction, Proper, Within, over, exactly, opposite, _≼_, _≺_, _⊞_, _⊟_}
+use Rattle.exact.proofs.Fractions.{over-proper, exactly-proper, ⊞-proper, ⊟-proper, ≼-trans, ≼-≺-trans, ≺-≼-trans, ≺→≼, ≺-not-≼, ≼-refl, ⊞-mono, ⊟-mono, ⊞-assoc, ⊞-left-comm, move, lt-≺, le-≼, within-sym, within-trans, within-wider}
 use Rattle.exact.proofs.Tests.{below-zero, plus-not-below, zero-not-below}
 use Rattle.arctan.specs.Series.{A, tangentBound, limit}
 use Rattle.arctan.specs.Owed.{Leads}
-use Rattle.arctan.specs.Arctangent.{arctangent, forward}
+use Rattle.arctan.specs.Arctangent.{arctangent}
 use Rattle.arctan.specs.Tangent.{near, close}
 use Rattle.arctan.proofs.Rounds.{plain, plain-finite, plain-low, above-plain, over-≺, Rounds, sum-near, difference-near}
 use Rattle.arctan.proofs.Pieces.{u, unit-proper}

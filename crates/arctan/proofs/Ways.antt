@@ -1,18 +1,16 @@
 -- What `forward` needs on its way: which definition's case each test chooses (`is-tiny` .. `is-far`), and that the series is asked of a number from 0 to 1/2 (`ready-..`). Assumes nothing.
-use mathlib.Core.Path.{_≡_, refl, sym, ap, _∙_, subst}
+use mathlib.Core.Path.{_≡_, sym, ap, _∙_, subst}
 use mathlib.Core.Bool.{Bool, true, false, not, cond, false≢true}
-use Prim.Native.Nat.{ℕ, _+_, _-_}
+use Prim.Native.Nat.{_+_, _-_}
 use lib.Dec.{T}
-use lib.IntN.{pos}
-use lib.Ieee.{Float, nan, inf, fin, binary64, fits, lt, le, eq, ofBits, div}
+use lib.Ieee.{Float, nan, inf, fin, binary64, fits, lt, le, ofBits}
 use lib.Ieee.Scale.{finite}
 use Rattle.exact.specs.F64.{f64, _⊕_, _⊖_, _⊘_}
 use Rattle.exact.specs.Fraction.{exactly, whole, _≼_}
 use Rattle.exact.proofs.Fractions.{le-≼}
 use Rattle.arctan.specs.Whole.{quarter, half}
-use Rattle.arctan.specs.Arctangent.{Countable, angle, back, one, forward}
+use Rattle.arctan.specs.Arctangent.{Countable, angle, back, one, forward, tiny, two-fifths, five-halves}
 use Rattle.arctan.proofs.Near.{at-zero, finite-zero, itself, second, third, fourth}
-use Rattle.arctan.proofs.Compared.{tiny, two-fifths, five-halves}
 use Rattle.arctan.proofs.Reduced.{infinite-near}
 use Rattle.arctan.proofs.Pieces.{countable}
 

@@ -1,5 +1,5 @@
 -- The arctangent as the code works it out. It is shut to other crates: they know it by its laws (proofs/Laws.antt), above all that it lies near the series. Definitions only.
-use mathlib.Core.Bool.{Bool, true, false, cond}
+use mathlib.Core.Bool.{cond}
 use Prim.Native.Nat.{ℕ, _+_, _-_}
 use lib.Dec.{T}
 use lib.IntN.{pos}
@@ -18,6 +18,16 @@ scale = f64 0x43b0_0000_0000_0000
 
 abbrev pub unit : Float
 unit = f64 0x3c30_0000_0000_0000
+
+-- where the pieces end: 2 ^ -20, the first f64 from 2/5 on, and 5/2
+abbrev pub tiny : Float
+tiny = f64 0x3eb0_0000_0000_0000
+
+abbrev pub two-fifths : Float
+two-fifths = f64 0x3fd9_9999_9999_999a
+
+abbrev pub five-halves : Float
+five-halves = f64 0x4004_0000_0000_0000
 
 -- a number from 0 to 1/2, as the series takes it
 pub record Countable (z : Float) : Type 0 where
@@ -40,10 +50,10 @@ back n = ofInt binary64 (pos n) ⊗ unit
 unfoldable pub forward : Float → Float
 unfolding counted back series
 forward x =
-    cond (lt x (f64 0x3eb0_0000_0000_0000)) x
-    (cond (lt x (f64 0x3fd9_9999_9999_999a)) (back (angle x))
+    cond (lt x tiny) x
+    (cond (lt x two-fifths) (back (angle x))
     (cond (le x one) (back (quarter - angle ((one ⊖ x) ⊘ (one ⊕ x))))
-    (cond (lt x (f64 0x4004_0000_0000_0000)) (back (quarter + angle ((x ⊖ one) ⊘ (x ⊕ one))))
+    (cond (lt x five-halves) (back (quarter + angle ((x ⊖ one) ⊘ (x ⊕ one))))
     (back (half - angle (one ⊘ x))))))
 
 unfoldable pub arctangent : Float → Float

@@ -1,11 +1,11 @@
 -- The published series that arctangent and tangent are held to, as exact fractions. Nothing here knows how either is worked out. Definitions only.
 use mathlib.Core.Path.{_≡_}
-use mathlib.Core.Bool.{Bool, true, false, not, cond}
+use mathlib.Core.Bool.{Bool, false, not, cond}
 use Prim.Native.Nat.{ℕ, zero, suc, _+_, _*_, _^_}
 use lib.Dec.{T, leb}
 use lib.Ieee.{Float, nan, inf, fin, up, down}
 use lib.Ieee.Scale.{finite}
-use Rattle.exact.specs.Fraction.{Fraction, Within, cross, over, whole, opposite, signed, power, exactly, _⊞_, _⊟_, _⊠_, _⧄_}
+use Rattle.exact.specs.Fraction.{Fraction, Within, cross, over, whole, signed, power, exactly, _⊞_, _⊟_, _⊠_, _⧄_}
 
 -- ---- G(x): the first 24 terms of x - x^3/3 + x^5/5 - ..
 

@@ -1,11 +1,11 @@
 -- The tangent as the code works it out. It is shut to other crates: they know it by its laws (proofs/Laws.antt), above all that the series leads back from it. Definitions only.
-use mathlib.Core.Bool.{Bool, true, false, cond}
-use Prim.Native.Nat.{ℕ, zero, suc, _+_, _*_, _^_}
+use mathlib.Core.Bool.{Bool, false, cond}
+use Prim.Native.Nat.{ℕ, zero, suc, _+_, _^_}
 use lib.IntN.{pos}
 use lib.Ieee.{Float, nan, binary64, neg, lt, le, ofInt}
 use lib.Ieee.Scale.{finite}
 use Rattle.exact.specs.F64.{f64, magnitude, _⊕_, _⊖_, _⊗_, _⊘_}
-use Rattle.arctan.specs.Arctangent.{one, arctangent}
+use Rattle.arctan.specs.Arctangent.{one, tiny, arctangent}
 use Rattle.arctan.specs.declared.Slope.{Slope}
 use Rattle.arctan.specs.declared.Slope.the-variants.{Is, TooSteep}
 
@@ -60,6 +60,6 @@ limitEnd = f64 0x3ff8_0000_0000_0000
 unfoldable pub tangent : Float → Slope
 tangent theta =
     let size = magnitude theta in
-    cond (lt size (f64 0x3eb0_0000_0000_0000)) (Is theta)
+    cond (lt size tiny) (Is theta)
     (cond (le size limitEnd) (Is (cond (lt theta (f64 0)) (neg (steep size)) (steep size)))
     (cond (finite theta) TooSteep (Is nan)))

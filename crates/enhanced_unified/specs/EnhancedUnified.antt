@@ -1,7 +1,7 @@
 -- The four operations of enhanced_unified.rs by its local names: each product, sum, difference and quotient rounds once, in the Rust's order. Definitions only.
 use mathlib.Core.List.{[], _∷_}
-use lib.Ieee.{Float, neg}
-use Rattle.exact.specs.F64.{f64, _⊕_, _⊖_, _⊗_, _⊘_}
+use lib.Ieee.{Float}
+use Rattle.exact.specs.F64.{f64, minus, _⊕_, _⊖_, _⊗_, _⊘_}
 use Rattle.root.specs.Root.{root}
 use Rattle.lens.specs.Constants.{zeros, ones}
 use Rattle.lens.specs.Jacobian.{twoRows}
@@ -60,7 +60,7 @@ dnorm alpha beta rho x = alpha ⊗ (two ⊗ beta ⊗ x ⊘ (two ⊗ rho))
 
 -- of x / norm, where norm moves by dnorm and x stays
 abbrev pub turned : Float → Float → Float → Float
-turned x norm dnorm = neg x ⊗ dnorm ⊘ (norm ⊗ norm)
+turned x norm dnorm = minus x ⊗ dnorm ⊘ (norm ⊗ norm)
 
 abbrev pub dx-distort-x : EnhancedUnifiedParams → Point → Jacobian
 dx-distort-x params point =

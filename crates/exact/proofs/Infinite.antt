@@ -12,7 +12,7 @@ use lib.Ieee.Fits.{two, round-is}
 use lib.Ieee.Exact.{HasValue}
 use lib.Ieee.Order.{drop, kept, round-mono}
 use lib.Ieee.Scale.{grid, overflow, finite, round-val}
-use Rattle.exact.specs.Rounding.{Rounded, limit}
+use Rattle.exact.specs.Rounding.{limit}
 use Rattle.exact.proofs.Pattern.{exponent-lt}
 use Rattle.exact.proofs.Rounding.{rounded, past}
 

@@ -5,7 +5,7 @@ use mathlib.Core.Logic.{_⊎_, inl, inr}
 use Prim.Native.Nat.{ℕ, zero, suc, _+_, _-_, _*_, _/_, _%_, _^_, _≤_, _<_}
 use native.Mathlib.Nat.{le-antisymm, lt-of-lt-of-le, lt-of-le-of-lt, eq-or-lt-of-le, lt-irrefl, lt-of-not-le, div-one, mul-one, one-mul, add-assoc, suc-mul, mul-comm, mul-right-comm, mul-div-cancel, mul-le-mul-right, pow-succ', pow-suc, zero-mul, zero-add, le-refl, mul-assoc, eq-of-mul-eq-mul-right, mul-pos, le-trans, le-of-eq, add-mul, add-lt-add-of-le-of-lt, mul-lt-mul-of-pos-right, div-lt-iff-lt-mul, le-of-suc-le-suc}
 use native.Mathlib.Omega.{arith}
-use mathlib.Core.Bool.{Bool, true, false, cond, _&&_}
+use mathlib.Core.Bool.{Bool, false, cond, _&&_}
 use lib.IntN.{ℤ, pos, negsuc}
 use lib.Dec.{T, leb, ltb, eqb, eqb→eq, ltb→lt, leb→le, not-T}
 use lib.Pow.{pow-add, pow-pos, pow-mono, shl-lt, pow-lt}

@@ -1,20 +1,20 @@
 -- How far a rounding goes (`rounded`): at most half a unit in the last place, in either format, for subnormal results and up to the step to infinity. Assumes nothing.
-use mathlib.Core.Path.{_≡_, refl, sym, ap, _∙_, subst}
+use mathlib.Core.Path.{_≡_, sym, ap, _∙_, subst}
 use mathlib.Core.Logic.{_⊎_, inl, inr}
 use Prim.Native.Nat.{ℕ, zero, suc, _+_, _-_, _*_, _/_, _%_, _^_, _≤_, _<_, compare, Ordering, Ordering·lt, Ordering·eq, Ordering·gt}
-use native.Mathlib.Nat.{le-trans, le-of-eq, eq-zero-or-pos, mul-assoc, mul-comm, mul-right-comm, mul-le-mul-right, mul-pos, div-mul-le-self, div-add-mod', mod-lt, add-mul, suc-mul, add-zero, one-mul, zero-lt-suc}
+use native.Mathlib.Nat.{le-trans, eq-zero-or-pos, mul-assoc, mul-comm, mul-le-mul-right, mul-pos, div-mul-le-self, div-add-mod', mod-lt, add-mul, suc-mul, add-zero, one-mul, zero-lt-suc}
 use native.Mathlib.Omega.{arith}
-use mathlib.Core.Bool.{Bool, true, false, not, cond}
-use lib.Dec.{T, ltb, isLe, isEq, leb→le, nleb→lt, eqb→eq, not-T, T-not, ltb→lt}
+use mathlib.Core.Bool.{Bool, not}
+use lib.Dec.{T, ltb, isLe, isEq, leb→le, nleb→lt, eqb→eq}
 use lib.Arith.{le→nltb}
-use lib.Pow.{pow-add, pow-pos}
-use lib.Ieee.{Float, inf, Format, prec, emax, low, size, nearest, odd, units, round}
+use lib.Pow.{pow-pos}
+use lib.Ieee.{Float, inf, Format, prec, low, size, nearest, odd, units}
 use lib.Ieee.Digits.{size-reaches}
 use lib.Ieee.Fits.{round-is, two, two-le-pos}
 use lib.Ieee.Exact.{HasValue, units-val}
 use lib.Ieee.Nearest.{closest}
 use lib.Ieee.Order.{drop, kept}
-use lib.Ieee.Scale.{grid, overflow}
+use lib.Ieee.Scale.{overflow}
 use lib.Ieee.Bits.{cond-no}
 use Rattle.exact.specs.Rounding.{Rounded}
 

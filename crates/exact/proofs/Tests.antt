@@ -2,12 +2,12 @@
 use mathlib.Core.Path.{_≡_, refl, sym, ap, _∙_, subst}
 use mathlib.Core.Bool.{Bool, true, false, not, _&&_, _||_, Bool·beq, true≢false, false≢true}
 use Prim.Native.Nat.{ℕ, zero, suc, _+_, _*_, _%_, _≤_, _<_}
-use native.Mathlib.Nat.{zero-lt-suc, mul-pos, zero-mul, lt-irrefl, add-zero}
+use native.Mathlib.Nat.{zero-lt-suc, mul-pos, zero-mul, lt-irrefl}
 use native.Mathlib.Omega.{arith}
 use lib.IntN.{ℤ, pos}
-use lib.Dec.{T, ltb, eqb, ltb→lt, lt→ltb, eqb→eq, eqb·suc-zero}
-use lib.Ieee.{Float, nan, inf, fin, Format, binary64, up, down, level, lt, eq, ne, neg, ofBits, fits, isNan, nanBits}
-use lib.Ieee.Fits.{up-pos, down-pos, and-l}
+use lib.Dec.{T, ltb, ltb→lt, lt→ltb, eqb·suc-zero}
+use lib.Ieee.{Float, nan, inf, fin, binary64, up, down, level, lt, eq, ne, neg, ofBits, fits, isNan, nanBits}
+use lib.Ieee.Fits.{up-pos, down-pos}
 use lib.Ieee.Bits.{is-true, nanBits-is, nanBits-above}
 use lib.Ieee.Compare.{differs-from-itself}
 use lib.Arith.{le→nltb}

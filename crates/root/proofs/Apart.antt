@@ -1,14 +1,14 @@
 -- A number above zero, taken apart: a subnormal's leading digit is brought up to its place (`Up`), and (2 ^ 52 + tail) * 2 ^ (52 + power) of 2 ^ -2148 is the number (`low`, `mid`). Assumes nothing.
-use mathlib.Core.Path.{_≡_, refl, sym, ap, _∙_, subst}
-use mathlib.Core.Bool.{Bool, true, false}
-use Prim.Native.Nat.{ℕ, zero, suc, _+_, _-_, _*_, _/_, _%_, _^_, _≤_, _<_}
+use mathlib.Core.Path.{_≡_, sym, ap, _∙_, subst}
+use mathlib.Core.Bool.{Bool, false}
+use Prim.Native.Nat.{ℕ, suc, _+_, _-_, _*_, _/_, _%_, _^_, _≤_, _<_}
 use native.Mathlib.Nat.{mul-one, mul-assoc, mul-le-mul-right, lt-of-le-of-lt, lt-of-lt-of-le, lt-of-not-le, lt-irrefl}
 use native.Mathlib.Omega.{arith}
 use lib.Dec.{leb}
 use lib.Arith.{lt→nleb}
 use lib.Pow.{pow-add, pow-pos, pow-mono, shl-lt}
 use lib.Count.{leadingZeros, leading-top}
-use lib.Ieee.{Float, binary64, ofBits}
+use lib.Ieee.{binary64, ofBits}
 use lib.Ieee.Bits.{is-false}
 use lib.Ieee.Exact.{HasValue}
 use Rattle.exact.proofs.Pattern.{rescaled, low-value, mid-value}

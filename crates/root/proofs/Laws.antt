@@ -2,23 +2,23 @@
 use mathlib.Core.Path.{_≡_, refl, sym, ap, _∙_, subst}
 use mathlib.Core.Logic.{_⊎_, inl, inr}
 use mathlib.Core.Bool.{Bool, true, false, true≢false}
-use Prim.Native.Nat.{ℕ, zero, suc, _+_, _-_, _*_, _/_, _^_, _≤_, _<_, zero-le}
-use native.Mathlib.Nat.{le-trans, le-of-eq, lt-of-lt-of-le, lt-irrefl, not-le-of-lt, lt-of-not-le, eq-or-lt-of-le, mul-le-mul-right, mul-lt-mul-of-pos-right, mul-assoc, mul-comm, mul-right-comm, mul-pos, one-mul, eq-zero-or-pos, zero-mul, lt-of-mul-lt-mul-right, le-antisymm, le-of-suc-le-suc, lt-of-le-of-lt, le-refl, le-of-lt, mul-le-mul}
+use Prim.Native.Nat.{ℕ, suc, _+_, _-_, _*_, _/_, _^_, _≤_, _<_, zero-le}
+use native.Mathlib.Nat.{le-trans, le-of-eq, lt-of-lt-of-le, lt-irrefl, not-le-of-lt, lt-of-not-le, eq-or-lt-of-le, mul-le-mul-right, mul-lt-mul-of-pos-right, mul-assoc, mul-right-comm, mul-pos, one-mul, eq-zero-or-pos, zero-mul, lt-of-mul-lt-mul-right, le-antisymm, le-of-suc-le-suc, lt-of-le-of-lt, le-refl, le-of-lt, mul-le-mul}
 use native.Mathlib.Omega.{arith}
 use lib.Dec.{T, lit≤}
 use lib.IntN.{ℤ}
 use lib.Pow.{pow-add, pow-pos, pow-mono, pow-lt, shl-lt}
-use lib.Ieee.{Float, nan, inf, fin, binary64, up, down, size, round, ofBits, fits}
+use lib.Ieee.{Float, nan, inf, fin, binary64, down, size, round, ofBits, fits}
 use lib.Ieee.Digits.{size-le}
-use lib.Ieee.Fits.{down-pos, round-fits}
+use lib.Ieee.Fits.{round-fits}
 use lib.Ieee.Exact.{HasValue, round-exact}
 use Rattle.exact.specs.F64.{f64}
-use Rattle.exact.proofs.Pattern.{InUnits, in-units, in-range, same-units, rescaled, unique}
+use Rattle.exact.proofs.Pattern.{in-units, in-range, same-units, rescaled, unique}
 use Rattle.root.specs.Root.{largest, reaches, last, nearestRoot, root}
 use lib.Ieee.Bits.{ofBits-fits}
 use Rattle.root.proofs.Step.{binomial}
 use Rattle.root.proofs.Whole.{root-of}
-use Rattle.root.proofs.Middle.{Nearest, nearest, no-nearer, largest-up-to}
+use Rattle.root.proofs.Middle.{nearest, no-nearer, largest-up-to}
 use Rattle.exact.specs.Determined.{Determined}
 use Rattle.root.proofs.root.Reads as root-contract
 

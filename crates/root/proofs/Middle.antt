@@ -2,13 +2,13 @@
 -- next to the root the format's values are whole steps (`on-step`), and a smaller one than all of these is further off. Assumes nothing.
 use mathlib.Core.Path.{_≡_, refl, sym, ap, _∙_, subst}
 use mathlib.Core.Logic.{_⊎_, inl, inr}
-use mathlib.Core.Bool.{Bool, true, false, not, cond}
+use mathlib.Core.Bool.{Bool, true, false, cond}
 use Prim.Native.Nat.{ℕ, zero, suc, _+_, _-_, _*_, _/_, _^_, _≤_, _<_, zero-le}
-use native.Mathlib.Nat.{le-refl, le-trans, le-of-eq, le-of-lt, lt-of-lt-of-le, lt-of-le-of-lt, lt-of-not-le, not-le-of-lt, lt-irrefl, eq-or-lt-of-le, le-of-suc-le-suc, mul-assoc, mul-comm, mul-mul-mul-comm, mul-le-mul, mul-le-mul-right, lt-of-mul-lt-mul-right, add-mul, add-le-add, zero-mul}
+use native.Mathlib.Nat.{le-refl, le-trans, le-of-eq, le-of-lt, lt-of-lt-of-le, lt-of-le-of-lt, lt-of-not-le, not-le-of-lt, lt-irrefl, eq-or-lt-of-le, le-of-suc-le-suc, mul-assoc, mul-mul-mul-comm, mul-le-mul, mul-le-mul-right, lt-of-mul-lt-mul-right, add-mul, add-le-add, zero-mul}
 use native.Mathlib.Omega.{arith}
 use native.Mathlib.Decide.{decLe}
-use lib.Dec.{T, leb, leb→le, nleb→lt, le→leb, T-not, lit≤}
-use lib.Pow.{pow-add, pow-pos, pow-mono, shl-lt}
+use lib.Dec.{T, leb→le, le→leb, lit≤}
+use lib.Pow.{pow-add, pow-mono, shl-lt}
 use lib.Ieee.{size}
 use lib.Ieee.Digits.{size-lt, size-reaches}
 use Rattle.root.specs.Root.{largest, reaches, last}

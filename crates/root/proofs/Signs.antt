@@ -1,8 +1,8 @@
 -- Which f64s the tests of `root` part: above zero, below it, and neither. Assumes nothing.
 use mathlib.Core.Path.{_≡_, refl, sym, ap, _∙_}
 use mathlib.Core.Logic.{inl, inr}
-use mathlib.Core.Bool.{Bool, true, false, not, true≢false, false≢true}
-use Prim.Native.Nat.{ℕ, zero, suc, _≤_, _<_}
+use mathlib.Core.Bool.{true, false, not, true≢false, false≢true}
+use Prim.Native.Nat.{zero, suc, _≤_, _<_}
 use native.Mathlib.Nat.{eq-zero-or-pos, not-le-of-lt}
 use lib.Dec.{T}
 use lib.Ieee.{Float, nan, inf, fin, binary64, lt, ofBits, toBits, fits, isNan}

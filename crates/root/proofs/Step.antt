@@ -1,7 +1,7 @@
 -- Two digits of a root. Each costs what (q + e) * (q + e) has over q * q, so what is left and the square together stay the number (`pay`).
 -- After the first digit of the two the rest is below two steps of it (`Half`), and after the second below one (`Found`). Assumes nothing.
-use mathlib.Core.Path.{_≡_, refl, sym, ap, _∙_, subst}
-use mathlib.Core.Logic.{_⊎_, inl, inr}
+use mathlib.Core.Path.{_≡_, sym, ap, _∙_}
+use mathlib.Core.Logic.{inl, inr}
 use Prim.Native.Nat.{ℕ, _+_, _-_, _*_, _/_, _%_, _^_, _≤_, _<_}
 use native.Mathlib.Nat.{add-mul, mul-add, mul-comm, mul-assoc, mul-left-comm}
 use native.Mathlib.Omega.{arith}

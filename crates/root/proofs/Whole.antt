@@ -1,21 +1,20 @@
 -- From the digits to the f64: what `above_zero` puts together is the root of its number (`root-is`), and its pattern is a number's (`small-pattern`). Assumes nothing.
-use mathlib.Core.Path.{_≡_, refl, sym, ap, _∙_, subst}
+use mathlib.Core.Path.{_≡_, refl, sym, ap, _∙_}
 use mathlib.Core.Logic.{_⊎_, inl, inr}
-use mathlib.Core.Bool.{Bool, true, false, not, true≢false}
+use mathlib.Core.Bool.{true, false, true≢false}
 use Prim.Native.Nat.{ℕ, zero, suc, _+_, _-_, _*_, _/_, _%_, _^_, _≤_, _<_}
 use native.Mathlib.Nat.{le-trans, le-of-eq, le-of-lt, lt-of-lt-of-le, lt-of-not-le, not-le-of-lt, lt-irrefl, mul-assoc, mul-pos, mul-div-cancel, mul-le-mul, zero-add, zero-mul}
 use native.Mathlib.Omega.{arith}
-use lib.Dec.{T, lit<, lit≤}
-use lib.IntN.{ℤ}
+use lib.Dec.{T}
 use lib.Pow.{pow-add, pow-pos, pow-mono, shl-lt}
-use lib.Ieee.{Float, nan, inf, fin, binary64, up, down, round, ofBits, fits}
+use lib.Ieee.{Float, nan, inf, fin, binary64, up, down, round, ofBits}
 use lib.Ieee.Fits.{down-pos, round-fits}
 use lib.Ieee.Exact.{HasValue, round-exact}
 use Rattle.exact.proofs.Pattern.{packed}
 use Rattle.root.specs.declared.Partial.{Partial}
 use Rattle.root.specs.declared.Scaled.{Scaled}
 use Rattle.root.specs.Root.{largest, reaches, last, nearestRoot, root}
-use Rattle.root.specs.Digits.{number, Found, Finer, Split, Start, Nearer}
+use Rattle.root.specs.Digits.{Finer, Split, Start, Nearer}
 use Rattle.root.proofs.Nearest.{Passes, Fails, nearer-passes, nearest-steps, four-pow, last-place}
 
 -- ---- the root of a number above zero is that of its count

@@ -1,9 +1,8 @@
 -- `arctan::found` meets its contract. The loop's invariant: the width is a power of two, and what is left to find from here is what was to be found. The measure is the width. Assumes nothing.
-use mathlib.Core.Path.{_≡_, refl, sym, ap, _∙_, subst}
-use mathlib.Core.Logic.{_⊎_, inl, inr}
+use mathlib.Core.Path.{_≡_, refl, ap, _∙_, subst}
 use mathlib.Core.Bool.{Bool, true, false, cond}
 use Prim.Native.Nat.{ℕ, zero, suc, _+_, _*_, _/_, _^_, _≤_, _<_}
-use native.Mathlib.Nat.{pow-suc, mul-div-cancel, le-trans}
+use native.Mathlib.Nat.{pow-suc, mul-div-cancel}
 use native.Mathlib.Omega.{arith}
 use lib.Dec.{lit≤}
 use lib.Pow.{pow-pos}

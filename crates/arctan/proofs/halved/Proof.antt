@@ -1,6 +1,5 @@
 -- `arctan::halved` meets its contract. Assumes nothing.
 use mathlib.Core.Path.{_≡_, sym, ap, _∙_}
-use mathlib.Core.Bool.{Bool}
 use Prim.Native.Nat.{_+_}
 use borrow.Author.Needs.{needs}
 use lib.Ieee.{Float, le}

@@ -5,11 +5,11 @@ use lib.Dec.{T}
 use lib.Ieee.{Float, nan, binary64, fits, neg, lt, le, div, ofBits}
 use borrow.Author.Needs.{needs}
 use Rattle.exact.specs.F64.{f64, magnitude, _⊘_}
+use Rattle.arctan.specs.Arctangent.{tiny}
 use Rattle.arctan.specs.Owed.{Tangent}
 use Rattle.arctan.specs.Tangent.{steep, limitEnd, tangent}
 use Rattle.arctan.specs.declared.Slope.{Slope}
 use Rattle.arctan.specs.declared.Slope.the-variants.{Is, TooSteep}
-use Rattle.arctan.proofs.Compared.{tiny}
 use Rattle.arctan.proofs.Choice.{tangent-tiny, tangent-minus, tangent-plus, tangent-refused, tangent-none}
 use Rattle.arctan.proofs.Answers.{tangent-near}
 use Rattle.arctan.proofs.tangent.Statement.{statement}

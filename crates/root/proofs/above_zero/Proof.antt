@@ -1,11 +1,9 @@
 -- `root::above_zero` meets its contract: what its four callees promise, put together (proofs/Whole.antt). Assumes nothing.
-use mathlib.Core.Path.{_≡_, sym, ap, _∙_, subst}
-use mathlib.Core.Bool.{not}
-use Prim.Native.Nat.{ℕ, _+_, _-_, _*_, _/_, _%_, _^_, _≤_, _<_}
+use mathlib.Core.Path.{_≡_, ap, _∙_}
+use Prim.Native.Nat.{ℕ, _+_, _*_, _/_, _%_, _^_, _<_}
 use native.Mathlib.Omega.{arith}
 use borrow.Author.Needs.{needs}
-use lib.Dec.{T}
-use lib.Ieee.{binary64, ofBits, nanBits}
+use lib.Ieee.{binary64, ofBits}
 use Rattle.exact.proofs.Tests.{number-pattern}
 use Rattle.root.proofs.Whole.{Result, result, root-is}
 use Rattle.root.proofs.above_zero.Statement.{statement}

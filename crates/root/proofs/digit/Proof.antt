@@ -1,7 +1,6 @@
 -- `root::digit` meets its contract: its two answers are the two cases. Assumes nothing.
 use mathlib.Core.Path.{refl}
 use mathlib.Core.Logic.{inl, inr}
-use borrow.Author.Needs.{needs}
 use Rattle.root.proofs.digit.Statement.{statement}
 use Rattle.root.proofs.digit.Tie as tie
 

@@ -1,10 +1,8 @@
 -- `root::pair` meets its contract: one law for each of its two digits (proofs/Step.antt). Assumes nothing.
-use mathlib.Core.Path.{_≡_, sym, subst}
-use Prim.Native.Nat.{ℕ, _+_, _*_}
 use native.Mathlib.Omega.{arith}
 use borrow.Author.Needs.{needs}
-use Rattle.root.specs.Digits.{Digit, number, Found, Finer}
-use Rattle.root.proofs.Step.{Half, widened, first, second}
+use Rattle.root.specs.Digits.{number}
+use Rattle.root.proofs.Step.{Half, first, second}
 use Rattle.root.proofs.pair.Statement.{statement}
 use Rattle.root.proofs.pair.Tie as tie
 

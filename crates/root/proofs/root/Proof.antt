@@ -1,5 +1,5 @@
 -- `root::root` meets its contract: one lemma of proofs/Signs.antt for each way through its tests. Assumes nothing.
-use mathlib.Core.Path.{_≡_, sym, ap, _∙_, subst}
+use mathlib.Core.Path.{sym, ap, _∙_, subst}
 use lib.Dec.{T}
 use lib.Ieee.{binary64, fits, ofBits, div}
 use lib.Ieee.Bits.{ofBits-toBits}
