@@ -25,7 +25,7 @@ settled params pixel = (refl, refl)
 -- ---- the numbers to check by hand
 
 -- 600 600 1 0.5
-abbrev camera : AffineParams
+abbrev pub camera : AffineParams
 camera = record {
   fx = f64 0x4082_c000_0000_0000;
   fy = f64 0x4082_c000_0000_0000;
@@ -34,11 +34,11 @@ camera = record {
 }
 
 -- (0.5, -0.25)
-abbrev point : Point
+abbrev pub point : Point
 point = record { 0 = f64 0x3fe0_0000_0000_0000; 1 = f64 0xbfd0_0000_0000_0000 }
 
 -- (301, -149.5)
-abbrev pixel : Pixel
+abbrev pub pixel : Pixel
 pixel = record { 0 = f64 0x4072_d000_0000_0000; 1 = f64 0xc062_b000_0000_0000 }
 
 -- The camera 600 600 1 0.5 sends (0.5, -0.25) to (301, -149.5), and back with 0 updates and the flag yes.

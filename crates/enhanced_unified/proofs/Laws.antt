@@ -36,7 +36,7 @@ settled params pixel = (refl, refl)
 -- ---- the numbers to check by hand
 
 -- 1 1 0 0 0.5 1
-abbrev camera : EnhancedUnifiedParams
+abbrev pub camera : EnhancedUnifiedParams
 camera = record {
   fx = ones;
   fy = ones;
@@ -47,13 +47,13 @@ camera = record {
 }
 
 -- (2, 2), (1, 1) and (2, 0)
-abbrev point : Point
+abbrev pub point : Point
 point = record { 0 = two; 1 = two }
 
-abbrev pixel : Pixel
+abbrev pub pixel : Pixel
 pixel = record { 0 = ones; 1 = ones }
 
-abbrev sideways : Pixel
+abbrev pub sideways : Pixel
 sideways = record { 0 = two; 1 = zeros }
 
 -- the two roots that they take

@@ -25,6 +25,7 @@ use Rattle.lens.proofs.direct.Reads as direct-contract
 use Rattle.lens.proofs.two_rows.Reads as two-rows-contract
 use Rattle.lens.proofs.two_columns.Reads as two-columns-contract
 use Rattle.lens.proofs.squared_radius.Reads as squared-radius-contract
+use Rattle.lens.proofs.all_finite.Reads as all-finite-contract
 
 -- ---- refusals
 
@@ -114,7 +115,7 @@ module _ (top bottom : List Float) where
 
 -- ---- each contract permits one answer
 
--- Any two answers to one call that the contract of `eps` permits are equal; and so for the five other functions.
+-- Any two answers to one call that the contract of `eps` permits are equal; and so for the six other functions.
 pub eps-determined : Determined eps-contract.Post
 eps-determined κ a s s' r r' p q = p ∙ sym q
 
@@ -132,3 +133,6 @@ two-columns-determined κ a s s' r r' p q = p ∙ sym q
 
 pub squared-radius-determined : Determined squared-radius-contract.Post
 squared-radius-determined κ a s s' r r' p q = p ∙ sym q
+
+pub all-finite-determined : Determined all-finite-contract.Post
+all-finite-determined κ a s s' r r' p q = p ∙ sym q

@@ -3,3 +3,5 @@ pub mod Jacobian
 pub mod Refusal
 pub mod Undistorted
 pub mod Radius
+pub mod Passes
+pub mod Finite

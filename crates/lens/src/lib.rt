@@ -7,6 +7,7 @@ ghost use Rattle.lens.specs.Jacobian.{twoRows};
 ghost use Rattle.lens.specs.Refusal.{number};
 ghost use Rattle.lens.specs.Radius.{squared-radius};
 ghost use Rattle.lens.specs.Undistorted.{direct};
+ghost use Rattle.lens.specs.Finite.{all-finite};
 
 // The Rust's EPS_F64. Its value stands in no text that we have: 1e-6 until it is read at the commit, which decides.
 pub const EPS: f64 = 1e-6;
@@ -151,4 +152,18 @@ pub fn squared_radius(x: f64, y: f64) -> f64
     ensures { λ r. ⌜ r ≡ squared-radius x y ⌝ }
 {
     x * x + y * y
+}
+
+// Whether every number of a list is finite: what 4 and 11 ask of parameters, points and answers.
+pub fn all_finite(numbers: &[f64]) -> bool
+    ensures { λ r. ⌜ r ≡ all-finite (now (numbers .entry)) ⌝ }
+{
+    let mut i = 0;
+    while i < numbers.len() {
+        if !exact::is_finite(numbers[i]) {
+            return false;
+        }
+        i += 1;
+    }
+    true
 }

@@ -1,0 +1,89 @@
+-- What a caller may rely on, of the definitions of specs/ and of the contracts of src/. Assumes nothing.
+use mathlib.Core.Path.{_≡_, refl, sym, _∙_}
+use mathlib.Core.Bool.{Bool, true, false, cond}
+use Prim.Native.Nat.{ℕ, suc, _≤_}
+use native.Mathlib.Omega.{arith}
+use lib.Ieee.{Float, add, sub, mul, div, le, ofBits}
+use Rattle.exact.specs.F64.{f64}
+use Rattle.exact.specs.Determined.{Determined}
+use Rattle.root.specs.Root.{root}
+use Rattle.lens.specs.Constants.{zeros, ones}
+use Rattle.lens.specs.Passes.{passes}
+use Rattle.lens.specs.Undistorted.{direct}
+use Rattle.lens.specs.declared.Pixel.{Pixel}
+use Rattle.lens.specs.declared.Point.{Point}
+use Rattle.lens.proofs.Passes.{passes-most}
+use Rattle.affine.specs.Affine as affine
+use Rattle.brown_conrady.specs.BrownConrady.{three, affine-params, distortion, distort, shared-at, slopes-at, small, step, pass, limit, start, ended, undistort}
+use Rattle.brown_conrady.specs.declared.BrownConradyParams.{BrownConradyParams}
+use Rattle.brown_conrady.specs.declared.Search.{Search}
+use Rattle.brown_conrady.proofs.distort.Reads as distort-contract
+use Rattle.brown_conrady.proofs.undistort.Reads as undistort-contract
+use Rattle.brown_conrady.proofs.dx_distort_x.Reads as dx-distort-x-contract
+
+-- Any two answers to one call that the contract of an operation permits are equal, for each of the three.
+pub determined : Determined distort-contract.Post × Determined undistort-contract.Post × Determined dx-distort-x-contract.Post
+determined = (λ κ a s s' r r' p q. p ∙ sym q, λ κ a s s' r r' p q. p ∙ sym q, λ κ a s s' r r' p q. p ∙ sym q)
+
+-- ---- how many updates
+
+abbrev updates : Search → ℕ
+updates at = at .updates
+
+-- a pass makes at most one
+one : (params : BrownConradyParams) (distorted : Point) (at : Search) → updates (pass params distorted at) ≤ suc (updates at)
+unfolding pass
+one params distorted at = go (small (step params distorted (at .xy))) _ _ (omega arith) (omega arith)
+  where
+    go : (b : Bool) (s t : Search) → updates s ≤ suc (updates at) → updates t ≤ suc (updates at) → updates (cond b s t) ≤ suc (updates at)
+    go true s t p q = p
+    go false s t p q = q
+
+-- Every undistort takes at most 50 updates.
+pub updates-limit : (params : BrownConradyParams) (pixel : Pixel) → undistort params pixel .updates ≤ 50
+updates-limit params pixel =
+    let distorted = affine.undistort (affine-params params) pixel .point in
+    passes-most (pass params distorted) ended updates (one params distorted) limit (start distorted)
+
+-- ---- the numbers to check by hand
+
+-- 1 1 0 0, with these p1 and p2 and the rest 0
+abbrev pub camera : Float → Float → BrownConradyParams
+camera p1 p2 = record {
+  fx = ones;
+  fy = ones;
+  cx = zeros;
+  cy = zeros;
+  k1 = zeros;
+  k2 = zeros;
+  p1 = p1;
+  p2 = p2;
+  k3 = zeros;
+  k4 = zeros;
+  k5 = zeros;
+  k6 = zeros;
+}
+
+abbrev pub plain : BrownConradyParams
+plain = camera zeros zeros
+
+abbrev pub four : Float
+four = f64 0x4010_0000_0000_0000
+
+abbrev pub five : Float
+five = f64 0x4014_0000_0000_0000
+
+-- (1, 1), and (3, 4) as a point and as a pixel
+abbrev pub corner : Point
+corner = record { 0 = ones; 1 = ones }
+
+abbrev pub point : Point
+point = record { 0 = three; 1 = four }
+
+abbrev pub pixel : Pixel
+pixel = record { 0 = three; 1 = four }
+
+-- The camera 1 1 0 0 sends (1, 1) to (3, 5) with p1 = 1 and the rest 0, and to (5, 3) with p2 = 1 instead. With all coefficients 0 it sends the pixel (3, 4) back to (3, 4), with 0 updates and the flag yes.
+pub by-hand : (distort (camera ones zeros) corner ≡ record { 0 = three; 1 = five }) × (distort (camera zeros ones) corner ≡ record { 0 = five; 1 = three }) × (undistort plain pixel ≡ direct point)
+unfolding passes pass step slopes-at shared-at distortion root le add sub mul div ofBits
+by-hand = (refl, refl, refl)

@@ -1,0 +1,23 @@
+-- `brown_conrady::step` meets its contract: each call gives its definition's number. Assumes nothing.
+use mathlib.Core.Path.{refl}
+use borrow.Author.Needs.{needs}
+use Rattle.brown_conrady.specs.BrownConrady.{step}
+use Rattle.brown_conrady.proofs.step.Statement.{statement}
+use Rattle.brown_conrady.proofs.step.Tie as tie
+
+f-xy-requires : tie.Need-f-xy-requires
+f-xy-requires c κs = search needs
+
+slopes-at-requires : tie.Need-slopes-at-requires
+slopes-at-requires c κs = search needs
+
+solve-requires : tie.Need-solve-requires
+solve-requires c κs = search needs
+
+returns : tie.Need-returns
+unfolding step
+returns c =
+    rw (c .solve .ensures, c .before .before .before .before .before .slopes-at .ensures, c .before .before .before .before .before .before .f-xy .ensures) refl
+
+pub step-spec : {M : Type 1} → statement M
+step-spec = tie.close (tie.spec f-xy-requires slopes-at-requires solve-requires returns)

@@ -1,0 +1,163 @@
+-- The operations of brown_conrady.rs by its local names: each product, sum, difference and quotient rounds once, in the Rust's order. Definitions only.
+use mathlib.Core.Bool.{Bool, true, false, cond}
+use mathlib.Core.List.{[], _∷_}
+use Prim.Native.Nat.{ℕ, _+_}
+use lib.Ieee.{Float, le}
+use Rattle.exact.specs.F64.{f64, minus, _⊕_, _⊖_, _⊗_, _⊘_}
+use Rattle.root.specs.Root.{root}
+use Rattle.lens.specs.Constants.{ones, eps}
+use Rattle.lens.specs.Jacobian.{twoRows}
+use Rattle.lens.specs.Passes.{passes}
+use Rattle.lens.specs.Radius.{squared-radius}
+use Rattle.lens.specs.declared.Jacobian.{Jacobian}
+use Rattle.lens.specs.declared.Pixel.{Pixel}
+use Rattle.lens.specs.declared.Point.{Point}
+use Rattle.lens.specs.declared.Settled.{Settled}
+use Rattle.affine.specs.Affine as affine
+use Rattle.affine.specs.declared.AffineParams.{AffineParams}
+use Rattle.brown_conrady.specs.declared.BrownConradyParams.{BrownConradyParams}
+use Rattle.brown_conrady.specs.declared.Search.{Search}
+use Rattle.brown_conrady.specs.declared.Offset.{Offset}
+use Rattle.brown_conrady.specs.declared.Shared.{Shared}
+use Rattle.brown_conrady.specs.declared.Slopes.{Slopes}
+
+-- 2, 3 and 6
+abbrev pub two : Float
+two = f64 0x4000_0000_0000_0000
+
+abbrev pub three : Float
+three = f64 0x4008_0000_0000_0000
+
+abbrev pub six : Float
+six = f64 0x4018_0000_0000_0000
+
+-- ---- distort
+
+-- the first four parameters
+abbrev pub affine-params : BrownConradyParams → AffineParams
+affine-params params = record { fx = params .fx; fy = params .fy; cx = params .cx; cy = params .cy }
+
+-- the Rust's distortion_impl; its d0 d1 d2 k3 d4 d5 d6 d7 are k1 k2 p1 p2 k3 k4 k5 k6
+unfoldable pub distortion : BrownConradyParams → Point → Point
+distortion params point =
+    let x = point .0 in
+    let y = point .1 in
+    let r2 = squared-radius x y in
+    let r4 = r2 ⊗ r2 in
+    let r6 = r4 ⊗ r2 in
+    let a1 = two ⊗ x ⊗ y in
+    let a2 = r2 ⊕ two ⊗ x ⊗ x in
+    let a3 = r2 ⊕ two ⊗ y ⊗ y in
+    let cdist = ones ⊕ params .k1 ⊗ r2 ⊕ params .k2 ⊗ r4 ⊕ params .k3 ⊗ r6 in
+    let icdist2 = ones ⊘ (ones ⊕ params .k4 ⊗ r2 ⊕ params .k5 ⊗ r4 ⊕ params .k6 ⊗ r6) in
+    let xd0 = x ⊗ cdist ⊗ icdist2 ⊕ params .p1 ⊗ a1 ⊕ params .p2 ⊗ a2 in
+    let yd0 = y ⊗ cdist ⊗ icdist2 ⊕ params .p1 ⊗ a3 ⊕ params .p2 ⊗ a1 in
+    record { 0 = xd0; 1 = yd0 }
+
+abbrev pub distort : BrownConradyParams → Point → Pixel
+distort params point = affine.distort (affine-params params) (distortion params point)
+
+-- ---- the slopes, by the names of the Rust's Newton. Its dx_distort_x has the same lines by other names, with sides swapped here and there, which changes no bit (docs/RULES.md, 2.3 and 10.4).
+
+-- c5 c6 c15 c16 c17 c20 are there c7 c8 c14 c15 c16 c21
+unfoldable pub shared-at : BrownConradyParams → Point → Shared
+shared-at params point =
+    let c2 = squared-radius (point .0) (point .1) in
+    let c3 = c2 ⊗ c2 in
+    let c4 = c3 ⊗ c2 in
+    let c5 = c2 ⊗ params .k4 ⊕ c3 ⊗ params .k5 ⊕ c4 ⊗ params .k6 ⊕ ones in
+    let c10 = two ⊗ c2 in
+    let c11 = three ⊗ c3 in
+    let c17 = c2 ⊗ params .k1 ⊕ c3 ⊗ params .k2 ⊕ c4 ⊗ params .k3 ⊕ ones in
+    let c15 = two ⊗ (c10 ⊗ params .k5 ⊕ c11 ⊗ params .k6 ⊕ params .k4) ⊗ c17 in
+    let c16 = two ⊗ c10 ⊗ params .k2 ⊕ two ⊗ c11 ⊗ params .k3 ⊕ two ⊗ params .k1 in
+    let c19 = point .0 ⊗ point .1 in
+    let c20 = minus c15 ⊗ c19 ⊕ c16 ⊗ c19 ⊗ c5 in
+    record { c5 = c5; c6 = c5 ⊗ c5; c15 = c15; c16 = c16; c17 = c17; c20 = c20 }
+
+-- du_dx, du_dy, dv_dx and dv_dy, each before c7 (there c17) multiplies it
+unfoldable pub slopes-at : BrownConradyParams → Point → Slopes
+slopes-at params point =
+    let a = point .0 in
+    let b = point .1 in
+    let s = shared-at params point in
+    let c0 = a ⊗ a in
+    let c1 = b ⊗ b in
+    let c8 = a ⊗ params .p2 in
+    let c9 = two ⊗ params .p1 in
+    let c18 = b ⊗ params .p2 in
+    record {
+      c7 = ones ⊘ s .c6;
+      ux = minus c0 ⊗ s .c15 ⊕ s .c5 ⊗ (c0 ⊗ s .c16 ⊕ s .c17) ⊕ s .c6 ⊗ (b ⊗ c9 ⊕ six ⊗ c8);
+      uy = s .c20 ⊕ s .c6 ⊗ (a ⊗ c9 ⊕ two ⊗ c18);
+      vx = s .c20 ⊕ s .c6 ⊗ (two ⊗ a ⊗ params .p1 ⊕ two ⊗ c18);
+      vy = minus c1 ⊗ s .c15 ⊕ s .c5 ⊗ (c1 ⊗ s .c16 ⊕ s .c17) ⊕ s .c6 ⊗ (six ⊗ b ⊗ params .p1 ⊕ two ⊗ c8);
+    }
+
+abbrev pub dx-distort-x : BrownConradyParams → Point → Jacobian
+dx-distort-x params point =
+    let s = slopes-at params point in
+    let c18 = s .c7 ⊗ params .fx in
+    let c22 = s .c7 ⊗ params .fy in
+    twoRows
+    (c18 ⊗ s .ux ∷ c18 ⊗ s .uy ∷ [])
+    (c22 ⊗ s .vx ∷ c22 ⊗ s .vy ∷ [])
+
+-- ---- undistort
+
+-- what the lens makes of xy, less the distorted point
+abbrev pub f-xy : BrownConradyParams → Point → Point → Offset
+f-xy params distorted xy = record {
+  0 = distortion params xy .0 ⊖ distorted .0;
+  1 = distortion params xy .1 ⊖ distorted .1;
+}
+
+-- the norm is at most EPS
+abbrev pub small : Offset → Bool
+small offset = le (root (squared-radius (offset .0) (offset .1))) eps
+
+-- the inverse of the matrix a b above c d, which is d -b above -c a with each entry scaled by z; then its rows times f
+abbrev pub solve : Float → Float → Float → Float → Offset → Offset
+solve a b c d f =
+    let z = ones ⊘ (a ⊗ d ⊖ b ⊗ c) in
+    record {
+      0 = d ⊗ z ⊗ f .0 ⊕ minus b ⊗ z ⊗ f .1;
+      1 = minus c ⊗ z ⊗ f .0 ⊕ a ⊗ z ⊗ f .1;
+    }
+
+unfoldable pub step : BrownConradyParams → Point → Point → Offset
+step params distorted xy =
+    let s = slopes-at params xy in
+    solve (s .c7 ⊗ s .ux) (s .c7 ⊗ s .uy) (s .c7 ⊗ s .vx) (s .c7 ⊗ s .vy) (f-xy params distorted xy)
+
+-- one pass: a small step ends Newton and is not taken
+unfoldable pub pass : BrownConradyParams → Point → Search → Search
+pass params distorted at =
+    let xy = at .xy in
+    let step = step params distorted xy in
+    cond (small step)
+    (record { xy = xy; updates = at .updates; ended = true })
+    (record { xy = record { 0 = xy .0 ⊖ step .0; 1 = xy .1 ⊖ step .1 }; updates = at .updates + 1; ended = false })
+
+-- how many updates there may be
+abbrev pub limit : ℕ
+limit = 50
+
+abbrev pub start : Point → Search
+start distorted = record { xy = distorted; updates = 0; ended = false }
+
+abbrev pub ended : Search → Bool
+ended at = at .ended
+
+abbrev pub newton : BrownConradyParams → Point → Search
+newton params distorted = passes (pass params distorted) ended limit (start distorted)
+
+-- whether the lens sends xy to the distorted point, but for EPS: if so, the Rust does not warn
+abbrev pub flag : BrownConradyParams → Point → Point → Bool
+flag params distorted xy = small (f-xy params distorted xy)
+
+abbrev pub undistort : BrownConradyParams → Pixel → Settled
+undistort params pixel =
+    let distorted = affine.undistort (affine-params params) pixel .point in
+    let at = newton params distorted in
+    record { point = at .xy; updates = at .updates; flag = flag params distorted (at .xy) }

@@ -1,0 +1,239 @@
+// brown_conrady.rs: OpenCV's radial and tangential distortion. Its operations, in the Rust's order and by its names; none refuses. What the Rust leaves undone, dx_distort_params, is
+// not here: the camera refuses it.
+ghost use mathlib.Core.Path.{_≡_};
+ghost use Prim.Native.Nat.{_<_};
+ghost use Rattle.brown_conrady.specs.BrownConrady.{affine-params, distortion, distort, shared-at, slopes-at, dx-distort-x, f-xy, small, solve, step, limit, pass, newton, undistort};
+use affine::AffineParams;
+use lens::Jacobian;
+use lens::Pixel;
+use lens::Point;
+use lens::Settled;
+
+// The twelve parameters, in the Rust's order, which has k3 after p2. The Rust calls the last eight d0 d1 d2 k3 d4 d5 d6 d7, and in dx_distort_x d3 for its k3: mind that its k3 is p2.
+pub struct BrownConradyParams {
+    pub fx: f64,
+    pub fy: f64,
+    pub cx: f64,
+    pub cy: f64,
+    pub k1: f64,
+    pub k2: f64,
+    pub p1: f64,
+    pub p2: f64,
+    pub k3: f64,
+    pub k4: f64,
+    pub k5: f64,
+    pub k6: f64,
+}
+
+// The first four, which are affine's.
+fn affine_params(params: BrownConradyParams) -> AffineParams
+    ensures { λ r. ⌜ r ≡ affine-params params ⌝ }
+{
+    AffineParams {
+        fx: params.fx,
+        fy: params.fy,
+        cx: params.cx,
+        cy: params.cy,
+    }
+}
+
+// Where the lens sends a point, on the z=1 plane too: the Rust's distortion_impl.
+fn distortion(params: BrownConradyParams, point: Point) -> Point
+    ensures { λ r. ⌜ r ≡ distortion params point ⌝ }
+{
+    let x = point.0;
+    let y = point.1;
+    let r2 = lens::squared_radius(x, y);
+    let r4 = r2 * r2;
+    let r6 = r4 * r2;
+    let a1 = 2.0 * x * y;
+    let a2 = r2 + 2.0 * x * x;
+    let a3 = r2 + 2.0 * y * y;
+    let cdist = 1.0 + params.k1 * r2 + params.k2 * r4 + params.k3 * r6;
+    let icdist2 = 1.0 / (1.0 + params.k4 * r2 + params.k5 * r4 + params.k6 * r6);
+    let xd0 = x * cdist * icdist2 + params.p1 * a1 + params.p2 * a2;
+    let yd0 = y * cdist * icdist2 + params.p1 * a3 + params.p2 * a1;
+    Point(xd0, yd0)
+}
+
+// The pixel of a point.
+pub fn distort(params: BrownConradyParams, point: Point) -> Pixel
+    ensures { λ r. ⌜ r ≡ distort params point ⌝ }
+{
+    affine::distort(affine_params(params), distortion(params, point))
+}
+
+// What the four slopes share, by the names of the Rust's Newton. In its dx_distort_x they are c7, c8, c14, c15, c16 and c21.
+struct Shared {
+    c5: f64,
+    c6: f64,
+    c15: f64,
+    c16: f64,
+    c17: f64,
+    c20: f64,
+}
+
+// What the slopes share at a point. The Rust has these lines and those of slopes_at twice; the copies differ in the sides of a sum or a product, in a factor 1 and in which factor has
+// the minus, and none of that changes a bit (docs/RULES.md, 2.3).
+fn shared_at(params: BrownConradyParams, point: Point) -> Shared
+    ensures { λ r. ⌜ r ≡ shared-at params point ⌝ }
+{
+    let c2 = lens::squared_radius(point.0, point.1);
+    let c3 = c2 * c2;
+    let c4 = c3 * c2;
+    let c5 = c2 * params.k4 + c3 * params.k5 + c4 * params.k6 + 1.0;
+    let c10 = 2.0 * c2;
+    let c11 = 3.0 * c3;
+    let c17 = c2 * params.k1 + c3 * params.k2 + c4 * params.k3 + 1.0;
+    let c15 = 2.0 * (c10 * params.k5 + c11 * params.k6 + params.k4) * c17;
+    let c16 = 2.0 * c10 * params.k2 + 2.0 * c11 * params.k3 + 2.0 * params.k1;
+    let c19 = point.0 * point.1;
+    let c20 = -c15 * c19 + c16 * c19 * c5;
+    Shared {
+        c5,
+        c6: c5 * c5,
+        c15,
+        c16,
+        c17,
+        c20,
+    }
+}
+
+// The derivatives of distortion, u and v by x and y: c7 times each of the last four.
+struct Slopes {
+    c7: f64,
+    ux: f64,
+    uy: f64,
+    vx: f64,
+    vy: f64,
+}
+
+// The slopes at a point, for Newton and for dx_distort_x. Each of the two multiplies by c7 (there c17) in its own way.
+fn slopes_at(params: BrownConradyParams, point: Point) -> Slopes
+    ensures { λ r. ⌜ r ≡ slopes-at params point ⌝ }
+{
+    let a = point.0;
+    let b = point.1;
+    let s = shared_at(params, point);
+    let c0 = a * a;
+    let c1 = b * b;
+    let c8 = a * params.p2;
+    let c9 = 2.0 * params.p1;
+    let c18 = b * params.p2;
+    Slopes {
+        c7: 1.0 / s.c6,
+        ux: -c0 * s.c15 + s.c5 * (c0 * s.c16 + s.c17) + s.c6 * (b * c9 + 6.0 * c8),
+        uy: s.c20 + s.c6 * (a * c9 + 2.0 * c18),
+        vx: s.c20 + s.c6 * (2.0 * a * params.p1 + 2.0 * c18),
+        vy: -c1 * s.c15 + s.c5 * (c1 * s.c16 + s.c17) + s.c6 * (6.0 * b * params.p1 + 2.0 * c8),
+    }
+}
+
+// The derivative of distort by the point.
+pub fn dx_distort_x(params: BrownConradyParams, point: Point) -> Jacobian
+    ensures { λ r. ⌜ r ≡ dx-distort-x params point ⌝ }
+{
+    let s = slopes_at(params, point);
+    let c18 = s.c7 * params.fx;
+    let c22 = s.c7 * params.fy;
+    lens::two_columns(c18 * s.ux, c18 * s.uy, c22 * s.vx, c22 * s.vy)
+}
+
+// From one point to another: the Rust's f_xy and its step.
+struct Offset(f64, f64);
+
+// How far the lens misses `distorted` when it sends xy.
+fn f_xy(params: BrownConradyParams, distorted: Point, xy: Point) -> Offset
+    ensures { λ r. ⌜ r ≡ f-xy params distorted xy ⌝ }
+{
+    let d = distortion(params, xy);
+    Offset(d.0 - distorted.0, d.1 - distorted.1)
+}
+
+// Whether an offset's norm is at most EPS: the Rust's test of its step, and of what Newton leaves.
+fn small(offset: Offset) -> bool
+    ensures { λ r. ⌜ r ≡ small offset ⌝ }
+{
+    root::root(lens::squared_radius(offset.0, offset.1)) <= lens::EPS
+}
+
+// The inverse of the matrix a b above c d, times f.
+fn solve(a: f64, b: f64, c: f64, d: f64, f: Offset) -> Offset
+    ensures { λ r. ⌜ r ≡ solve a b c d f ⌝ }
+{
+    let z = 1.0 / (a * d - b * c);
+    Offset(d * z * f.0 + -b * z * f.1, -c * z * f.0 + a * z * f.1)
+}
+
+// Newton's step at xy.
+fn step(params: BrownConradyParams, distorted: Point, xy: Point) -> Offset
+    ensures { λ r. ⌜ r ≡ step params distorted xy ⌝ }
+{
+    let f_xy = f_xy(params, distorted, xy);
+    let s = slopes_at(params, xy);
+    solve(s.c7 * s.ux, s.c7 * s.uy, s.c7 * s.vx, s.c7 * s.vy, f_xy)
+}
+
+// How many updates Newton may make.
+const LIMIT: u32 = 50;
+
+// Where Newton is, after how many updates, and whether the last pass ended it.
+struct Search {
+    xy: Point,
+    updates: u32,
+    ended: bool,
+}
+
+// One pass: the step is tested before it is taken, and a small one ends Newton where it is.
+fn pass(params: BrownConradyParams, distorted: Point, at: Search) -> Search
+    requires { ⌜ at .updates < limit ⌝ }
+    ensures { λ r. ⌜ r ≡ pass params distorted at ⌝ }
+{
+    let xy = at.xy;
+    let step = step(params, distorted, xy);
+    if small(step) {
+        return Search {
+            xy,
+            updates: at.updates,
+            ended: true,
+        };
+    }
+    Search {
+        xy: Point(xy.0 - step.0, xy.1 - step.1),
+        updates: at.updates + 1,
+        ended: false,
+    }
+}
+
+// Newton from `distorted` on, to the point that the lens sends there.
+fn newton(params: BrownConradyParams, distorted: Point) -> Search
+    ensures { λ r. ⌜ r ≡ newton params distorted ⌝ }
+{
+    let mut at = Search {
+        xy: distorted,
+        updates: 0,
+        ended: false,
+    };
+    while at.updates < LIMIT {
+        at = pass(params, distorted, at);
+        if at.ended {
+            return at;
+        }
+    }
+    at
+}
+
+// The point of a pixel. The flag says whether the lens sends it back to within EPS; where it does not, the Rust warns.
+pub fn undistort(params: BrownConradyParams, pixel: Pixel) -> Settled
+    ensures { λ r. ⌜ r ≡ undistort params pixel ⌝ }
+{
+    let undistorted = affine::undistort(affine_params(params), pixel);
+    let distorted = undistorted.point;
+    let at = newton(params, distorted);
+    let xy = at.xy;
+    Settled {
+        point: xy,
+        updates: at.updates,
+        flag: small(f_xy(params, distorted, xy)),
+    }
+}

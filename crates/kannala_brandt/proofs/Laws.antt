@@ -1,0 +1,110 @@
+-- What a caller may rely on, of the definitions of specs/ and of the contracts of src/. Assumes nothing.
+use mathlib.Core.Path.{_≡_, refl, sym, _∙_}
+use mathlib.Core.Logic.{_↔_}
+use mathlib.Core.Bool.{Bool, true, false, cond}
+use Prim.Native.Nat.{ℕ, _≤_}
+use native.Mathlib.Omega.{arith}
+use lib.Dec.{lit≤}
+use lib.Ieee.{Float, le, add, sub, mul, div, ofBits}
+use Rattle.exact.specs.Determined.{Determined}
+use Rattle.exact.specs.F64.{f64}
+use Rattle.root.specs.Root.{root}
+use Rattle.arctan.specs.declared.Slope.{Slope}
+use Rattle.arctan.specs.declared.Slope.the-variants.{Is, TooSteep}
+use Rattle.lens.specs.Constants.{zeros, eps}
+use Rattle.lens.specs.Radius.{squared-radius}
+use Rattle.lens.specs.Undistorted.{direct, told}
+use Rattle.lens.specs.declared.Pixel.{Pixel}
+use Rattle.lens.specs.declared.Point.{Point}
+use Rattle.lens.specs.declared.Refusal.{Refusal}
+use Rattle.lens.specs.declared.Refusal.the-variants.{AngleTooLarge}
+use Rattle.lens.specs.declared.Undistorted.the-variants.{At, Refused}
+use Rattle.lens.proofs.Laws.{told-one-to-one}
+use Rattle.lens.proofs.Passes.{passes-most}
+use Rattle.kannala_brandt.specs.KannalaBrandt.{distort, dx-distort-x, dx-distort-params, limit, pass, newton, outward, un, vn, rth2, undistort}
+use Rattle.kannala_brandt.specs.declared.KannalaBrandtParams.{KannalaBrandtParams}
+use Rattle.kannala_brandt.specs.declared.Reached.{Reached}
+use Rattle.kannala_brandt.proofs.Updates.{ended, updates, one-update}
+use Rattle.kannala_brandt.proofs.distort.Reads as distort-contract
+use Rattle.kannala_brandt.proofs.undistort.Reads as undistort-contract
+use Rattle.kannala_brandt.proofs.dx_distort_x.Reads as dx-distort-x-contract
+use Rattle.kannala_brandt.proofs.dx_distort_params.Reads as dx-distort-params-contract
+
+-- Any two answers to one call that the contract of an operation permits are equal, for each of the four.
+pub determined : Determined distort-contract.Post × Determined undistort-contract.Post × Determined dx-distort-x-contract.Post × Determined dx-distort-params-contract.Post
+determined = (λ κ a s s' r r' p q. p ∙ sym q, λ κ a s s' r r' p q. told-one-to-one r r' (p ∙ sym q), λ κ a s s' r r' p q. p ∙ sym q, λ κ a s s' r r' p q. p ∙ sym q)
+
+-- ---- whatever stands for arctangent and tangent
+
+module _ (params : KannalaBrandtParams) where
+  -- Two arctangents that agree on a point's radius give it the same pixel and the same derivatives: once the arctangent's result is given, kb's answers are.
+  pub given-arctangent :
+      (point : Point) (f g : Float → Float) → f (root (squared-radius (point .0) (point .1))) ≡ g (root (squared-radius (point .0) (point .1)))
+      → (distort f params point ≡ distort g params point) × (dx-distort-x f params point ≡ dx-distort-x g params point) × (dx-distort-params f params point ≡ dx-distort-params g params point)
+  given-arctangent point f g e = (rw e refl, rw e refl, rw e refl)
+
+  module _ (pixel : Pixel) where
+    -- where Newton ends
+    abbrev end : Reached
+    end = newton params (root (rth2 params pixel))
+
+    -- Two tangents that agree on the angle where Newton ends give the pixel the same answer.
+    pub given-tangent : (f g : Float → Slope) → f (end .th) ≡ g (end .th) → undistort f params pixel ≡ undistort g params pixel
+    given-tangent f g e = rw e refl
+
+    -- Near the axis the answer is (un, vn), with 0 updates and the flag yes.
+    pub near-axis : (f : Float → Slope) → le (rth2 params pixel) eps ≡ true → undistort f params pixel ≡ At (direct record { 0 = un params pixel; 1 = vn params pixel })
+    near-axis f h = rw h refl
+
+    -- Elsewhere it is refused, always with 10, exactly if the angle where Newton ends has no tangent.
+    pub refused-exactly :
+        (f : Float → Slope) (r : Refusal) → (undistort f params pixel ≡ Refused r) ↔ ((r ≡ AngleTooLarge) × (le (rth2 params pixel) eps ≡ false) × (f (end .th) ≡ TooSteep))
+    refused-exactly f r = (forth (le (rth2 params pixel) eps) refl (f (end .th)) refl, λ h. rw (h .0, h .1, h .2) refl)
+      where
+        forth :
+            (b : Bool) → le (rth2 params pixel) eps ≡ b → (s : Slope) → f (end .th) ≡ s
+            → undistort f params pixel ≡ Refused r → (r ≡ AngleTooLarge) × (le (rth2 params pixel) eps ≡ false) × (f (end .th) ≡ TooSteep)
+        forth true near s e h = let z : _≡_ {A = ℕ} 0 1 = cc (near-axis f near) in absurd (omega arith)
+        forth false far (Is t) e h = let k = rw (far, e) at h in let z : _≡_ {A = ℕ} 0 1 = cc in absurd (omega arith)
+        forth false far TooSteep e h = let k = rw (far, e) at h in (cc, far, e)
+
+    -- No undistort makes more than 20 updates.
+    pub updates-limit : (f : Float → Slope) → told (undistort f params pixel) .settled .updates ≤ 20
+    unfolding newton
+    updates-limit f = go (le (rth2 params pixel) eps) (f (end .th))
+      where
+        most : end .updates ≤ 20
+        most = passes-most (pass params (root (rth2 params pixel))) ended updates (λ (at : Reached). omega (arith, one-update params (root (rth2 params pixel)) at)) limit record { th = root (root (rth2 params pixel)); updates = 0; ended = false }
+
+        go : (b : Bool) (s : Slope) → told (cond b (At (direct record { 0 = un params pixel; 1 = vn params pixel })) (outward s end (root (rth2 params pixel)) (un params pixel) (vn params pixel))) .settled .updates ≤ 20
+        go true s = lit≤ tt
+        go false (Is t) = most
+        go false TooSteep = lit≤ tt
+
+-- ---- the numbers to check by hand
+
+-- 1000 1000 320 280 0 0 0 0
+abbrev pub camera : KannalaBrandtParams
+camera = record {
+  fx = f64 0x408f_4000_0000_0000;
+  fy = f64 0x408f_4000_0000_0000;
+  cx = f64 0x4074_0000_0000_0000;
+  cy = f64 0x4071_8000_0000_0000;
+  k0 = zeros;
+  k1 = zeros;
+  k2 = zeros;
+  k3 = zeros;
+}
+
+-- (0, 0)
+abbrev pub point : Point
+point = record { 0 = zeros; 1 = zeros }
+
+-- (320, 280)
+abbrev pub pixel : Pixel
+pixel = record { 0 = f64 0x4074_0000_0000_0000; 1 = f64 0x4071_8000_0000_0000 }
+
+-- The camera 1000 1000 320 280 with no distortion sends (0, 0) to (320, 280), and back with 0 updates and the flag yes, whatever stands for arctangent and tangent.
+pub by-hand : (f : Float → Float) (g : Float → Slope) → (distort f camera point ≡ pixel) × (undistort g camera pixel ≡ At (direct point))
+unfolding add sub mul div le ofBits
+by-hand f g = (refl, refl)

@@ -1,0 +1,199 @@
+-- The four operations of kannala_brandt.rs by its local names: each product, sum, difference and quotient rounds once, in the Rust's order; factors of 1, which change no bit, are
+-- left out. `select` is `cond`. The arctangent and the tangent are named by who cites a definition: `atan` and `tan` stand for any two functions. Definitions only.
+use mathlib.Core.Bool.{Bool, false, cond}
+use mathlib.Core.List.{[], _∷_}
+use Prim.Native.Nat.{ℕ, _+_}
+use lib.Ieee.{Float, le}
+use Rattle.exact.specs.F64.{f64, minus, magnitude, _⊕_, _⊖_, _⊗_, _⊘_}
+use Rattle.root.specs.Root.{root}
+use Rattle.arctan.specs.declared.Slope.{Slope}
+use Rattle.arctan.specs.declared.Slope.the-variants.{Is, TooSteep}
+use Rattle.lens.specs.Constants.{zeros, ones, eps}
+use Rattle.lens.specs.Jacobian.{twoRows}
+use Rattle.lens.specs.Passes.{passes}
+use Rattle.lens.specs.Radius.{squared-radius}
+use Rattle.lens.specs.Undistorted.{direct}
+use Rattle.lens.specs.declared.Jacobian.{Jacobian}
+use Rattle.lens.specs.declared.Pixel.{Pixel}
+use Rattle.lens.specs.declared.Point.{Point}
+use Rattle.lens.specs.declared.Refusal.the-variants.{AngleTooLarge}
+use Rattle.lens.specs.declared.Undistorted.{Undistorted}
+use Rattle.lens.specs.declared.Undistorted.the-variants.{At, Refused}
+use Rattle.kannala_brandt.specs.declared.KannalaBrandtParams.{KannalaBrandtParams}
+use Rattle.kannala_brandt.specs.declared.Reached.{Reached}
+use Rattle.kannala_brandt.specs.declared.EvenPowers.{EvenPowers}
+
+-- 2, 3, 4, 5, 7 and 9
+abbrev pub two : Float
+two = f64 0x4000_0000_0000_0000
+
+abbrev pub three : Float
+three = f64 0x4008_0000_0000_0000
+
+abbrev pub four : Float
+four = f64 0x4010_0000_0000_0000
+
+abbrev pub five : Float
+five = f64 0x4014_0000_0000_0000
+
+abbrev pub seven : Float
+seven = f64 0x401c_0000_0000_0000
+
+abbrev pub nine : Float
+nine = f64 0x4022_0000_0000_0000
+
+-- ---- the polynomial of the angle
+
+unfoldable pub powers : Float → EvenPowers
+powers theta =
+    let theta2 = theta ⊗ theta in
+    let theta4 = theta2 ⊗ theta2 in
+    record { theta2 = theta2; theta4 = theta4; theta6 = theta2 ⊗ theta4; theta8 = theta4 ⊗ theta4 }
+
+unfoldable pub scaling-by-theta : KannalaBrandtParams → EvenPowers → Float
+scaling-by-theta params t = ones ⊕ params .k0 ⊗ t .theta2 ⊕ params .k1 ⊗ t .theta4 ⊕ params .k2 ⊗ t .theta6 ⊕ params .k3 ⊗ t .theta8
+
+-- ---- distort
+
+abbrev pub scaling : (Float → Float) → KannalaBrandtParams → Float → Float
+scaling atan params radius-sq =
+    let radius = root radius-sq in
+    let radius-inverse = ones ⊘ radius in
+    let theta = atan radius in
+    let r-distorted = theta ⊗ scaling-by-theta params (powers theta) in
+    cond (le radius-sq eps) ones (r-distorted ⊗ radius-inverse)
+
+abbrev pub distort : (Float → Float) → KannalaBrandtParams → Point → Pixel
+distort atan params point =
+    let scaling = scaling atan params (squared-radius (point .0) (point .1)) in
+    record { 0 = scaling ⊗ point .0 ⊗ params .fx ⊕ params .cx; 1 = scaling ⊗ point .1 ⊗ params .fy ⊕ params .cy }
+
+-- ---- undistort: Newton
+
+unfoldable pub d-thd-wtr-th : KannalaBrandtParams → EvenPowers → Float
+d-thd-wtr-th params t = ones ⊕ three ⊗ params .k0 ⊗ t .theta2 ⊕ five ⊗ params .k1 ⊗ t .theta4 ⊕ seven ⊗ params .k2 ⊗ t .theta6 ⊕ nine ⊗ params .k3 ⊗ t .theta8
+
+unfoldable pub step : KannalaBrandtParams → Float → Float → Float
+step params rth th =
+    let thd = th ⊗ scaling-by-theta params (powers th) in
+    (thd ⊖ rth) ⊘ d-thd-wtr-th params (powers th)
+
+-- the most updates
+abbrev pub limit : ℕ
+limit = 20
+
+-- a pass updates first and then tests its step
+unfoldable pub pass : KannalaBrandtParams → Float → Reached → Reached
+pass params rth at = let step = step params rth (at .th) in record { th = at .th ⊖ step; updates = at .updates + 1; ended = le (magnitude step) eps }
+
+unfoldable pub newton : KannalaBrandtParams → Float → Reached
+newton params rth = passes (pass params rth) (λ (at : Reached). at .ended) limit record { th = root rth; updates = 0; ended = false }
+
+-- ---- undistort: the answer
+
+-- it settled if the last step passed its test
+abbrev pub flag : Reached → Bool
+flag at = at .ended
+
+abbrev pub sign : Float → Float
+sign radius-undistorted = cond (le radius-undistorted zeros) (minus ones) ones
+
+-- from the tangent's result: past its limit there is no point
+abbrev pub outward : Slope → Reached → Float → Float → Float → Undistorted
+outward TooSteep at rth un vn = Refused AngleTooLarge
+outward (Is radius-undistorted) at rth un vn =
+    let sign = sign radius-undistorted in
+    At record {
+      point = record { 0 = sign ⊗ radius-undistorted ⊗ un ⊘ rth; 1 = sign ⊗ radius-undistorted ⊗ vn ⊘ rth };
+      updates = at .updates;
+      flag = flag at;
+    }
+
+abbrev pub un : KannalaBrandtParams → Pixel → Float
+un params pixel = (pixel .0 ⊖ params .cx) ⊘ params .fx
+
+abbrev pub vn : KannalaBrandtParams → Pixel → Float
+vn params pixel = (pixel .1 ⊖ params .cy) ⊘ params .fy
+
+abbrev pub rth2 : KannalaBrandtParams → Pixel → Float
+rth2 params pixel = squared-radius (un params pixel) (vn params pixel)
+
+abbrev pub undistort : (Float → Slope) → KannalaBrandtParams → Pixel → Undistorted
+undistort tan params pixel =
+    let rth = root (rth2 params pixel) in
+    let at = newton params rth in
+    cond (le (rth2 params pixel) eps)
+    (At (direct record { 0 = un params pixel; 1 = vn params pixel }))
+    (outward (tan (at .th)) at rth (un params pixel) (vn params pixel))
+
+-- ---- the derivatives. The Rust's c6, c8, c10 and c8 * c8 are the powers of c5.
+
+unfoldable pub c13 : KannalaBrandtParams → Float → Float → EvenPowers → Float
+c13 params c4 c5 t =
+    let c7 = t .theta2 ⊗ params .k0 in
+    let c9 = t .theta4 ⊗ params .k1 in
+    let c11 = t .theta6 ⊗ params .k2 in
+    let c12 = t .theta8 ⊗ params .k3 in
+    c4 ⊗ c5 ⊗ (c11 ⊕ c12 ⊕ c7 ⊕ c9 ⊕ ones)
+
+unfoldable pub c17 : KannalaBrandtParams → EvenPowers → Float
+c17 params t =
+    let c7 = t .theta2 ⊗ params .k0 in
+    let c9 = t .theta4 ⊗ params .k1 in
+    let c11 = t .theta6 ⊗ params .k2 in
+    let c12 = t .theta8 ⊗ params .k3 in
+    let inner = four ⊗ t .theta6 ⊗ params .k3 ⊕ two ⊗ t .theta2 ⊗ params .k1 ⊕ three ⊗ t .theta4 ⊗ params .k2 ⊕ params .k0 in
+    c11 ⊕ c12 ⊕ two ⊗ t .theta2 ⊗ inner ⊕ c7 ⊕ c9 ⊕ ones
+
+-- what stands in the brackets of the diagonal's entries
+unfoldable pub diagonal : Float → Float → Float → Float → Float
+diagonal c0 c14 c16 c18 = minus c0 ⊗ c16 ⊕ c0 ⊗ c18 ⊕ c14
+
+-- from c2, its root, c4, c13 and c17 on
+unfoldable pub off-axis : KannalaBrandtParams → Point → Float → Float → Float → Float → Float → Jacobian
+off-axis params point c2 c2-sqrt c4 c13 c17 =
+    let a = point .0 in
+    let b = point .1 in
+    let c0 = a ⊗ a in
+    let c1 = b ⊗ b in
+    let c3 = c2-sqrt ⊗ c2-sqrt ⊗ c2-sqrt ⊗ c2-sqrt ⊗ c2-sqrt in
+    let c14 = c13 ⊗ c3 in
+    let c15 = c2-sqrt ⊗ c2-sqrt ⊗ c2-sqrt in
+    let c16 = c13 ⊗ c15 in
+    let c18 = c17 ⊗ c2 ⊗ c2 in
+    let c19 = ones ⊘ c4 in
+    let c20 = c19 ⊘ (c2 ⊗ c2 ⊗ c2) in
+    let c21 = a ⊗ b ⊗ c19 ⊗ (minus c13 ⊗ c2 ⊕ c15 ⊗ c17) ⊘ c3 in
+    twoRows
+    (c20 ⊗ params .fx ⊗ diagonal c0 c14 c16 c18 ∷ c21 ⊗ params .fx ∷ [])
+    (c21 ⊗ params .fy ∷ c20 ⊗ params .fy ⊗ diagonal c1 c14 c16 c18 ∷ [])
+
+abbrev pub dx-distort-x : (Float → Float) → KannalaBrandtParams → Point → Jacobian
+dx-distort-x atan params point =
+    let c2 = squared-radius (point .0) (point .1) in
+    let c2-sqrt = root c2 in
+    let c4 = c2 ⊕ ones in
+    let c5 = atan c2-sqrt in
+    cond (le c2 eps)
+    (twoRows (params .fx ∷ zeros ∷ []) (zeros ∷ params .fy ∷ []))
+    (off-axis params point c2 c2-sqrt c4 (c13 params c4 c5 (powers c5)) (c17 params (powers c5)))
+
+unfoldable pub alpha : Float → Float → Float → Float
+alpha radius-sq radius theta = cond (le radius-sq eps) ones (theta ⊘ radius)
+
+-- columns fx, fy, cx, cy, k0, k1, k2, k3
+unfoldable pub rows : KannalaBrandtParams → Float → Float → Float → EvenPowers → Jacobian
+rows params alpha-x alpha-y scaling-by-theta t =
+    let fx = params .fx in
+    let fy = params .fy in
+    twoRows
+    (alpha-x ⊗ scaling-by-theta ∷ zeros ∷ ones ∷ zeros ∷ fx ⊗ alpha-x ⊗ t .theta2 ∷ fx ⊗ alpha-x ⊗ t .theta4 ∷ fx ⊗ alpha-x ⊗ t .theta6 ∷ fx ⊗ alpha-x ⊗ t .theta8 ∷ [])
+    (zeros ∷ alpha-y ⊗ scaling-by-theta ∷ zeros ∷ ones ∷ fy ⊗ alpha-y ⊗ t .theta2 ∷ fy ⊗ alpha-y ⊗ t .theta4 ∷ fy ⊗ alpha-y ⊗ t .theta6 ∷ fy ⊗ alpha-y ⊗ t .theta8 ∷ [])
+
+abbrev pub dx-distort-params : (Float → Float) → KannalaBrandtParams → Point → Jacobian
+dx-distort-params atan params point =
+    let radius-sq = squared-radius (point .0) (point .1) in
+    let radius = root radius-sq in
+    let theta = atan radius in
+    let alpha = alpha radius-sq radius theta in
+    rows params (point .0 ⊗ alpha) (point .1 ⊗ alpha) (scaling-by-theta params (powers theta)) (powers theta)
