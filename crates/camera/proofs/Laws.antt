@@ -1,0 +1,334 @@
+-- What a caller may rely on, of the definitions of specs/ and of the contracts of src/. Assumes nothing.
+use mathlib.Core.Path.{_≡_, refl, sym, ap, _∙_}
+use mathlib.Core.Bool.{Bool, true, false, not, cond, _&&_}
+use mathlib.Core.List.{[], _∷_}
+use Prim.Native.Nat.{ℕ, _≤_}
+use native.Mathlib.Omega.{arith}
+use lib.Ieee.{Float, nan, le, add, sub, mul, div, ofBits}
+use lib.Ieee.Scale.{finite}
+use Rattle.exact.specs.Determined.{Determined}
+use Rattle.exact.specs.F64.{f64, isZero}
+use Rattle.root.specs.Root.{root}
+use Rattle.root.proofs.Laws as root-laws
+use Rattle.arctan.specs.Arctangent.{arctangent}
+use Rattle.arctan.specs.Tangent.{tangent}
+use Rattle.arctan.specs.declared.Slope.{Slope}
+use Rattle.arctan.specs.declared.Slope.the-variants.{Is, TooSteep}
+use Rattle.lens.specs.Constants.{zeros, ones, eps}
+use Rattle.lens.specs.Finite.{all-finite}
+use Rattle.lens.specs.Refusal.{number}
+use Rattle.lens.specs.Undistorted.{direct, told}
+use Rattle.lens.specs.declared.Jacobian.{Jacobian}
+use Rattle.lens.specs.declared.Pixel.{Pixel}
+use Rattle.lens.specs.declared.Point.{Point}
+use Rattle.lens.specs.declared.Refusal.{Refusal}
+use Rattle.lens.specs.declared.Refusal.the-variants.{NotFinite, ZeroFocalLength, AnswerNotFinite}
+use Rattle.lens.specs.declared.Settled.{Settled}
+use Rattle.lens.specs.declared.Undistorted.{Undistorted}
+use Rattle.lens.specs.declared.Undistorted.the-variants as found
+use Rattle.lens.proofs.Laws.{number-one-to-one, number-within, told-one-to-one}
+use Rattle.affine.specs.Affine as affine
+use Rattle.affine.specs.declared.AffineParams.{AffineParams}
+use Rattle.affine.proofs.Laws as affine-laws
+use Rattle.enhanced_unified.specs.EnhancedUnified as eucm
+use Rattle.enhanced_unified.specs.declared.EnhancedUnifiedParams.{EnhancedUnifiedParams}
+use Rattle.enhanced_unified.proofs.Laws as eucm-laws
+use Rattle.kannala_brandt.specs.KannalaBrandt as kb
+use Rattle.kannala_brandt.proofs.Laws as kb-laws
+use Rattle.brown_conrady.specs.BrownConrady as bc
+use Rattle.brown_conrady.proofs.Laws as bc-laws
+use Rattle.kannala_brandt.specs.declared.Reached.{Reached}
+use Rattle.camera.specs.Camera.{parameters, zero-focal, judged, decided, pixel-of, finite-pixel, distort, point-of, finite-point, undistort, limit, slopes, finite-jacobian, refused, dx-distort-x, judged-params, parameter-slopes, dx-distort-params}
+use Rattle.camera.specs.Rows.{_when_, first, not-finite, steep, too-steep, point-not-finite, distort-rows, undistort-rows, dx-distort-x-rows, dx-distort-params-rows}
+use Rattle.camera.specs.Told.{ToldPixel, told-pixel}
+use Rattle.camera.specs.declared.Camera.{Camera}
+use Rattle.camera.specs.declared.Camera.the-variants.{Affine, EnhancedUnified, KannalaBrandt, BrownConrady}
+use Rattle.camera.specs.declared.Differentiated.{Differentiated}
+use Rattle.camera.specs.declared.Judgement.{Judgement}
+use Rattle.camera.specs.declared.Judgement.the-variants as Judged
+use Rattle.camera.specs.declared.Distorted.{Distorted}
+use Rattle.camera.specs.declared.Distorted.the-variants.{At, Refused}
+use Rattle.camera.proofs.Steep as far-out
+use Rattle.camera.proofs.distort.Reads as distort-contract
+use Rattle.camera.proofs.undistort.Reads as undistort-contract
+use Rattle.camera.proofs.dx_distort_x.Reads as dx-distort-x-contract
+use Rattle.camera.proofs.dx_distort_params.Reads as dx-distort-params-contract
+
+-- ---- each contract permits one answer
+
+apart : (p : Pixel) (r : Refusal) → told-pixel (At p) ≡ told-pixel (Refused r) → ⊥
+apart p r e = omega (arith, ap (λ (t : ToldPixel). t .number) e, number-within r)
+
+-- What a distort tells determines it: two that tell the same number and pixel are equal.
+pub told-pixel-one-to-one : (a b : Distorted) → told-pixel a ≡ told-pixel b → a ≡ b
+told-pixel-one-to-one (At p) (At q) e = ap (λ (t : ToldPixel). At (t .pixel)) e
+told-pixel-one-to-one (At p) (Refused r) e = absurd (apart p r e)
+told-pixel-one-to-one (Refused r) (At p) e = absurd (apart p r (sym e))
+told-pixel-one-to-one (Refused q) (Refused r) e = ap Refused (number-one-to-one q r (ap (λ (t : ToldPixel). t .number) e))
+
+-- Any two answers to one call that the contract of an operation permits are equal, for each of the four.
+pub determined : Determined distort-contract.Post × Determined undistort-contract.Post × Determined dx-distort-x-contract.Post × Determined dx-distort-params-contract.Post
+determined = (
+  λ κ a s s' r r' p q. told-pixel-one-to-one r r' (p ∙ sym q),
+  λ κ a s s' r r' p q. told-one-to-one r r' (p ∙ sym q),
+  λ κ a s s' r r' p q. p ∙ sym q,
+  λ κ a s s' r r' p q. p ∙ sym q,
+)
+
+-- ---- the refusals: the number told is that of the first row that holds, and 0 if none does
+
+-- before: g says that all is finite, z that a focal length is zero; n is the number behind
+before : {A : Type 0} (say : A → ℕ) (refuse : Refusal → A) (answer : A) {n : ℕ} → ((r : Refusal) → say (refuse r) ≡ number r) → say answer ≡ n
+    → (g z : Bool) → say (decided (cond g (cond z (Judged.Refused ZeroFocalLength) Judged.Taken) (Judged.Refused NotFinite)) refuse answer) ≡ cond (not g) 4 (cond z 5 n)
+before say refuse answer r e false z = r NotFinite
+before say refuse answer r e true true = r ZeroFocalLength
+before say refuse answer r e true false = e
+
+-- behind: f says that the answer is finite
+behind : {A : Type 0} (say : A → ℕ) (answer refusal : A) → say answer ≡ 0 → say refusal ≡ 11 → (f : Bool) → say (cond f answer refusal) ≡ first ((11 when not f) ∷ [])
+behind say answer refusal a r true = a
+behind say answer refusal a r false = r
+
+abbrev given : Camera → Float → Float → Bool
+given camera x y = all-finite (parameters camera) && (finite x && finite y)
+
+abbrev pixel-number : Distorted → ℕ
+pixel-number d = told-pixel d .number
+
+-- Distort gives 4, 5 or 11 exactly when the table says so, the lowest first.
+pub distort-number : (camera : Camera) (point : Point) → told-pixel (distort camera point) .number ≡ first (distort-rows camera point)
+unfolding judged
+distort-number camera point =
+    let pixel = pixel-of camera point in
+    let answer = behind pixel-number (At pixel) (Refused AnswerNotFinite) refl refl (finite (pixel .0) && finite (pixel .1)) in
+    before pixel-number Refused (finite-pixel pixel) (λ r. refl) answer (given camera (point .0) (point .1)) (zero-focal camera)
+
+abbrev point-number : Undistorted → ℕ
+point-number u = told u .number
+
+-- what the model finds, and b that it found no tangent, say the same
+abbrev Agree : Undistorted → Bool → Type 0
+Agree (found.At s) b = b ≡ false
+Agree (found.Refused r) b = (number r ≡ 10) × (b ≡ true)
+
+answer-number : (u : Undistorted) (b : Bool) → Agree u b → point-number (finite-point u) ≡ first ((10 when b) ∷ (11 when point-not-finite u) ∷ [])
+answer-number (found.At s) b e = rw e (behind point-number (found.At s) (found.Refused AnswerNotFinite) refl refl (finite (s .point .0) && finite (s .point .1)))
+answer-number (found.Refused r) b e = rw (e .1) (e .0)
+
+kb-agree : (near : Bool) (slope : Slope) (point : Settled) (at : Reached) (rth un vn : Float) → Agree (cond near (found.At point) (kb.outward slope at rth un vn)) (not near && steep slope)
+kb-agree true slope point at rth un vn = refl
+kb-agree false (Is t) point at rth un vn = refl
+kb-agree false TooSteep point at rth un vn = (refl, refl)
+
+agree : (camera : Camera) (pixel : Pixel) → Agree (point-of camera pixel) (too-steep camera pixel)
+agree (Affine p) pixel = refl
+agree (EnhancedUnified p) pixel = refl
+agree (KannalaBrandt p) pixel = kb-agree (le (kb.rth2 p pixel) eps) (tangent (kb.newton p (root (kb.rth2 p pixel)) .th)) _ _ _ _ _
+agree (BrownConrady p) pixel = refl
+
+-- Undistort gives 4, 5, 10 or 11 exactly when the table says so, the lowest first.
+pub undistort-number : (camera : Camera) (pixel : Pixel) → told (undistort camera pixel) .number ≡ first (undistort-rows camera pixel)
+unfolding judged
+undistort-number camera pixel =
+    let answer = answer-number (point-of camera pixel) (too-steep camera pixel) (agree camera pixel) in
+    before point-number found.Refused (finite-point (point-of camera pixel)) (λ r. refl) answer (given camera (pixel .0) (pixel .1)) (zero-focal camera)
+
+abbrev slope-number : Differentiated → ℕ
+slope-number d = d .number
+
+-- a Jacobian at a point
+jacobian-number : (camera : Camera) (point : Point) (j : Jacobian)
+    → slope-number (decided (judged camera (point .0) (point .1)) refused (finite-jacobian j)) ≡ first ((4 when not-finite camera (point .0) (point .1)) ∷ (5 when zero-focal camera) ∷ (11 when not (all-finite (j .entries))) ∷ [])
+unfolding judged
+jacobian-number camera point j =
+    let answer = behind slope-number record { number = 0; jacobian = j } (refused AnswerNotFinite) refl refl (all-finite (j .entries)) in
+    before slope-number refused (finite-jacobian j) (λ r. refl) answer (given camera (point .0) (point .1)) (zero-focal camera)
+
+-- The derivative by the point gives 4, 5 or 11 exactly when the table says so, the lowest first.
+pub dx-distort-x-number : (camera : Camera) (point : Point) → dx-distort-x camera point .number ≡ first (dx-distort-x-rows camera point)
+dx-distort-x-number camera point = jacobian-number camera point (slopes camera point)
+
+-- The derivative by the parameters gives 2, 4, 5 or 11 exactly when the table says so, the lowest first.
+pub dx-distort-params-number : (camera : Camera) (point : Point) → dx-distort-params camera point .number ≡ first (dx-distort-params-rows camera point)
+dx-distort-params-number (Affine p) point = jacobian-number (Affine p) point (parameter-slopes (Affine p) point)
+dx-distort-params-number (EnhancedUnified p) point = jacobian-number (EnhancedUnified p) point (parameter-slopes (EnhancedUnified p) point)
+dx-distort-params-number (KannalaBrandt p) point = jacobian-number (KannalaBrandt p) point (parameter-slopes (KannalaBrandt p) point)
+dx-distort-params-number (BrownConrady p) point = refl
+
+-- ---- an answered call has the number 0, and its answer is the model's own
+
+none : (r : Refusal) → number r ≡ 0 → ⊥
+none r e = omega (arith, number-within r)
+
+distort-own : (j : Judgement) (f : Bool) (pixel : Pixel) → pixel-number (decided j Refused (cond f (At pixel) (Refused AnswerNotFinite))) ≡ 0 → decided j Refused (cond f (At pixel) (Refused AnswerNotFinite)) ≡ At pixel
+distort-own (Judged.Refused r) f pixel e = absurd (none r e)
+distort-own Judged.Taken true pixel e = refl
+distort-own Judged.Taken false pixel e = absurd (none AnswerNotFinite e)
+
+-- A distort that tells 0 is the pixel of the model's formula.
+pub distort-answered : (camera : Camera) (point : Point) → told-pixel (distort camera point) .number ≡ 0 → distort camera point ≡ At (pixel-of camera point)
+distort-answered camera point = distort-own (judged camera (point .0) (point .1)) (finite (pixel-of camera point .0) && finite (pixel-of camera point .1)) (pixel-of camera point)
+
+point-own : (u : Undistorted) → point-number (finite-point u) ≡ 0 → finite-point u ≡ u
+point-own (found.At s) e = go (finite (s .point .0) && finite (s .point .1)) e
+  where
+    go : (f : Bool) → point-number (cond f (found.At s) (found.Refused AnswerNotFinite)) ≡ 0 → cond f (found.At s) (found.Refused AnswerNotFinite) ≡ found.At s
+    go true e = refl
+    go false e = absurd (none AnswerNotFinite e)
+point-own (found.Refused r) e = refl
+
+undistort-own : (j : Judgement) (u : Undistorted) → point-number (decided j found.Refused (finite-point u)) ≡ 0 → decided j found.Refused (finite-point u) ≡ u
+undistort-own (Judged.Refused r) u e = absurd (none r e)
+undistort-own Judged.Taken u e = point-own u e
+
+-- An undistort that tells 0 is the point, updates and flag of the model's rules.
+pub undistort-answered : (camera : Camera) (pixel : Pixel) → told (undistort camera pixel) .number ≡ 0 → undistort camera pixel ≡ point-of camera pixel
+undistort-answered camera pixel = undistort-own (judged camera (pixel .0) (pixel .1)) (point-of camera pixel)
+
+jacobian-own : (v : Judgement) (f : Bool) (j : Jacobian) → slope-number (decided v refused (cond f record { number = 0; jacobian = j } (refused AnswerNotFinite))) ≡ 0 → decided v refused (cond f record { number = 0; jacobian = j } (refused AnswerNotFinite)) .jacobian ≡ j
+jacobian-own (Judged.Refused r) f j e = absurd (none r e)
+jacobian-own Judged.Taken true j e = refl
+jacobian-own Judged.Taken false j e = absurd (none AnswerNotFinite e)
+
+-- A derivative that tells 0 is the Jacobian of the model's formula, by the point or by the parameters.
+pub dx-answered :
+    (camera : Camera) (point : Point)
+    → (dx-distort-x camera point .number ≡ 0 → dx-distort-x camera point .jacobian ≡ slopes camera point)
+    × (dx-distort-params camera point .number ≡ 0 → dx-distort-params camera point .jacobian ≡ parameter-slopes camera point)
+dx-answered camera point = (
+  jacobian-own (judged camera (point .0) (point .1)) (all-finite (slopes camera point .entries)) (slopes camera point),
+  jacobian-own (judged-params camera (point .0) (point .1)) (all-finite (parameter-slopes camera point .entries)) (parameter-slopes camera point),
+)
+
+-- ---- updates and flag
+
+-- no more than the model made
+kept : (j : Judgement) (u : Undistorted) {n : ℕ} → told u .settled .updates ≤ n → told (decided j found.Refused (finite-point u)) .settled .updates ≤ n
+kept (Judged.Refused r) u h = omega arith
+kept Judged.Taken (found.Refused r) h = h
+kept Judged.Taken (found.At s) {n} h = go (finite (s .point .0) && finite (s .point .1))
+  where
+    go : (f : Bool) → told (cond f (found.At s) (found.Refused AnswerNotFinite)) .settled .updates ≤ n
+    go true = h
+    go false = omega arith
+
+most : (camera : Camera) (pixel : Pixel) → told (point-of camera pixel) .settled .updates ≤ limit camera
+most (Affine p) pixel = omega arith
+most (EnhancedUnified p) pixel = omega arith
+most (KannalaBrandt p) pixel = kb-laws.updates-limit p pixel tangent
+most (BrownConrady p) pixel = bc-laws.updates-limit p pixel
+
+-- No undistort makes more updates than its model's limit: 0 for affine and eucm, 20 for kb, 50 for bc.
+pub updates-limit : (camera : Camera) (pixel : Pixel) → told (undistort camera pixel) .settled .updates ≤ limit camera
+updates-limit camera pixel = kept (judged camera (pixel .0) (pixel .1)) (point-of camera pixel) (most camera pixel)
+
+flagged : (s : Settled) (j : Judgement) (t : Settled) → decided j found.Refused (finite-point (found.At t)) ≡ found.At s → s ≡ t
+flagged s (Judged.Refused r) t e = let z : _≡_ {A = ℕ} 0 1 = cc in absurd (omega arith)
+flagged s Judged.Taken t e = go (finite (t .point .0) && finite (t .point .1)) e
+  where
+    go : (f : Bool) → cond f (found.At t) (found.Refused AnswerNotFinite) ≡ found.At s → s ≡ t
+    go true e = cc
+    go false e = let z : _≡_ {A = ℕ} 0 1 = cc in absurd (omega arith)
+
+-- Affine and eucm always settle: an answer of theirs has 0 updates and the flag yes.
+pub settled :
+    (pixel : Pixel) (s : Settled) (a : AffineParams) (e : EnhancedUnifiedParams)
+    → (undistort (Affine a) pixel ≡ found.At s → (s .updates ≡ 0) × (s .flag ≡ true))
+    × (undistort (EnhancedUnified e) pixel ≡ found.At s → (s .updates ≡ 0) × (s .flag ≡ true))
+settled pixel s a e = (
+  λ h. rw (flagged s (judged (Affine a) (pixel .0) (pixel .1)) (affine.undistort a pixel) h) (refl, refl),
+  λ h. rw (flagged s (judged (EnhancedUnified e) (pixel .0) (pixel .1)) (eucm.undistort e pixel) h) (refl, refl),
+)
+
+-- ---- each refusal is reached
+
+-- a NaN; a lens with a zero focal length; (2 ^ 1000, 0), whose squared radius overflows
+abbrev nowhere : Point
+nowhere = record { 0 = nan; 1 = zeros }
+
+abbrev flat : Camera
+flat = Affine record { fx = zeros; fy = ones; cx = zeros; cy = zeros }
+
+abbrev far : Point
+far = record { 0 = f64 0x7e70_0000_0000_0000; 1 = zeros }
+
+-- fx is 2 ^ 1000
+abbrev long : Camera
+long = Affine record { fx = f64 0x7e70_0000_0000_0000; fy = ones; cx = zeros; cy = zeros }
+
+-- Distort is refused with 4, 5 and 11.
+pub distort-reached : (told-pixel (distort flat nowhere) .number ≡ 4) × (told-pixel (distort flat far) .number ≡ 5) × (told-pixel (distort long far) .number ≡ 11)
+unfolding judged all-finite isZero add mul ofBits
+distort-reached = (refl, refl, refl)
+
+-- Undistort with 4, 5, 10 and 11.
+pub undistort-reached :
+    (told (undistort flat record { 0 = nan; 1 = zeros }) .number ≡ 4)
+    × (told (undistort flat record { 0 = zeros; 1 = zeros }) .number ≡ 5)
+    × (told (undistort (KannalaBrandt far-out.lens) far-out.pixel) .number ≡ 10)
+    × (told (undistort (Affine record { fx = f64 0x0000_0000_0000_0001; fy = ones; cx = zeros; cy = zeros }) record { 0 = ones; 1 = zeros }) .number ≡ 11)
+unfolding judged all-finite isZero add sub mul div ofBits
+undistort-reached = (refl, refl, ap (λ (u : Undistorted). told (finite-point u) .number) far-out.refused, refl)
+
+-- The derivative by the point with 4, 5 and 11.
+pub dx-distort-x-reached : (dx-distort-x flat nowhere .number ≡ 4) × (dx-distort-x flat far .number ≡ 5) × (dx-distort-x (BrownConrady bc-laws.plain) far .number ≡ 11)
+unfolding judged all-finite isZero bc.slopes-at bc.shared-at add mul div ofBits
+dx-distort-x-reached = (refl, refl, refl)
+
+-- The derivative by the parameters with 2, 4, 5 and 11.
+pub dx-distort-params-reached :
+    (dx-distort-params (BrownConrady bc-laws.plain) nowhere .number ≡ 2)
+    × (dx-distort-params flat nowhere .number ≡ 4)
+    × (dx-distort-params flat far .number ≡ 5)
+    × (dx-distort-params (EnhancedUnified eucm-laws.camera) far .number ≡ 11)
+unfolding judged all-finite isZero root add sub mul div ofBits
+dx-distort-params-reached = (refl, refl, refl, refl)
+
+-- ---- the numbers to check by hand
+
+-- An undistort with no update: what the models' laws call `direct`.
+abbrev at-once : Point → Undistorted
+at-once point = found.At (direct point)
+
+-- how a camera answers, once its model's answer is known
+by-distort : (camera : Camera) (point : Point) (pixel : Pixel) → judged camera (point .0) (point .1) ≡ Judged.Taken → pixel-of camera point ≡ pixel → finite-pixel pixel ≡ At pixel → distort camera point ≡ At pixel
+by-distort camera point pixel j e f = ap (λ (v : Judgement). decided v Refused (finite-pixel (pixel-of camera point))) j ∙ ap finite-pixel e ∙ f
+
+by-undistort : (camera : Camera) (pixel : Pixel) (u w : Undistorted) → judged camera (pixel .0) (pixel .1) ≡ Judged.Taken → point-of camera pixel ≡ u → finite-point u ≡ w → undistort camera pixel ≡ w
+by-undistort camera pixel u w j e f = ap (λ (v : Judgement). decided v found.Refused (finite-point (point-of camera pixel))) j ∙ ap finite-point e ∙ f
+
+abbrev three-five : Pixel
+three-five = record { 0 = bc.three; 1 = bc-laws.five }
+
+abbrev five-three : Pixel
+five-three = record { 0 = bc-laws.five; 1 = bc.three }
+
+-- The rules' numbers to check by hand, marked there as to be proved. Affine 600 600 1 0.5 sends (0.5, -0.25) to (301, -149.5), and back. Eucm 1 1 0 0 0.5 1 sends (2, 2) to (1, 1), and back, and refuses the
+-- pixel (2, 0) with 11. Kb 1000 1000 320 280 sends (0, 0) to (320, 280), and back with 0 updates. Bc 1 1 0 0 sends (1, 1) to (3, 5) with p1 = 1, to (5, 3) with p2 = 1, and with no
+-- coefficient the pixel (3, 4) back to (3, 4) with 0 updates. The root of 2.25 is 1.5.
+pub by-hand :
+    (distort (Affine affine-laws.camera) affine-laws.point ≡ At affine-laws.pixel)
+    × (undistort (Affine affine-laws.camera) affine-laws.pixel ≡ at-once affine-laws.point)
+    × (distort (EnhancedUnified eucm-laws.camera) eucm-laws.point ≡ At eucm-laws.pixel)
+    × (undistort (EnhancedUnified eucm-laws.camera) eucm-laws.pixel ≡ at-once eucm-laws.point)
+    × (undistort (EnhancedUnified eucm-laws.camera) eucm-laws.sideways ≡ found.Refused AnswerNotFinite)
+    × (distort (KannalaBrandt kb-laws.camera) kb-laws.point ≡ At kb-laws.pixel)
+    × (undistort (KannalaBrandt kb-laws.camera) kb-laws.pixel ≡ at-once kb-laws.point)
+    × (distort (BrownConrady (bc-laws.camera ones zeros)) bc-laws.corner ≡ At three-five)
+    × (distort (BrownConrady (bc-laws.camera zeros ones)) bc-laws.corner ≡ At five-three)
+    × (undistort (BrownConrady bc-laws.plain) bc-laws.pixel ≡ at-once bc-laws.point)
+    × (root (f64 0x4002_0000_0000_0000) ≡ f64 0x3ff8_0000_0000_0000)
+unfolding judged all-finite isZero ofBits
+by-hand = (
+  by-distort (Affine affine-laws.camera) affine-laws.point affine-laws.pixel refl (affine-laws.by-hand .0) refl,
+  by-undistort (Affine affine-laws.camera) affine-laws.pixel _ _ refl (ap found.At (affine-laws.by-hand .1)) refl,
+  by-distort (EnhancedUnified eucm-laws.camera) eucm-laws.point eucm-laws.pixel refl (eucm-laws.by-hand .0) refl,
+  by-undistort (EnhancedUnified eucm-laws.camera) eucm-laws.pixel _ _ refl (ap found.At (eucm-laws.by-hand .1)) refl,
+  by-undistort (EnhancedUnified eucm-laws.camera) eucm-laws.sideways _ _ refl (ap found.At (eucm-laws.by-hand .2)) refl,
+  by-distort (KannalaBrandt kb-laws.camera) kb-laws.point kb-laws.pixel refl (kb-laws.by-hand arctangent tangent .0) refl,
+  by-undistort (KannalaBrandt kb-laws.camera) kb-laws.pixel _ _ refl (kb-laws.by-hand arctangent tangent .1) refl,
+  by-distort (BrownConrady (bc-laws.camera ones zeros)) bc-laws.corner three-five refl (bc-laws.by-hand .0) refl,
+  by-distort (BrownConrady (bc-laws.camera zeros ones)) bc-laws.corner five-three refl (bc-laws.by-hand .1) refl,
+  by-undistort (BrownConrady bc-laws.plain) bc-laws.pixel _ _ refl (ap found.At (bc-laws.by-hand .2)) refl,
+  root-laws.by-hand,
+)

@@ -1,0 +1,28 @@
+-- `camera::finite_point` meets its contract. Assumes nothing.
+use mathlib.Core.Path.{refl}
+use borrow.Author.Needs.{needs}
+use Rattle.camera.proofs.finite_point.Statement.{statement}
+use Rattle.camera.proofs.finite_point.Tie as tie
+
+enum-known-found : tie.Need-enum-known-found
+enum-known-found c = search needs
+
+enum-known-found-2 : tie.Need-enum-known-found-2
+enum-known-found-2 c = search needs
+
+both-finite-requires : tie.Need-both-finite-requires
+both-finite-requires c κs = search needs
+
+returns : tie.Need-returns
+returns c = rw (c .before .before .before .found2 .given .1, ← c .before .both-finite .ensures, c .if1 .taken) refl
+
+returns-2 : tie.Need-returns-2
+returns-2 c = rw (c .before .found .given .1) refl
+
+returns-3 : tie.Need-returns-3
+returns-3 c = rw (c .before .before .before .found2 .given .1, ← c .before .both-finite .ensures, c .if1 .left) refl
+
+pub finite-point-spec : {M : Type 1} → statement M
+finite-point-spec =
+    tie.close
+    (tie.spec enum-known-found enum-known-found-2 both-finite-requires returns returns-2 returns-3)

@@ -1,0 +1,128 @@
+-- The four operations of a camera: what refuses a call beforehand, the model's own definition, and what refuses its answer. Definitions only.
+use mathlib.Core.Bool.{Bool, cond, _&&_, _||_}
+use mathlib.Core.List.{List, [], _∷_}
+use Prim.Native.Nat.{ℕ}
+use lib.Ieee.{Float}
+use lib.Ieee.Scale.{finite}
+use Rattle.exact.specs.F64.{isZero}
+use Rattle.arctan.specs.Arctangent.{arctangent}
+use Rattle.arctan.specs.Tangent.{tangent}
+use Rattle.lens.specs.Finite.{all-finite}
+use Rattle.lens.specs.Jacobian.{twoRows}
+use Rattle.lens.specs.Refusal.{number}
+use Rattle.lens.specs.declared.Jacobian.{Jacobian}
+use Rattle.lens.specs.declared.Pixel.{Pixel}
+use Rattle.lens.specs.declared.Point.{Point}
+use Rattle.lens.specs.declared.Refusal.{Refusal}
+use Rattle.lens.specs.declared.Refusal.the-variants.{NoParameterJacobian, NotFinite, ZeroFocalLength, AnswerNotFinite}
+use Rattle.lens.specs.declared.Undistorted.{Undistorted}
+use Rattle.lens.specs.declared.Undistorted.the-variants as found
+use Rattle.affine.specs.Affine as affine
+use Rattle.enhanced_unified.specs.EnhancedUnified as eucm
+use Rattle.kannala_brandt.specs.KannalaBrandt as kb
+use Rattle.brown_conrady.specs.BrownConrady as bc
+use Rattle.camera.specs.declared.Camera.{Camera}
+use Rattle.camera.specs.declared.Camera.the-variants.{Affine, EnhancedUnified, KannalaBrandt, BrownConrady}
+use Rattle.camera.specs.declared.Differentiated.{Differentiated}
+use Rattle.camera.specs.declared.Distorted.{Distorted}
+use Rattle.camera.specs.declared.Distorted.the-variants as pixels
+use Rattle.camera.specs.declared.Judgement.{Judgement}
+use Rattle.camera.specs.declared.Judgement.the-variants.{Taken, Refused}
+
+-- ---- before: 4, then 5
+
+abbrev pub parameters : Camera → List Float
+parameters (Affine p) = p .fx ∷ p .fy ∷ p .cx ∷ p .cy ∷ []
+parameters (EnhancedUnified p) = p .fx ∷ p .fy ∷ p .cx ∷ p .cy ∷ p .alpha ∷ p .beta ∷ []
+parameters (KannalaBrandt p) = p .fx ∷ p .fy ∷ p .cx ∷ p .cy ∷ p .k0 ∷ p .k1 ∷ p .k2 ∷ p .k3 ∷ []
+parameters (BrownConrady p) = p .fx ∷ p .fy ∷ p .cx ∷ p .cy ∷ p .k1 ∷ p .k2 ∷ p .p1 ∷ p .p2 ∷ p .k3 ∷ p .k4 ∷ p .k5 ∷ p .k6 ∷ []
+
+abbrev pub either-zero : Float → Float → Bool
+either-zero fx fy = isZero fx || isZero fy
+
+abbrev pub zero-focal : Camera → Bool
+zero-focal (Affine p) = either-zero (p .fx) (p .fy)
+zero-focal (EnhancedUnified p) = either-zero (p .fx) (p .fy)
+zero-focal (KannalaBrandt p) = either-zero (p .fx) (p .fy)
+zero-focal (BrownConrady p) = either-zero (p .fx) (p .fy)
+
+-- of a camera, and the point or pixel (x, y)
+unfoldable pub judged : Camera → Float → Float → Judgement
+judged camera x y =
+    cond (all-finite (parameters camera) && (finite x && finite y))
+    (cond (zero-focal camera) (Refused ZeroFocalLength) Taken)
+    (Refused NotFinite)
+
+-- a call that is refused so, and one that is taken
+abbrev pub decided : {A : Type 0} → Judgement → (Refusal → A) → A → A
+decided (Refused refusal) refuse answer = refuse refusal
+decided Taken refuse answer = answer
+
+-- ---- distort: the model's pixel, or 11
+
+abbrev pub pixel-of : Camera → Point → Pixel
+pixel-of (Affine p) point = affine.distort p point
+pixel-of (EnhancedUnified p) point = eucm.distort p point
+pixel-of (KannalaBrandt p) point = kb.distort arctangent p point
+pixel-of (BrownConrady p) point = bc.distort p point
+
+abbrev pub finite-pixel : Pixel → Distorted
+finite-pixel pixel = cond (finite (pixel .0) && finite (pixel .1)) (pixels.At pixel) (pixels.Refused AnswerNotFinite)
+
+abbrev pub distort : Camera → Point → Distorted
+distort camera point = decided (judged camera (point .0) (point .1)) pixels.Refused (finite-pixel (pixel-of camera point))
+
+-- ---- undistort: the model's point, or kb's 10, or 11
+
+abbrev pub point-of : Camera → Pixel → Undistorted
+point-of (Affine p) pixel = found.At (affine.undistort p pixel)
+point-of (EnhancedUnified p) pixel = found.At (eucm.undistort p pixel)
+point-of (KannalaBrandt p) pixel = kb.undistort tangent p pixel
+point-of (BrownConrady p) pixel = found.At (bc.undistort p pixel)
+
+abbrev pub finite-point : Undistorted → Undistorted
+finite-point (found.At settled) = cond (finite (settled .point .0) && finite (settled .point .1)) (found.At settled) (found.Refused AnswerNotFinite)
+finite-point (found.Refused refusal) = found.Refused refusal
+
+abbrev pub undistort : Camera → Pixel → Undistorted
+undistort camera pixel = decided (judged camera (pixel .0) (pixel .1)) found.Refused (finite-point (point-of camera pixel))
+
+-- the most updates that it makes
+abbrev pub limit : Camera → ℕ
+limit (Affine p) = 0
+limit (EnhancedUnified p) = 0
+limit (KannalaBrandt p) = kb.limit
+limit (BrownConrady p) = bc.limit
+
+-- ---- the derivatives: number 0 and the model's, or a refusal's number and zeros, 11 among them
+
+abbrev pub refused : Refusal → Differentiated
+refused refusal = record { number = number refusal; jacobian = twoRows [] [] }
+
+abbrev pub finite-jacobian : Jacobian → Differentiated
+finite-jacobian jacobian = cond (all-finite (jacobian .entries)) record { number = 0; jacobian = jacobian } (refused AnswerNotFinite)
+
+abbrev pub slopes : Camera → Point → Jacobian
+slopes (Affine p) point = affine.dx-distort-x p point
+slopes (EnhancedUnified p) point = eucm.dx-distort-x p point
+slopes (KannalaBrandt p) point = kb.dx-distort-x arctangent p point
+slopes (BrownConrady p) point = bc.dx-distort-x p point
+
+abbrev pub dx-distort-x : Camera → Point → Differentiated
+dx-distort-x camera point = decided (judged camera (point .0) (point .1)) refused (finite-jacobian (slopes camera point))
+
+-- bc's parameter Jacobian is refused before all else
+abbrev pub judged-params : Camera → Float → Float → Judgement
+judged-params (Affine p) x y = judged (Affine p) x y
+judged-params (EnhancedUnified p) x y = judged (EnhancedUnified p) x y
+judged-params (KannalaBrandt p) x y = judged (KannalaBrandt p) x y
+judged-params (BrownConrady p) x y = Refused NoParameterJacobian
+
+abbrev pub parameter-slopes : Camera → Point → Jacobian
+parameter-slopes (Affine p) point = affine.dx-distort-params p point
+parameter-slopes (EnhancedUnified p) point = eucm.dx-distort-params p point
+parameter-slopes (KannalaBrandt p) point = kb.dx-distort-params arctangent p point
+parameter-slopes (BrownConrady p) point = twoRows [] []
+
+abbrev pub dx-distort-params : Camera → Point → Differentiated
+dx-distort-params camera point = decided (judged-params camera (point .0) (point .1)) refused (finite-jacobian (parameter-slopes camera point))

@@ -1,0 +1,3 @@
+pub mod Camera
+pub mod Rows
+pub mod Told

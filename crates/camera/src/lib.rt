@@ -1,0 +1,270 @@
+// One of four cameras: its model's four operations with the refusals that stand before and behind them. Whatever is handed in, there is an answer or a refusal's number.
+ghost use mathlib.Core.Path.{_≡_};
+ghost use mathlib.Core.Bool.{_&&_};
+ghost use lib.Ieee.Scale.{finite};
+ghost use Rattle.lens.specs.Finite.{all-finite};
+ghost use Rattle.lens.specs.Undistorted.{told};
+ghost use Rattle.camera.specs.Camera.{parameters, either-zero, zero-focal, judged, pixel-of, finite-pixel, distort, point-of, finite-point, undistort, refused, finite-jacobian, slopes, dx-distort-x, judged-params, parameter-slopes, dx-distort-params};
+ghost use Rattle.camera.specs.Told.{told-pixel};
+use affine::AffineParams;
+use brown_conrady::BrownConradyParams;
+use enhanced_unified::EnhancedUnifiedParams;
+use kannala_brandt::KannalaBrandtParams;
+use lens::Jacobian;
+use lens::Pixel;
+use lens::Point;
+use lens::Refusal;
+use lens::Undistorted;
+
+// A camera: its model, with the model's parameters.
+pub enum Camera {
+    Affine(AffineParams),
+    EnhancedUnified(EnhancedUnifiedParams),
+    KannalaBrandt(KannalaBrandtParams),
+    BrownConrady(BrownConradyParams),
+}
+
+// What distort answers: a pixel, or why there is none.
+pub enum Distorted {
+    At(Pixel),
+    Refused(Refusal),
+}
+
+// What the derivatives answer: number 0 and a Jacobian, or a refusal's number and zeros. No enum, since an enum can't hold the Jacobian's array.
+pub struct Differentiated {
+    pub number: u8,
+    pub jacobian: Jacobian,
+}
+
+// Whether a call is taken up.
+pub enum Judgement {
+    Taken,
+    Refused(Refusal),
+}
+
+// Whether every parameter is finite.
+fn finite_parameters(camera: Camera) -> bool
+    ensures { λ r. ⌜ r ≡ all-finite (parameters camera) ⌝ }
+{
+    match camera {
+        Camera::Affine(p) => lens::all_finite(&[p.fx, p.fy, p.cx, p.cy]),
+        Camera::EnhancedUnified(p) => lens::all_finite(&[p.fx, p.fy, p.cx, p.cy, p.alpha, p.beta]),
+        Camera::KannalaBrandt(p) => lens::all_finite(
+            &[p.fx, p.fy, p.cx, p.cy, p.k0, p.k1, p.k2, p.k3],
+        ),
+        Camera::BrownConrady(p) => lens::all_finite(
+            &[
+                p.fx,
+                p.fy,
+                p.cx,
+                p.cy,
+                p.k1,
+                p.k2,
+                p.p1,
+                p.p2,
+                p.k3,
+                p.k4,
+                p.k5,
+                p.k6,
+            ],
+        ),
+    }
+}
+
+// Whether fx or fy is zero.
+fn either_zero(fx: f64, fy: f64) -> bool
+    ensures { λ r. ⌜ r ≡ either-zero fx fy ⌝ }
+{
+    if exact::is_zero(fx) {
+        true
+    } else {
+        exact::is_zero(fy)
+    }
+}
+
+fn zero_focal(camera: Camera) -> bool
+    ensures { λ r. ⌜ r ≡ zero-focal camera ⌝ }
+{
+    match camera {
+        Camera::Affine(p) => either_zero(p.fx, p.fy),
+        Camera::EnhancedUnified(p) => either_zero(p.fx, p.fy),
+        Camera::KannalaBrandt(p) => either_zero(p.fx, p.fy),
+        Camera::BrownConrady(p) => either_zero(p.fx, p.fy),
+    }
+}
+
+// Whether both numbers of a point or a pixel are finite.
+fn both_finite(x: f64, y: f64) -> bool
+    ensures { λ r. ⌜ r ≡ (finite x && finite y) ⌝ }
+{
+    if exact::is_finite(x) {
+        exact::is_finite(y)
+    } else {
+        false
+    }
+}
+
+// 4 and then 5, before anything is worked out.
+fn judged(camera: Camera, x: f64, y: f64) -> Judgement
+    ensures { λ r. ⌜ r ≡ judged camera x y ⌝ }
+{
+    if finite_parameters(camera) {
+        if both_finite(x, y) {
+            if zero_focal(camera) {
+                Judgement::Refused(Refusal::ZeroFocalLength)
+            } else {
+                Judgement::Taken
+            }
+        } else {
+            Judgement::Refused(Refusal::NotFinite)
+        }
+    } else {
+        Judgement::Refused(Refusal::NotFinite)
+    }
+}
+
+// The model's pixel, finite or not.
+fn pixel_of(camera: Camera, point: Point) -> Pixel
+    ensures { λ r. ⌜ r ≡ pixel-of camera point ⌝ }
+{
+    match camera {
+        Camera::Affine(p) => affine::distort(p, point),
+        Camera::EnhancedUnified(p) => enhanced_unified::distort(p, point),
+        Camera::KannalaBrandt(p) => kannala_brandt::distort(p, point),
+        Camera::BrownConrady(p) => brown_conrady::distort(p, point),
+    }
+}
+
+// 11 for a pixel that isn't finite.
+fn finite_pixel(pixel: Pixel) -> Distorted
+    ensures { λ r. ⌜ r ≡ finite-pixel pixel ⌝ }
+{
+    if both_finite(pixel.0, pixel.1) {
+        return Distorted::At(pixel);
+    }
+    Distorted::Refused(Refusal::AnswerNotFinite)
+}
+
+// The pixel of a point.
+pub fn distort(camera: Camera, point: Point) -> Distorted
+    ensures { λ r. ⌜ told-pixel r ≡ told-pixel (distort camera point) ⌝ }
+{
+    match judged(camera, point.0, point.1) {
+        Judgement::Refused(refusal) => Distorted::Refused(refusal),
+        Judgement::Taken => finite_pixel(pixel_of(camera, point)),
+    }
+}
+
+// The model's point, finite or not, or kb's 10.
+fn point_of(camera: Camera, pixel: Pixel) -> Undistorted
+    ensures { λ r. ⌜ r ≡ point-of camera pixel ⌝ }
+{
+    match camera {
+        Camera::Affine(p) => Undistorted::At(affine::undistort(p, pixel)),
+        Camera::EnhancedUnified(p) => Undistorted::At(enhanced_unified::undistort(p, pixel)),
+        Camera::KannalaBrandt(p) => kannala_brandt::undistort(p, pixel),
+        Camera::BrownConrady(p) => Undistorted::At(brown_conrady::undistort(p, pixel)),
+    }
+}
+
+// 11 for a point that isn't finite. A refusal stays: 10 comes before 11.
+fn finite_point(found: Undistorted) -> Undistorted
+    ensures { λ r. ⌜ r ≡ finite-point found ⌝ }
+{
+    match found {
+        Undistorted::Refused(refusal) => Undistorted::Refused(refusal),
+        Undistorted::At(settled) => {
+            if both_finite(settled.point.0, settled.point.1) {
+                return Undistorted::At(settled);
+            }
+            Undistorted::Refused(Refusal::AnswerNotFinite)
+        }
+    }
+}
+
+// The point of a pixel, with the updates it took and whether it settled.
+pub fn undistort(camera: Camera, pixel: Pixel) -> Undistorted
+    ensures { λ r. ⌜ told r ≡ told (undistort camera pixel) ⌝ }
+{
+    match judged(camera, pixel.0, pixel.1) {
+        Judgement::Refused(refusal) => Undistorted::Refused(refusal),
+        Judgement::Taken => finite_point(point_of(camera, pixel)),
+    }
+}
+
+// A refusal in the derivatives' form.
+fn refused(refusal: Refusal) -> Differentiated
+    ensures { λ r. ⌜ r ≡ refused refusal ⌝ }
+{
+    Differentiated {
+        number: lens::number(refusal),
+        jacobian: lens::two_rows(&[], &[]),
+    }
+}
+
+// A Jacobian as an answer, or 11.
+fn finite_jacobian(jacobian: Jacobian) -> Differentiated
+    ensures { λ r. ⌜ r ≡ finite-jacobian jacobian ⌝ }
+{
+    if lens::all_finite(&jacobian.entries) {
+        return Differentiated {
+            number: 0,
+            jacobian,
+        };
+    }
+    refused(Refusal::AnswerNotFinite)
+}
+
+// The model's derivative of distort by the point, finite or not.
+fn slopes(camera: Camera, point: Point) -> Jacobian
+    ensures { λ r. ⌜ r ≡ slopes camera point ⌝ }
+{
+    match camera {
+        Camera::Affine(p) => affine::dx_distort_x(p, point),
+        Camera::EnhancedUnified(p) => enhanced_unified::dx_distort_x(p, point),
+        Camera::KannalaBrandt(p) => kannala_brandt::dx_distort_x(p, point),
+        Camera::BrownConrady(p) => brown_conrady::dx_distort_x(p, point),
+    }
+}
+
+// The derivative of distort by the point.
+pub fn dx_distort_x(camera: Camera, point: Point) -> Differentiated
+    ensures { λ r. ⌜ r ≡ dx-distort-x camera point ⌝ }
+{
+    match judged(camera, point.0, point.1) {
+        Judgement::Refused(refusal) => refused(refusal),
+        Judgement::Taken => finite_jacobian(slopes(camera, point)),
+    }
+}
+
+// 2 for bc before all else, since the Rust has no formula to port; then 4 and 5.
+fn judged_params(camera: Camera, x: f64, y: f64) -> Judgement
+    ensures { λ r. ⌜ r ≡ judged-params camera x y ⌝ }
+{
+    if let Camera::BrownConrady(_) = camera {
+        return Judgement::Refused(Refusal::NoParameterJacobian);
+    }
+    judged(camera, x, y)
+}
+
+// The model's derivative of distort by its parameters, finite or not. Nobody asks for bc's: it is refused before.
+fn parameter_slopes(camera: Camera, point: Point) -> Jacobian
+    ensures { λ r. ⌜ r ≡ parameter-slopes camera point ⌝ }
+{
+    match camera {
+        Camera::Affine(p) => affine::dx_distort_params(p, point),
+        Camera::EnhancedUnified(p) => enhanced_unified::dx_distort_params(p, point),
+        Camera::KannalaBrandt(p) => kannala_brandt::dx_distort_params(p, point),
+        Camera::BrownConrady(_) => lens::two_rows(&[], &[]),
+    }
+}
+
+// The derivative of distort by the camera's parameters.
+pub fn dx_distort_params(camera: Camera, point: Point) -> Differentiated
+    ensures { λ r. ⌜ r ≡ dx-distort-params camera point ⌝ }
+{
+    match judged_params(camera, point.0, point.1) {
+        Judgement::Refused(refusal) => refused(refusal),
+        Judgement::Taken => finite_jacobian(parameter_slopes(camera, point)),
+    }
+}
