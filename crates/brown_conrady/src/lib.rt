@@ -175,7 +175,7 @@ fn step(params: BrownConradyParams, distorted: Point, xy: Point) -> Offset
 }
 
 // How many updates Newton may make.
-const LIMIT: u32 = 50;
+pub const LIMIT: u32 = 50;
 
 // Where Newton is, after how many updates, and whether the last pass ended it.
 struct Search {

@@ -4,6 +4,7 @@ use mathlib.Core.Bool.{Bool, true, false, not, cond, _&&_}
 use mathlib.Core.List.{[], _∷_}
 use Prim.Native.Nat.{ℕ, _≤_}
 use native.Mathlib.Omega.{arith}
+use lib.Dec.{lit≤}
 use lib.Ieee.{Float, nan, le, add, sub, mul, div, ofBits}
 use lib.Ieee.Scale.{finite}
 use Rattle.exact.specs.Determined.{Determined}
@@ -38,7 +39,7 @@ use Rattle.kannala_brandt.proofs.Laws as kb-laws
 use Rattle.brown_conrady.specs.BrownConrady as bc
 use Rattle.brown_conrady.proofs.Laws as bc-laws
 use Rattle.kannala_brandt.specs.declared.Reached.{Reached}
-use Rattle.camera.specs.Camera.{parameters, zero-focal, judged, decided, pixel-of, finite-pixel, distort, point-of, finite-point, undistort, limit, slopes, finite-jacobian, refused, dx-distort-x, judged-params, parameter-slopes, dx-distort-params}
+use Rattle.camera.specs.Camera.{parameters, zero-focal, judged, decided, pixel-of, finite-pixel, distort, point-of, finite-point, undistort-judged, undistort, limit, slopes, finite-jacobian, refused, dx-distort-x, judged-params, parameter-slopes, dx-distort-params}
 use Rattle.camera.specs.Rows.{_when_, first, not-finite, steep, too-steep, point-not-finite, distort-rows, undistort-rows, dx-distort-x-rows, dx-distort-params-rows}
 use Rattle.camera.specs.Told.{ToldPixel, told-pixel}
 use Rattle.camera.specs.declared.Camera.{Camera}
@@ -49,6 +50,11 @@ use Rattle.camera.specs.declared.Judgement.the-variants as Judged
 use Rattle.camera.specs.declared.Distorted.{Distorted}
 use Rattle.camera.specs.declared.Distorted.the-variants.{At, Refused}
 use Rattle.camera.proofs.Steep as far-out
+use Rattle.camera.proofs.finite_parameters.Reads as finite-parameters-contract
+use Rattle.camera.proofs.zero_focal.Reads as zero-focal-contract
+use Rattle.camera.proofs.distort_judged.Reads as distort-judged-contract
+use Rattle.camera.proofs.undistort_judged.Reads as undistort-judged-contract
+use Rattle.camera.proofs.limit.Reads as limit-contract
 use Rattle.camera.proofs.distort.Reads as distort-contract
 use Rattle.camera.proofs.undistort.Reads as undistort-contract
 use Rattle.camera.proofs.dx_distort_x.Reads as dx-distort-x-contract
@@ -72,6 +78,16 @@ determined = (
   λ κ a s s' r r' p q. told-pixel-one-to-one r r' (p ∙ sym q),
   λ κ a s s' r r' p q. told-one-to-one r r' (p ∙ sym q),
   λ κ a s s' r r' p q. p ∙ sym q,
+  λ κ a s s' r r' p q. p ∙ sym q,
+)
+
+-- and so for the five functions that a table is built with.
+pub determined-parts : Determined finite-parameters-contract.Post × Determined zero-focal-contract.Post × Determined distort-judged-contract.Post × Determined undistort-judged-contract.Post × Determined limit-contract.Post
+determined-parts = (
+  λ κ a s s' r r' p q. p ∙ sym q,
+  λ κ a s s' r r' p q. p ∙ sym q,
+  λ κ a s s' r r' p q. told-pixel-one-to-one r r' (p ∙ sym q),
+  λ κ a s s' r r' p q. told-one-to-one r r' (p ∙ sym q),
   λ κ a s s' r r' p q. p ∙ sym q,
 )
 
@@ -217,6 +233,17 @@ most (Affine p) pixel = omega arith
 most (EnhancedUnified p) pixel = omega arith
 most (KannalaBrandt p) pixel = kb-laws.updates-limit p pixel tangent
 most (BrownConrady p) pixel = bc-laws.updates-limit p pixel
+
+-- The same of a judged camera and pixel.
+pub updates-limit-judged : (camera : Camera) (pixel : Pixel) → told (undistort-judged camera pixel) .settled .updates ≤ limit camera
+updates-limit-judged camera pixel = kept Judged.Taken (point-of camera pixel) (most camera pixel)
+
+-- No model's limit is above 50.
+pub limit-most : (camera : Camera) → limit camera ≤ 50
+limit-most (Affine p) = lit≤ tt
+limit-most (EnhancedUnified p) = lit≤ tt
+limit-most (KannalaBrandt p) = lit≤ tt
+limit-most (BrownConrady p) = lit≤ tt
 
 -- No undistort makes more updates than its model's limit: 0 for affine and eucm, 20 for kb, 50 for bc.
 pub updates-limit : (camera : Camera) (pixel : Pixel) → told (undistort camera pixel) .settled .updates ≤ limit camera

@@ -69,8 +69,11 @@ pixel-of (BrownConrady p) point = bc.distort p point
 abbrev pub finite-pixel : Pixel → Distorted
 finite-pixel pixel = cond (finite (pixel .0) && finite (pixel .1)) (pixels.At pixel) (pixels.Refused AnswerNotFinite)
 
+abbrev pub distort-judged : Camera → Point → Distorted
+distort-judged camera point = finite-pixel (pixel-of camera point)
+
 abbrev pub distort : Camera → Point → Distorted
-distort camera point = decided (judged camera (point .0) (point .1)) pixels.Refused (finite-pixel (pixel-of camera point))
+distort camera point = decided (judged camera (point .0) (point .1)) pixels.Refused (distort-judged camera point)
 
 -- ---- undistort: the model's point, or kb's 10, or 11
 
@@ -84,8 +87,11 @@ abbrev pub finite-point : Undistorted → Undistorted
 finite-point (found.At settled) = cond (finite (settled .point .0) && finite (settled .point .1)) (found.At settled) (found.Refused AnswerNotFinite)
 finite-point (found.Refused refusal) = found.Refused refusal
 
+abbrev pub undistort-judged : Camera → Pixel → Undistorted
+undistort-judged camera pixel = finite-point (point-of camera pixel)
+
 abbrev pub undistort : Camera → Pixel → Undistorted
-undistort camera pixel = decided (judged camera (pixel .0) (pixel .1)) found.Refused (finite-point (point-of camera pixel))
+undistort camera pixel = decided (judged camera (pixel .0) (pixel .1)) found.Refused (undistort-judged camera pixel)
 
 -- the most updates that it makes
 abbrev pub limit : Camera → ℕ

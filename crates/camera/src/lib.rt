@@ -4,7 +4,7 @@ ghost use mathlib.Core.Bool.{_&&_};
 ghost use lib.Ieee.Scale.{finite};
 ghost use Rattle.lens.specs.Finite.{all-finite};
 ghost use Rattle.lens.specs.Undistorted.{told};
-ghost use Rattle.camera.specs.Camera.{parameters, either-zero, zero-focal, judged, pixel-of, finite-pixel, distort, point-of, finite-point, undistort, refused, finite-jacobian, slopes, dx-distort-x, judged-params, parameter-slopes, dx-distort-params};
+ghost use Rattle.camera.specs.Camera.{parameters, either-zero, zero-focal, judged, pixel-of, finite-pixel, distort-judged, distort, point-of, finite-point, undistort-judged, undistort, limit, refused, finite-jacobian, slopes, dx-distort-x, judged-params, parameter-slopes, dx-distort-params};
 ghost use Rattle.camera.specs.Told.{told-pixel};
 use affine::AffineParams;
 use brown_conrady::BrownConradyParams;
@@ -43,7 +43,7 @@ pub enum Judgement {
 }
 
 // Whether every parameter is finite.
-fn finite_parameters(camera: Camera) -> bool
+pub fn finite_parameters(camera: Camera) -> bool
     ensures { λ r. ⌜ r ≡ all-finite (parameters camera) ⌝ }
 {
     match camera {
@@ -82,7 +82,7 @@ fn either_zero(fx: f64, fy: f64) -> bool
     }
 }
 
-fn zero_focal(camera: Camera) -> bool
+pub fn zero_focal(camera: Camera) -> bool
     ensures { λ r. ⌜ r ≡ zero-focal camera ⌝ }
 {
     match camera {
@@ -145,13 +145,20 @@ fn finite_pixel(pixel: Pixel) -> Distorted
     Distorted::Refused(Refusal::AnswerNotFinite)
 }
 
+// The pixel of a point, for a camera and a point that 4 and 5 do not refuse: a table judges its camera once.
+pub fn distort_judged(camera: Camera, point: Point) -> Distorted
+    ensures { λ r. ⌜ told-pixel r ≡ told-pixel (distort-judged camera point) ⌝ }
+{
+    finite_pixel(pixel_of(camera, point))
+}
+
 // The pixel of a point.
 pub fn distort(camera: Camera, point: Point) -> Distorted
     ensures { λ r. ⌜ told-pixel r ≡ told-pixel (distort camera point) ⌝ }
 {
     match judged(camera, point.0, point.1) {
         Judgement::Refused(refusal) => Distorted::Refused(refusal),
-        Judgement::Taken => finite_pixel(pixel_of(camera, point)),
+        Judgement::Taken => distort_judged(camera, point),
     }
 }
 
@@ -182,13 +189,32 @@ fn finite_point(found: Undistorted) -> Undistorted
     }
 }
 
+// The point of a pixel, for a camera and a pixel that 4 and 5 do not refuse.
+pub fn undistort_judged(camera: Camera, pixel: Pixel) -> Undistorted
+    ensures { λ r. ⌜ told r ≡ told (undistort-judged camera pixel) ⌝ }
+{
+    finite_point(point_of(camera, pixel))
+}
+
 // The point of a pixel, with the updates it took and whether it settled.
 pub fn undistort(camera: Camera, pixel: Pixel) -> Undistorted
     ensures { λ r. ⌜ told r ≡ told (undistort camera pixel) ⌝ }
 {
     match judged(camera, pixel.0, pixel.1) {
         Judgement::Refused(refusal) => Undistorted::Refused(refusal),
-        Judgement::Taken => finite_point(point_of(camera, pixel)),
+        Judgement::Taken => undistort_judged(camera, pixel),
+    }
+}
+
+// The most updates that undistort makes.
+pub fn limit(camera: Camera) -> u32
+    ensures { λ r. ⌜ r ≡ limit camera ⌝ }
+{
+    match camera {
+        Camera::Affine(_) => 0,
+        Camera::EnhancedUnified(_) => 0,
+        Camera::KannalaBrandt(_) => kannala_brandt::LIMIT,
+        Camera::BrownConrady(_) => brown_conrady::LIMIT,
     }
 }
 

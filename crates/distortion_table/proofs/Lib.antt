@@ -1,0 +1,11 @@
+pub mod AtBorder
+pub mod Border
+pub mod Counting
+pub mod Laws
+pub mod Lifted
+pub mod Parts
+pub mod Phases
+pub mod Places
+pub mod Smaller
+pub mod Taking
+pub mod Turns

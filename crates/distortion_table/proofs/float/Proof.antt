@@ -1,0 +1,15 @@
+-- `distortion_table::float` meets its contract. Assumes nothing.
+use Rattle.distortion_table.specs.Border.{float}
+use borrow.Author.Needs.{needs}
+use Rattle.distortion_table.proofs.float.Statement.{statement}
+use Rattle.distortion_table.proofs.float.Tie as tie
+
+nearest-u64-to-f64-requires : tie.Need-nearest-u64-to-f64-requires
+nearest-u64-to-f64-requires c κs = search needs
+
+returns : tie.Need-returns
+unfolding float
+returns c = c .nearest-u64-to-f64 .ensures
+
+pub float-spec : {M : Type 1} → statement M
+float-spec = tie.close (tie.spec nearest-u64-to-f64-requires returns)

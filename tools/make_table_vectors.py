@@ -1,0 +1,881 @@
+#!/usr/bin/env python3
+"""Makes crates/table_vectors/stdin and stdout: jobs for the table builder, and what each of its turns gives.
+
+    python3 tools/make_table_vectors.py              writes both files, and says on stderr what they cover
+    python3 tools/make_table_vectors.py --self-test  tests this script and lens_tables.py, and writes nothing
+
+A question is a line of 16 fields with tabs between, each 16 hexadecimal digits: the model (0 affine,
+1 eucm, 2 kb, 3 bc), the width, the height, the allowance of every turn, and twelve parameters as bit
+patterns of f64s. A model with fewer parameters has zeros in the places that are left. So every line
+has 272 bytes with its end, and the program reads one at a time.
+
+The answer to a question takes several lines, with tabs between fields; counts are decimal:
+
+    fresh                              the record was made; or: refused N, and nothing more
+    running  DONE UPDATES              one line for each turn, by its status:
+    finished DONE UPDATES                the record's units done and updates after the turn
+    refused  N DONE UPDATES
+    edges    four f64s                 lower x, lower y, upper x, upper y, of the last record
+    region   four f64s                 the same
+    cell     U V two f32s              for each cell done, by rows
+    untouched N                        places beyond those cells that still hold what they held before
+
+Turns follow one another, all with the question's allowance, as long as the status is running. An
+allowance of 0 stands for a single turn that may do nothing. Before the first turn every place of the
+table holds 3f000000, which is 0.5. f64s have 16 digits, f32s have 8. A line of another form, or a model
+above 3, is answered by `bad`, and the last line of stdout counts the lines of stdin.
+
+The program's table has room for 3,072 cells: no question that gets a fresh record asks for more.
+
+How the answers are made. By tools/lens_tables.py, from the text of the Rust and from docs/RULES.md.
+
+How the questions are made. By hand where a rule has an edge, with ordinary cameras, and by a
+search over splitmix64's numbers, from fixed seeds, for wild cameras that end in every way they can. So
+every run writes the same bytes. A question that two kinds have is asked once, and counted for the first.
+"""
+import math
+import pathlib
+import struct
+import sys
+from collections import Counter
+from dataclasses import replace
+
+from lens_models import AFFINE, BC, COUNTS, DISTORT, EUCM, KB, MODELS, UNDISTORT, answer
+from lens_tables import (
+    FINISHED,
+    LIMITS,
+    MOST,
+    REFUSED,
+    RUNNING,
+    ZEROS,
+    Job,
+    border,
+    call_refused,
+    cell_point,
+    distort_table,
+    extended,
+    fresh,
+    increments,
+    narrow,
+    region_of,
+    samples,
+    total,
+    turn,
+    unit,
+)
+from make_leaf_vectors import INF, NANS, SIGN, Splitmix, value
+from make_leaf_vectors import narrow as exact_narrow
+from make_model_vectors import BC_EXAMPLE, number_of, pattern, sized, spelled, uniform
+from make_model_vectors import unit as plain
+
+FOLDER = pathlib.Path(__file__).resolve().parent.parent / "crates" / "table_vectors"
+ROOM = 3072  # cells that the program's table has room for
+BEFORE = 0x3F000000  # what every place of the table holds before the first turn: 0.5
+LARGE = 10**6  # an allowance that no job of this size uses up
+DIGITS = frozenset("0123456789abcdef")
+
+
+# ---- a question's line, and its answer
+
+
+def patterns(params):
+    return [pattern(z) for z in params]
+
+
+def question_line(model, w, h, allowance, params):
+    """A question's parameters are bit patterns here: a NaN would not keep its pattern in a float."""
+    unused = [0] * (12 - len(params))
+    return "\t".join(f"{n:016x}" for n in (model, w, h, allowance, *params, *unused))
+
+
+def read(line):
+    """Camera, width, height and allowance of a line (with its end), or None if it is bad."""
+    fields = line[:-1].split("\t")
+    if line[-1:] != "\n" or len(fields) != 16 or any(len(f) != 16 or not DIGITS.issuperset(f) for f in fields):
+        return None
+    model, w, h, allowance, *params = (int(f, 16) for f in fields)
+    if model > 3:
+        return None
+    return (model, tuple(value(p) for p in params[: COUNTS[model]])), w, h, allowance
+
+
+def turns(job, table, allowance):
+    """What each turn of a job gives, up to the first that isn't running; for an allowance of 0, one turn."""
+    while True:
+        status, number, job = turn(job, table, allowance)
+        yield status, number, job
+        if status != RUNNING or allowance == 0:
+            return
+
+
+def turn_line(status, number, job):
+    told = [status, number] if status == REFUSED else [status]
+    return "\t".join(map(str, (*told, job.done, job.updates)))
+
+
+def box_line(word, box):
+    return "\t".join([word, *map(spelled, box)])
+
+
+def built(question):
+    """Status, refusal's number, last record and table of a question, and what each turn gave."""
+    camera, w, h, allowance = question
+    number, job = fresh(camera, w, h)
+    if number:
+        return "not made", number, None, None, []
+    assert w * h <= ROOM
+    table = [BEFORE] * (2 * w * h)
+    taken = list(turns(job, table, allowance))
+    status, number, job = taken[-1]
+    return status, number, job, table, taken
+
+
+def reply(line):
+    """The lines that answer a line."""
+    question = read(line)
+    if question is None:
+        return ["bad"]
+    status, number, job, table, taken = built(question)
+    if status == "not made":
+        return [f"refused\t{number}"]
+    lines = ["fresh"] + [turn_line(*t) for t in taken]
+    lines += [box_line("edges", job.edges), box_line("region", job.region)]
+    cells = max(job.done - border(job.width, job.height), 0)
+    for i in range(cells):
+        v, u = divmod(i, job.width)
+        lines.append(f"cell\t{u}\t{v}\t{table[2 * i]:08x}\t{table[2 * i + 1]:08x}")
+    beyond = table[2 * cells :]
+    assert beyond.count(BEFORE) == len(beyond)
+    return lines + [f"untouched\t{len(beyond)}"]
+
+
+# ---- the questions
+#
+# A question is (model, width, height, allowance, parameters), its parameters floats, or bit patterns as ints.
+# A case is the same without the allowance.
+
+KB_EXAMPLE = [0.1, 0.01, 0.001, 0.0001]  # the coefficients of the Rust's own test
+
+
+def by(case, *allowances):
+    model, w, h, params = case
+    return [(model, w, h, a, params) for a in allowances]
+
+
+def each_way(cases):
+    """Each case unit by unit, with allowances that end just ahead of the refused unit and just at it, and in one turn.
+    Ahead of unit 1 that is a turn of 0, which doesn't meet the refusal."""
+    for _, refused, case in cases:
+        yield from by(case, 1, refused - 1, refused, LARGE)
+
+
+LISTED = (AFFINE, 3, 2, [1.0, 1.0, 0.0, 0.0])  # the table of docs/RULES.md
+
+
+def by_hand():
+    """Document 01's table by many allowances, the last one the largest there is; and a first turn of 0."""
+    found = by(LISTED, 1, 7, 100, 0, 2, 5, 13, 14, 15, 17, 19, 20, 21, 2**63, 2**64 - 1)
+    found += by((AFFINE, 2, 2, [1.0, 1.0, 0.0, 0.0]), 1, 0)
+    found += by((AFFINE, 3, 2, [600.0, 600.0, 1.0, 0.5]), LARGE)  # the camera of the Rust's own test
+    found += by((AFFINE, 3, 2, [3.0, 3.0, 0.7, 0.7]), LARGE)  # (lo + hi)/2 is not lo + (hi - lo)/2
+    for model in (EUCM, KB, BC):
+        found += by((model, 5, 4, plain(model)), 0)
+    return found
+
+
+ORDINARY = [
+    (AFFINE, [60.0, 61.5, 31.7, 24.2]),
+    (EUCM, [40.0, 41.0, 32.3, 23.1, 0.6, 1.1]),
+    (KB, [45.0, 45.5, 31.6, 23.8] + KB_EXAMPLE),
+    (BC, [60.0, 60.5, 31.6, 23.8] + BC_EXAMPLE),
+]
+
+
+def ordinary():
+    """64 by 48 cells of a lens of each model: in one turn, and one of them by four turns."""
+    found = [(model, 64, 48, LARGE, params) for model, params in ORDINARY]
+    return found + [(KB, 64, 48, 1000, [30.0, 30.5, 31.6, 23.8, -0.02, 0.01, -0.003, 0.0005])]
+
+
+def by_sevens():
+    """16 by 9 cells of each model by turns of 7, and of a bc lens without a denominator."""
+    found = []
+    for model, params in ORDINARY:
+        small = [z / 4 for z in params[:2]] + [7.4, 4.1]
+        found.append((model, 16, 9, 7, small + params[4:]))
+    return found + [(BC, 16, 9, 7, [20.0, 21.0, 7.7, 3.9, -0.28, 0.07, 0.0002, -0.0003, 0.01, 0.0, 0.0, 0.0])]
+
+
+def narrow_and_flat():
+    """The least width and the least height. 257 doesn't fit in a byte."""
+    found = []
+    for model, params in ORDINARY:
+        found += by((model, 2, 7, [9.0, 8.0, 0.25, 3.5] + params[4:]), 1)
+        found += by((model, 7, 2, [9.0, -8.0, 3.5, 0.25] + params[4:]), 4)
+    found += by((AFFINE, 257, 2, [200.0, 201.0, 127.0, 0.5]), 300)
+    return found + by((KB, 2, 257, [200.0, 201.0, 0.5, 127.0] + KB_EXAMPLE), 521)
+
+
+def refused_4():
+    """A NaN or an infinity at each parameter of each model, the patterns in turn. Some have a zero focal length or a
+    wrong size as well: 4 comes first."""
+    not_finite = NANS + [INF, SIGN + INF]
+    found = []
+    for model, good in ORDINARY:
+        for place in range(COUNTS[model]):
+            params = patterns(good)
+            if place % 3 == 1:
+                params[place % 2] = 0
+            params[place] = not_finite[len(found) % len(not_finite)]
+            found.append((model, 1 if place % 4 == 2 else 5, 4, (0, 1, LARGE)[place % 3], params))
+    return found
+
+
+def refused_5():
+    """fx or fy or both zero, of either sign; with a wrong size too: 5 comes first."""
+    found = []
+    for model, good in ORDINARY:
+        for fx, fy in ((0.0, 1.0), (1.0, 0.0), (-0.0, 600.0), (-600.0, -0.0), (0.0, -0.0)):
+            found.append((model, 3, 2, LARGE, [fx, fy] + good[2:]))
+        found.append((model, 1, 4097, 1, [-0.0] + good[1:]))
+    return found
+
+
+def refused_6():
+    """A width or a height just beyond its ends and far beyond: numbers that fit again once high bits are lost."""
+    model, _, _, params = LISTED
+    found = []
+    for wrong in (0, 1, 4097, 2**16 + 3, 2**32 + 3, 2**63 + 2, 2**64 - 1):
+        found += [(model, wrong, 2, LARGE, params), (model, 3, wrong, 0, params), (model, wrong, wrong, 1, params)]
+    for model, params in ORDINARY[1:]:
+        found += [(model, w, h, 1, params) for w, h in ((1, 48), (64, 1), (4097, 48), (64, 4097))]
+    return found
+
+
+# Jobs that end at a refused unit: the refusal's number, that unit, and the case. `test_endings` holds them to it.
+
+# With alpha 1/2 and beta 1, eucm's k is 1 - q/4: zero at a squared radius of 4, negative beyond.
+HALF_EUCM = [0.5, 1.0]
+
+REFUSED_SAMPLES = [
+    (10, 1, (KB, 3, 2, [1.0, 1.0, 3.0, 3.0, 0.0, 0.0, 0.0, 0.0])),
+    (10, 2, (KB, 3, 2, plain(KB))),  # a radius of 1.58
+    (10, 6, (KB, 3, 2, [1.1, 1.1, 0.0, 0.0, 0.0, 0.0, 0.0, 0.0])),
+    (11, 1, (KB, 3, 2, [1.0, 1.0, 0.5, -0.5, -1 / 3, 0.0, 0.0, 0.0])),  # a slope of 0
+    (11, 3, (KB, 3, 2, [1.0, 8.0, -0.5, -0.5, -1 / 3, 0.0, 0.0, 0.0])),
+    (11, 1, (AFFINE, 3, 2, [1e-309, 1.0, 5.0, 0.0])),  # a quotient overflows
+    (11, 7, (AFFINE, 3, 2, [1e-308, 1.0, 0.0, 0.0])),
+    (11, 2, (AFFINE, 3, 2, [1.0, -1e-308, 0.0, -0.5])),
+    (11, 1, (EUCM, 3, 2, [1.0, 1.0, -2.5, -0.5] + HALF_EUCM)),
+    (11, 11, (EUCM, 3, 2, [0.5, 1.0, 0.5, 0.5] + HALF_EUCM)),  # in the middle of the left side
+    (11, 12, (EUCM, 3, 2, [0.5, 1.0, 1.5, 0.5] + HALF_EUCM)),  # in the middle of the right side
+    (11, 1, (BC, 2, 2, [1.0, 1.0, 0.5, 0.5, 0.0, 0.0, 0.0, 0.0, 0.0, 1.0, 0.0, 0.0])),
+    (11, 2, (BC, 3, 3, [1e-51, 1e-51, -1.0, -1.0] + [0.0] * 8)),  # the sixth power of a radius overflows
+]
+
+# That a last sample is refused can't be asked here: it is a corner, and unit 2w + 2 has tried that pixel.
+REFUSED_REGIONS = [
+    (8, 14, (AFFINE, 3, 2, [1.0, 1.0, 1e300, 0.0])),  # no width
+    (8, 14, (AFFINE, 3, 2, [1.0, 1.0, 0.0, -1e300])),  # no height
+    (11, 14, (AFFINE, 3, 2, [2e-308, 1.0, 0.0, 0.0])),  # the doubled width overflows
+    (11, 14, (AFFINE, 3, 2, [1.0, 2e-308, 0.0, 0.0])),
+    (11, 12, (AFFINE, 2, 2, [4e-308, 1.0, -4.5, 0.0])),  # the sum of the edges overflows
+    (11, 12, (AFFINE, 2, 2, [-4e-308, 1.0, -4.5, 0.0])),
+    (8, 14, (AFFINE, 3, 2, [1.0, 2e-308, 1e300, 0.0])),  # 8 across, 11 down
+    (8, 14, (AFFINE, 3, 2, [2e-308, 1.0, 0.0, 1e300])),  # 11 across, 8 down
+    (8, 14, (EUCM, 3, 2, [1.0, 1.0, 1e17, 0.0, 0.0, 1.0])),
+    (8, 14, (KB, 3, 2, [1e21, 1e21, 1e17, 0.0] + KB_EXAMPLE)),
+    (8, 14, (BC, 3, 2, [1e21, 1e21, 0.0, 1e17] + BC_EXAMPLE)),
+]
+
+# (upper - lower)/6 rounds up, and six times that overflows: an infinite point between finite edges
+BRINK = float.fromhex("0x1.c000000000001p-1021")
+
+REFUSED_CELLS = [
+    (12, 13, (BC, 2, 2, plain(BC, 1e60))),
+    (12, 19, (BC, 3, 3, [1.0, 1.0, -1.0, -1.0, 1e55] + [0.0] * 7)),  # the end of a row
+    (12, 13, (KB, 2, 2, [3.0, 3.0, 0.5, 0.5, 0.0, 0.0, 0.0, 1e60])),
+    (12, 13, (EUCM, 2, 2, [1.0, 1e38, 0.5, 4e38] + HALF_EUCM)),  # v alone is too large
+    (12, 13, (EUCM, 2, 2, [1e38, 1.0, -4e38, 0.5] + HALF_EUCM)),  # u alone, below zero
+    (12, 15, (EUCM, 2, 2, [1.0, 1e38, 0.5, 2.15e38] + HALF_EUCM)),  # a row is done, the next begins too large
+    (12, 16, (EUCM, 3, 2, [1e38, 1.0, 2.15e38, 0.5] + HALF_EUCM)),
+    (11, 17, (BC, 3, 3, [2.2e-51, 2.2e-51, 3.0, 3.0] + [0.0] * 8)),  # the sixth power of a radius overflows
+    (11, 22, (BC, 3, 3, [2.2e-51, 2.2e-51, -1.0, -1.0] + [0.0] * 8)),
+    (11, 25, (BC, 3, 3, [2.5e-51, 2.5e-51, -1.0, -1.0] + [0.0] * 8)),  # the same at the last cell of all
+    (11, 13, (KB, 2, 2, [1.2, 1.2, 0.5, 0.5, 0.0, 0.0, 0.0, 5e307])),  # kb's slope is infinite: theta stays
+    (11, 14, (KB, 2, 2, [3.4, 3.4, -1.618, -1.618, 0.0, 0.0, 0.0, 5e307])),  # cell 1 lies at the centre
+    (11, 22, (EUCM, 4, 3, [4.0, 4.0, 0.0, 0.0, 0.4, -0.6])),  # the root of a negative
+    (11, 29, (AFFINE, 7, 2, [BRINK, 1.0, 0.0, 0.0])),
+    (11, 31, (AFFINE, 7, 3, [-BRINK, 1.0, 6.0, 0.0])),
+    (11, 35, (AFFINE, 2, 7, [1.0, BRINK, 0.0, 3.5])),  # the same in the last row
+]
+
+# Two points of a border have zeros of unlike sign, as k changes its sign, and a third is refused. The edges told
+# are those of the points before, so they show which zero was kept. The sign of a focal length changes both.
+ZERO_EDGES = [
+    (11, 3, (EUCM, 3, 3, [0.5, 1.0, -0.5, -0.5] + HALF_EUCM)),  # x: +0, then -0
+    (11, 3, (EUCM, 3, 3, [-0.5, 1.0, -0.5, -0.5] + HALF_EUCM)),  # x: -0, then +0
+    (11, 4, (EUCM, 3, 2, [0.25, 1.0, 0.5, -0.5] + HALF_EUCM)),  # y, upper edge: -0, then +0
+    (11, 4, (EUCM, 3, 2, [0.25, -1.0, 0.5, -0.5] + HALF_EUCM)),  # y, lower edge: +0, then -0
+]
+
+# Weak bc lenses with a border of exact points: 0 updates, and pixels halfway between two f32s.
+TIES = [
+    (BC, 5, 3, [4.0, 4.0, 2.0, 1.0, 2.0**-19] + [0.0] * 7),
+    (BC, 5, 3, [4.0, 4.0, 2.0, 1.0, -(2.0**-19)] + [0.0] * 7),
+    (BC, 3, 2, [4.0, 4.0, 1.0, 0.5, -3 * 2.0**-20] + [0.0] * 7),
+]
+
+# Pixels so small that the f32 is subnormal, or a zero.
+SMALL_CELLS = [
+    (EUCM, 3, 2, [1e-20, -1e-20, 0.0, 0.0] + HALF_EUCM),
+    (EUCM, 3, 2, [1e-22, 2e-23, 0.0, -0.0] + HALF_EUCM),
+    (EUCM, 3, 2, [1e-40, -1e-40, 0.0, -0.0] + HALF_EUCM),
+]
+
+# Every border sample takes all the updates there are, so that updates are at their limit in each record. Found by
+# a search, and cut short.
+MOST_UPDATES = [
+    (KB, 2, 2, [1.1035, 0.9418, 0.3335, 0.5, 0.106, -0.2004, 0.0025, -0.5064]),
+    (BC, 2, 2, [1.54, 1.54, 0.5, 0.5, -0.85, 0.16, 0.04, 0.07, -0.06, -0.26, 0.33, 0.9]),
+]
+
+
+# ---- wild cameras
+
+
+def stage(question):
+    """Where a question ends: its refusal's number, 0 for none, and a word."""
+    status, number, job, _, _ = built(question)
+    if job is None:
+        return number, "fresh"
+    if number == 0:
+        return 0, status
+    last = border(job.width, job.height)
+    if job.done < last:
+        return number, "unit 1" if job.done == 0 else "unit B" if job.done == last - 1 else "a sample"
+    return number, "cell 1" if job.done == last else "a cell"
+
+
+STAGES = ("fresh", "unit 1", "a sample", "unit B", "cell 1", "a cell", FINISHED, RUNNING)
+
+
+def wild(rng, model):
+    """Focal lengths of any size and sign. Half of them are of one size across and down, and most centres lie near
+    the image: else nearly no table would be finished."""
+    spans = (2, 6, 20, 60, 160, 340, 1021)
+    s, t = spans[rng.below(7)], spans[rng.below(7)]
+    fx, fy = sized(rng, t), sized(rng, t)
+    if rng.bits(1):
+        fy = math.copysign(fx * uniform(rng, 0.5, 2), fy)
+    params = [fx, fy]
+    for _ in range(2):
+        chance = rng.below(6)
+        exact = (0.0, -0.0, 0.5, 1.5)[rng.below(4)]
+        params.append(exact if chance == 0 else sized(rng, t) if chance == 1 else uniform(rng, -2, 4))
+    for _ in range(COUNTS[model] - 4):
+        chance = rng.below(8)
+        small = uniform(rng, -1, 1)
+        params.append(0.0 if chance == 0 else -0.0 if chance == 1 else small if chance < 4 else sized(rng, s))
+    return params
+
+
+def by_ending(rng, model, most, finished, tries):
+    """2 by 2 tables: of each ending that so many tries come to at most so many, and of those that finish as many as
+    said."""
+    have = Counter()
+    allowances = (1, 3, LARGE, 5)
+    for _ in range(tries):
+        params = wild(rng, model)
+        ending = stage(((model, tuple(params)), 2, 2, LARGE))
+        if ending[1] == "fresh":
+            continue
+        if have[ending] < (finished if ending[1] == FINISHED else most):
+            yield model, 2, 2, allowances[have.total() % 4], params
+            have[ending] += 1
+
+
+def kinds():
+    """Each kind's name and its questions. The seeds differ, so that a change in one kind leaves the others."""
+    yield "by hand", by_hand()
+    yield "64 by 48", ordinary()
+    yield "16 by 9, by sevens", by_sevens()
+    yield "narrow and flat", narrow_and_flat()
+    yield "refused 4", refused_4()
+    yield "refused 5", refused_5()
+    yield "refused 6", refused_6()
+    yield "refused at a sample", each_way(REFUSED_SAMPLES)
+    yield "refused at unit B", each_way(REFUSED_REGIONS)
+    yield "refused at a cell", each_way(REFUSED_CELLS)
+    yield "zeros as edges", each_way(ZERO_EDGES)
+    yield "halfway between two f32s", [q for case in TIES for q in by(case, 4)]
+    yield "small f32s", [q for case in SMALL_CELLS for q in by(case, LARGE)]
+    yield "as many updates as can be", [q for case in MOST_UPDATES for q in by(case, 1, 12, LARGE)]
+    for model, name in enumerate(MODELS):
+        yield f"{name}, wild", by_ending(Splitmix(70 + model), model, 3, 6, 3000)
+
+
+def bad_lines():
+    """Lines of 272 bytes that are not of the form: the program reads so many at a time. The last one is of the
+    form, and is bad because `main` cuts its end off."""
+    model, w, h, params = LISTED
+    good = question_line(model, w, h, LARGE, patterns(params))
+    bad = [" " * 271, "\t" * 271, good.replace("\t", " ")]
+    fields = good.split("\t")
+    one = fields[4]
+    # the model: the first number past the last, and large ones that fit again once high bits are lost
+    for wrong in (4, 2**8, 2**32, 2**63):
+        bad.append("\t".join([f"{wrong:016x}"] + fields[1:]))
+    # each field by itself: the neighbours of the digits' ranges, capitals; then each tab
+    for place in range(16):
+        wrong = ("/" + one[1:], one[:-1] + ":", "`" + one[1:], one[:-1] + "g", one[:-1] + "A")[place % 5]
+        bad.append("\t".join(fields[:place] + [wrong] + fields[place + 1 :]))
+    for place in range(1, 16):
+        bad.append("\t".join(fields[:place]) + " " + "\t".join(fields[place:]))
+    assert all(len(line) == 271 for line in bad)
+    return bad + [good]
+
+
+# ---- the files
+
+
+def halfway(z):
+    """Whether a finite z lies in the middle of two neighbouring f32s: `toward` zero or `away` from it, as it rounds."""
+    near = narrow(z)
+    rounded = value32(near)
+    if rounded == z:
+        return None
+    other = value32(near + 1 if abs(rounded) < abs(z) else near - 1)
+    if abs(z - rounded) != abs(other - z):
+        return None
+    return "away" if abs(rounded) > abs(z) else "toward"
+
+
+def value32(bits):
+    return struct.unpack("<f", struct.pack("<I", bits))[0]
+
+
+def cell_kinds(question, job, table):
+    """What can be said of the f32s of the cells done."""
+    camera, w, h, _ = question
+    for i in range(max(job.done - border(w, h), 0)):
+        v, u = divmod(i, w)
+        pixel = answer(camera[0], DISTORT, camera[1], *cell_point(job.region, w, h, u, v))[1]
+        for z, bits in zip(pixel, table[2 * i : 2 * i + 2]):
+            yield "f32s"
+            if bits >> 31:
+                yield "f32s with a minus"
+            if bits % 2**31 == 0:
+                yield "f32s that are zeros"
+            elif bits % 2**31 < 2**23:
+                yield "f32s that are subnormal"
+            if halfway(z):
+                yield f"pixels halfway between two f32s, rounded {halfway(z)}"
+
+
+def ask():
+    """The lines of stdin and of stdout, each question once, and what is to be said about them."""
+    asked, answers, said = {}, [], Counter()
+    for kind, questions in kinds():
+        before = len(asked)
+        for model, w, h, allowance, params in questions:
+            line = question_line(model, w, h, allowance, patterns(params))
+            if line in asked:
+                continue
+            asked[line] = kind
+            answers += reply(line + "\n")
+            question = read(line + "\n")
+            assert question[0][1] == tuple(map(number_of, params)) or stage(question) == (4, "fresh")
+            said[("ending", MODELS[model], *stage(question))] += 1
+            _, _, job, table, taken = built(question)
+            for status, _, _ in taken:
+                said["turns", status] += 1
+            if job:
+                said["cells", "done"] += max(job.done - border(w, h), 0)
+                for word in cell_kinds(question, job, table):
+                    said["cells", word] += 1
+                most = LIMITS[model] * border(w, h)
+                if most and job.done >= border(w, h):
+                    said["updates", MODELS[model]] = max(said["updates", MODELS[model]], job.updates / most)
+        said["kind", kind] = len(asked) - before
+    return list(asked), answers, said
+
+
+def summary(said, count, bad):
+    """What the questions cover, on stderr. It asserts what may not be missing."""
+
+    def say(*words):
+        print(*words, file=sys.stderr)
+
+    for key, n in said.items():
+        if key[0] == "kind":
+            say(f"{n:5} {key[1]}")
+    endings = {key[1:] for key in said if key[0] == "ending"}
+    columns = sorted({ending[1:] for ending in endings}, key=lambda c: (STAGES.index(c[1]), c[0]))
+    say(f"\n{'ends at':24}" + "".join(f"{name:>8}" for name in MODELS))
+    for number, word in columns:
+        label = f"{word}, refused {number}" if number else word
+        say(f"{label:24}" + "".join(f"{said['ending', name, number, word]:8}" for name in MODELS))
+    say("\nturns:", ", ".join(f"{key[1]} {n}" for key, n in said.items() if key[0] == "turns"))
+    for key, n in said.items():
+        if key[0] == "cells":
+            say(f"{n:7} {'cells done' if key[1] == 'done' else key[1]}")
+    for name in ("kb", "bc"):
+        say(f"updates of a whole {name} border, at most: {said['updates', name]:.3f} of the limit")
+    say(f"\n{count} questions, {bad} bad lines")
+    # every number that a job can be refused with, at each place where it can be
+    everywhere = [(4, "fresh"), (5, "fresh"), (6, "fresh"), (11, "unit 1"), (11, "a sample"), (8, "unit B")]
+    everywhere += [(11, "a cell"), (0, FINISHED), (0, RUNNING)]
+    wanted = [(name, *ending) for name in MODELS for ending in everywhere]
+    wanted += [("kb", 10, "unit 1"), ("kb", 10, "a sample"), ("affine", 11, "unit B")]
+    wanted += [(name, *ending) for name in MODELS[1:] for ending in ((11, "cell 1"), (12, "cell 1"), (12, "a cell"))]
+    for ending in wanted:
+        assert said[("ending", *ending)], ending
+    assert said["updates", "kb"] == said["updates", "bc"] == 1
+    for word in ("toward", "away"):
+        assert said["cells", f"pixels halfway between two f32s, rounded {word}"]
+
+
+# ---- the self-test
+
+# Document 01's table, as printed there, and the same by hand: the edges are -0.5 and 2.5 across, -0.5 and 1.5 down;
+# so mid is 1 and 0.5, range 3 and 2, and the region goes from -2 to 4 and from -1.5 to 2.5. Increments 3 and 4.
+LISTING = """table 3 2 0
+region c000000000000000 bff8000000000000 4010000000000000 4004000000000000
+cell 0 0 c0000000 bfc00000
+cell 1 0 3f800000 bfc00000
+cell 2 0 40800000 bfc00000
+cell 0 1 c0000000 40200000
+cell 1 1 3f800000 40200000
+cell 2 1 40800000 40200000"""
+
+# its fourteen border samples, written out from the rule
+LISTED_BORDER = [
+    (-0.5, -0.5), (-0.5, 1.5), (0.5, -0.5), (0.5, 1.5), (1.5, -0.5), (1.5, 1.5), (2.5, -0.5), (2.5, 1.5),
+    (-0.5, -0.5), (2.5, -0.5), (-0.5, 0.5), (2.5, 0.5), (-0.5, 1.5), (2.5, 1.5),
+]  # fmt: skip
+
+ENDINGS = REFUSED_SAMPLES + REFUSED_REGIONS + REFUSED_CELLS + ZERO_EDGES
+
+
+def cases():
+    """Cases of all kinds, those that finish and those that don't, none of them large."""
+    found = [LISTED] + [case for _, _, case in ENDINGS] + TIES + SMALL_CELLS + MOST_UPDATES
+    found += [(model, w, h, params) for model, w, h, _, params in by_sevens() + narrow_and_flat()]
+    for model in range(4):
+        rng = Splitmix(80 + model)
+        found += [(model, 2 + i % 3, 2 + i % 2, wild(rng, model)) for i in range(150)]
+    return [case for case in found if fresh((case[0], tuple(case[3])), *case[1:3])[0] == 0]
+
+
+def started(case):
+    """The fresh record of a case, and a table in which no two places hold the same."""
+    model, w, h, params = case
+    number, job = fresh((model, tuple(params)), w, h)
+    assert number == 0
+    return job, list(range(2 * w * h))
+
+
+def test_listing():
+    job, table = started(LISTED)
+    assert (border(3, 2), total(3, 2)) == (14, 20) and samples(3, 2) == LISTED_BORDER
+    end = Job(job.camera, 3, 2, 20, (-0.5, -0.5, 2.5, 1.5), (-2.0, -1.5, 4.0, 2.5), 0)
+    assert turn(job, table, 100) == (FINISHED, 0, end)
+    assert increments((-2.0, -1.5, 4.0, 2.5), 3, 2) == (3.0, 4.0)
+    _, _, job, table, _ = built(read(question_line(AFFINE, 3, 2, 100, patterns(LISTED[3])) + "\n"))
+    lines = [f"table {job.width} {job.height} {job.updates}", box_line("region", job.region).replace("\t", " ")]
+    lines += [f"cell {i % 3} {i // 3} {table[2 * i]:08x} {table[2 * i + 1]:08x}" for i in range(6)]
+    assert lines == LISTING.split("\n")
+    print("docs/RULES.md's table: as printed there")
+
+
+def test_allowances():
+    """The same table for every allowance, the units done after each turn, and the cells after 14 and 17 units."""
+    job, whole = started(LISTED)
+    _, _, end = turn(job, whole, 100)
+    for allowance in range(1, 22):
+        job, table = started(LISTED)
+        before = list(table)
+        for n, (status, number, job) in enumerate(turns(job, table, allowance), 1):
+            assert job.done == min(n * allowance, 20) and number == 0
+            assert status == (FINISHED if job.done == 20 else RUNNING)
+            cells = max(job.done - 14, 0)
+            assert table[: 2 * cells] == whole[: 2 * cells] and table[2 * cells :] == before[2 * cells :]
+        assert job == end and n == -(-20 // allowance)
+    job, table = started(LISTED)
+    before = list(table)
+    assert turn(job, table, 0) == (RUNNING, 0, job) and table == before
+    _, _, job = turn(job, table, 14)
+    assert table == before and job.region == (-2.0, -1.5, 4.0, 2.5)
+    _, _, job = turn(job, table, 3)
+    assert table == whole[:6] + before[6:]
+    assert turn(end, whole, 0) == turn(end, whole, 5) == (FINISHED, 0, end)
+    print("allowances: 1 to 21")
+
+
+def test_by_hand():
+    """Numbers of the rules and of docs/DIFFERENCES.md, and sizes at their ends."""
+    plain_camera = (AFFINE, (1.0, 1.0, 0.0, 0.0))
+    sizes = {(1, 2): 6, (2, 1): 6, (2, 2): 0, (MOST, MOST): 0, (MOST + 1, 2): 6, (2, MOST + 1): 6, (0, 2): 6}
+    assert all(fresh(plain_camera, *size)[0] == number for size, number in sizes.items())
+    assert fresh((AFFINE, (-0.0, 1.0, 0.0, 0.0)), 3, 2)[0] == 5 and fresh((AFFINE, (0.0, 1.0, 0.0, 0.0)), 1, 2)[0] == 5
+    assert fresh((AFFINE, (0.0, math.nan, 0.0, 0.0)), 1, 2)[0] == 4
+    # mid as half of the sum, and not the lower edge plus half of the range
+    thirds = built(((AFFINE, (3.0, 3.0, 0.7, 0.7)), 3, 2, LARGE))[2]
+    low, _, high, _ = thirds.edges
+    otherwise = low + (high - low) / 2 - (high - low)
+    assert [spelled(z) for z in (thirds.region[0], otherwise)] == ["bfeccccccccccccd", "bfeccccccccccccc"]
+    # bc with k1 = 1e60: the pixel that doesn't fit
+    job = built(((BC, tuple(plain(BC, 1e60))), 2, 2, LARGE))[2]
+    pixel = answer(BC, DISTORT, job.camera[1], *cell_point(job.region, 2, 2, 0, 0))[1]
+    assert all(-1.08e44 < z < -1.06e44 for z in pixel)
+    # an infinite point from finite increments
+    job = built(((AFFINE, (BRINK, 1.0, 0.0, 0.0)), 7, 2, LARGE))[2]
+    assert cell_point(job.region, 7, 2, 6, 0)[0] == math.inf > max(increments(job.region, 7, 2))
+    # zeros as edges: which sign was kept
+    kept = [[spelled(z)[0] for z in built(((m, tuple(p)), w, h, LARGE))[2].edges] for _, _, (m, w, h, p) in ZERO_EDGES]
+    assert [kept[0][0], kept[0][2], kept[1][0], kept[1][2], kept[2][3], kept[3][1]] == list("008880")
+    assert list(map(spelled, extended((0.0, -0.0, 0.0, -0.0), -0.0, 0.0))) == list(map(spelled, (0.0, -0.0, 0.0, -0.0)))
+    for model, w, h, params in MOST_UPDATES:
+        status, _, job, _, _ = built(((model, tuple(params)), w, h, LARGE))
+        assert status == FINISHED and job.updates == LIMITS[model] * border(w, h)
+    print("by hand: as said")
+
+
+def test_endings():
+    """Each refusing case ends where its list says. The unit that refuses leaves record and table as they were, however
+    often it is tried; and an allowance that ends ahead of it doesn't meet it."""
+    for number, refused, case in ENDINGS:
+        job, table = started(case)
+        assert turn(job, table, refused - 1)[:2] == (RUNNING, 0), case
+        _, _, job = turn(*started(case), refused - 1)
+        assert job.done == refused - 1
+        before = list(table)
+        assert unit(job) == (number, None, None), (case, unit(job))
+        for allowance in (1, 2, LARGE):
+            assert turn(job, table, allowance) == (REFUSED, number, job) and table == before
+        assert turn(job, table, 0) == (RUNNING, 0, job)
+        again, other = started(case)
+        assert turn(again, other, LARGE) == (REFUSED, number, job) and other == before
+    print("refused units:", len(ENDINGS))
+
+
+def test_splits():
+    """Demand 3: allowances of any kind, zeros among them. Done is the smaller of their sum and F; the cells done are
+    those of the Rust's function, all others untouched; the updates are the sum over the samples done."""
+    rng, tried = Splitmix(90), Counter()
+    for case in cases():
+        model, w, h, params = case
+        job, one_go = started(case)
+        untouched = list(one_go)
+        status, number, end = turn(job, one_go, LARGE)
+        rust_number, rust_region, rust_table = distort_table((model, tuple(params)), w, h)
+        assert rust_number == number
+        if number == 0:
+            # a repr tells one zero from the other
+            assert repr(rust_region) == repr(end.region) and rust_table == one_go
+        each = []
+        for u, v in samples(w, h)[: end.done]:
+            each.append(answer(model, UNDISTORT, params, u, v)[1][2])
+        assert all(n <= LIMITS[model] for n in each)
+        job, table = started(case)
+        spent = 0
+        while True:
+            allowance = (0, 1, 2, rng.below(9), rng.below(total(w, h)))[rng.below(5)]
+            spent += allowance
+            told, refusal, job = turn(job, table, allowance)
+            assert job.done == min(spent, end.done) and job.updates == sum(each[: job.done])
+            cells = 2 * max(job.done - border(w, h), 0)
+            assert table[:cells] == one_go[:cells] and table[cells:] == untouched[cells:]
+            assert call_refused(job, table) == 0
+            if spent > end.done or job.done == total(w, h):
+                assert (told, refusal) == (status, number)
+                break
+            assert (told, refusal) == (RUNNING, 0)
+        assert repr(job) == repr(end)
+        tried[status, number] += 1
+    print("split into turns:", dict(tried))
+
+
+def test_admitted():
+    """Every record that a build can have is admitted: those of all cases, unit by unit."""
+    tried = 0
+    for case in cases():
+        job, table = started(case)
+        while True:
+            assert turn(job, table, 0) == (FINISHED if job.done == total(*case[1:3]) else RUNNING, 0, job)
+            tried += 1
+            if job.done == total(*case[1:3]):
+                break
+            number, after, _ = unit(job)
+            if number:
+                break
+            job = after
+    print("records of a build, admitted:", tried)
+
+
+def test_impossible():
+    """Each line of 13 by itself, at its limit and beyond; and that 4, 5, 6, 7 come ahead of it."""
+    tried = Counter()
+
+    def tell(number, job, table):
+        before = list(table)
+        for allowance in (0, 1, LARGE):
+            told = turn(job, table, allowance)
+            if number:
+                assert told[:2] == (REFUSED, number) and told[2] is job and table == before, (job, told)
+            else:
+                assert allowance or told[0] != REFUSED, (job, told)
+            table[:] = before
+        tried[number] += 1
+
+    inf, nan = math.inf, math.nan
+    for case in [LISTED] + TIES + MOST_UPDATES + [(KB, 5, 3, [9.0, 8.0, 2.0, 1.0] + KB_EXAMPLE)]:
+        model, w, h, _ = case
+        last, most, limit = border(w, h), total(w, h), LIMITS[model]
+        job, table = started(case)
+        _, _, end = turn(job, table, LARGE)
+        # done
+        tell(0, replace(end, done=most), table)
+        for done in (most + 1, 2**32, 2**64 - 1):
+            tell(13, replace(end, done=done), table)
+        # updates: only samples count
+        for done in (0, 1, 2, last - 1, last, last + 1, most):
+            tell(0, replace(end, done=done, updates=limit * min(done, last)), table)
+            tell(13, replace(end, done=done, updates=limit * min(done, last) + 1), table)
+            tell(13, replace(end, done=done, updates=2**64 - 1), table)
+        # edges, however few units are done
+        for place in range(4):
+            for wrong in (nan, inf, -inf):
+                for done in (0, 1, last, most):
+                    edges = (*end.edges[:place], wrong, *end.edges[place + 1 :])
+                    tell(13, replace(end, done=done, edges=edges, updates=0), table)
+                    region = (*end.region[:place], wrong, *end.region[place + 1 :])
+                    tell(4, replace(end, done=done, region=region, updates=0), table)
+                    tell(4, replace(end, done=done, region=region, edges=edges, updates=0), table)
+        # edges that are finite, but of no build, are admitted
+        tell(0, replace(end, edges=(5.0, 5.0, -5.0, -5.0)), table)
+        # the region: from unit B on its increments are judged, before it not
+        x0, y0, x1, y1 = end.region
+        wrong = [(x1, y0, x0, y1), (x0, y1, x1, y0), (x0, y0, x0, y1), (x0, y0, x1, y0), ZEROS]
+        wrong += [(-1e308, y0, 1e308, y1), (x0, -1e308, x1, 1e308)]
+        for region in wrong:
+            for done in (last, last + 1, most):
+                tell(13, replace(end, done=done, region=region), table)
+            for done in (0, 1, last - 1):
+                tell(0, replace(end, done=done, region=region, updates=0), table)
+        # the order
+        bad = replace(end, done=most + 1)
+        params = job.camera[1]
+        for number, wrong_job, wrong_table in (
+            (7, bad, table[:-1]),
+            (7, bad, table + [0]),
+            (7, end, []),
+            (6, replace(bad, width=1), table[:-1]),
+            (6, replace(bad, height=MOST + 1), []),
+            (5, replace(bad, width=1, camera=(model, (-0.0, *params[1:]))), []),
+            (5, replace(end, camera=(model, (params[0], 0.0, *params[2:]))), table),
+            (4, replace(bad, width=1, camera=(model, (0.0, nan, *params[2:]))), []),
+            (4, replace(bad, width=1, camera=(model, (0.0, *params[1:])), region=(0.0, 0.0, 0.0, inf)), []),
+        ):
+            tell(number, wrong_job, wrong_table)
+    print("records judged, by number:", dict(sorted(tried.items())))
+
+
+def test_carried():
+    """What a record brings along: edges are overwritten by sample 1, a region by unit B. Unit B tells its sample's
+    refusal ahead of the increments', and 8 ahead of 11."""
+    job, table = started(LISTED)
+    odd = replace(job, edges=(7.0, 7.0, -7.0, -7.0), region=(9.0, 8.0, 7.0, 6.0))
+    _, _, after = turn(odd, table, 1)
+    assert after.edges == (-0.5, -0.5, -0.5, -0.5) and after.region == (9.0, 8.0, 7.0, 6.0)
+    _, _, after = turn(odd, table, 13)
+    assert after.region == (9.0, 8.0, 7.0, 6.0)
+    assert turn(odd, table, 14)[2].region == (-2.0, -1.5, 4.0, 2.5)
+    # edges handed in inside out: sample 14 is (2.5, 1.5), and all four edges move there, so the region has no width.
+    # No record brings a negative increment to unit B, as its sample always ends up between the edges.
+    inside_out = replace(job, done=13, edges=(20.0, 20.0, -20.0, -20.0))
+    assert turn(inside_out, table, 1) == (REFUSED, 8, inside_out)
+    assert extended((20.0, 20.0, 10.0, 10.0), 2.5, 1.5) == (2.5, 1.5, 10.0, 10.0)
+    assert region_of((2.5, 1.5, 10.0, 10.0)) == (-1.25, -2.75, 13.75, 14.25)
+    # the corner is refused 10, and the edges alone would give 8 or 11
+    for edges in (ZEROS, (-1e308, -1e308, 1e308, 1e308)):
+        steep = Job((KB, tuple(plain(KB))), 3, 2, 13, edges)
+        assert turn(steep, table, 1) == (REFUSED, 10, steep)
+    narrow_and_wide = replace(job, done=13, edges=(2.5, -1e308, 2.5, 1e308))
+    assert turn(narrow_and_wide, table, 1) == (REFUSED, 8, narrow_and_wide)
+    wide = replace(job, done=13, edges=(-1e308, -0.5, 1e308, 1.5))
+    assert turn(wide, table, 1) == (REFUSED, 11, wide)
+    print("records from elsewhere: as said")
+
+
+def test_narrow():
+    """The platform's conversion to an f32 against the one by whole numbers that leaf_vectors has."""
+    rng, tried = Splitmix(91), 0
+    some = [rng.bits(64) for _ in range(2000)]
+    some += [(rng.bits(1) << 63) + (rng.below(280) + 1023 - 152 << 52) + rng.bits(52) for _ in range(4000)]
+    some += [(b >> 28 << 28) for b in some]
+    for b in some:
+        if math.isfinite(value(b)):
+            owed = exact_narrow(b)
+            assert narrow(value(b)) == (None if owed % 2**31 == 0x7F800000 else owed), hex(b)
+            tried += 1
+    assert [halfway(z) for z in (1 + 2.0**-24, -1 - 3 * 2.0**-24, 1.0, 0.1)] == ["toward", "away", None, None]
+    print("narrowed:", tried)
+
+
+def test_lines():
+    """Bad lines are bad, and the last of them wouldn't be with its end. And one answer in full."""
+    bad = bad_lines()
+    assert all(read(line + "\n") is None for line in bad[:-1]) and read(bad[-1]) is None and read(bad[-1] + "\n")
+    line = question_line(AFFINE, 3, 2, 19, patterns(LISTED[3])) + "\n"
+    assert len(line) == 272
+    lines = reply(line)
+    assert lines[:3] == ["fresh", "running\t19\t0", "finished\t20\t0"] and len(lines) == 12
+    assert lines[3] == "edges\tbfe0000000000000\tbfe0000000000000\t4004000000000000\t3ff8000000000000"
+    assert [text.replace("\t", " ") for text in lines[4:11]] == LISTING.split("\n")[1:] and lines[11] == "untouched\t0"
+    line = question_line(AFFINE, 3, 2, 0, patterns(LISTED[3])) + "\n"
+    zeros = "\t0000000000000000" * 4
+    assert reply(line) == ["fresh", "running\t0\t0", "edges" + zeros, "region" + zeros, "untouched\t12"]
+    line = question_line(AFFINE, 3, 2, 1000, patterns([1.0, 1.0, 1e300, 0.0])) + "\n"
+    assert reply(line)[1] == "refused\t8\t13\t0" and reply(line)[-1] == "untouched\t12"
+    line = question_line(AFFINE, 1, 2, 0, patterns(LISTED[3])) + "\n"
+    assert reply(line) == ["refused\t6"]
+    print("lines: as said")
+
+
+def self_test():
+    test_listing()
+    test_allowances()
+    test_by_hand()
+    test_endings()
+    test_splits()
+    test_admitted()
+    test_impossible()
+    test_carried()
+    test_narrow()
+    test_lines()
+
+
+def main():
+    asked, answers, said = ask()
+    bad = bad_lines()
+    count = len(asked)
+    asked += bad
+    # every bad line has its end but the last, which would be good with it
+    for line in bad[:-1]:
+        answers += reply(line + "\n")
+    answers += reply(bad[-1]) + [f"lines\t{len(asked)}"]
+    assert answers[-len(bad) - 1 : -1] == ["bad"] * len(bad)
+    stdin, stdout = ("".join(line + "\n" for line in lines) for lines in (asked, answers))
+    (FOLDER / "stdin").write_bytes(stdin[:-1].encode("ascii"))
+    (FOLDER / "stdout").write_bytes(stdout.encode("ascii"))
+    summary(said, count, len(bad))
+    print(f"stdin {len(stdin) - 1} bytes, stdout {len(stdout)} bytes", file=sys.stderr)
+
+
+if __name__ == "__main__":
+    if sys.argv[1:] == ["--self-test"]:
+        self_test()
+    else:
+        main()
