@@ -17,7 +17,9 @@ use Rattle.arctan.specs.declared.Slope.{Slope}
 use Rattle.arctan.specs.declared.Slope.the-variants.{Is, TooSteep}
 use Rattle.lens.specs.Constants.{zeros, ones, eps}
 use Rattle.lens.specs.Finite.{all-finite}
+use Rattle.lens.specs.Judgement.{decided}
 use Rattle.lens.specs.Refusal.{number}
+use Rattle.lens.specs.Rows.{_when_, first}
 use Rattle.lens.specs.Undistorted.{direct, told}
 use Rattle.lens.specs.declared.Jacobian.{Jacobian}
 use Rattle.lens.specs.declared.Pixel.{Pixel}
@@ -27,7 +29,7 @@ use Rattle.lens.specs.declared.Refusal.the-variants.{NotFinite, ZeroFocalLength
 use Rattle.lens.specs.declared.Settled.{Settled}
 use Rattle.lens.specs.declared.Undistorted.{Undistorted}
 use Rattle.lens.specs.declared.Undistorted.the-variants as found
-use Rattle.lens.proofs.Laws.{number-one-to-one, number-within, told-one-to-one}
+use Rattle.lens.proofs.Laws.{number-within, told-pixel-one-to-one, told-one-to-one}
 use Rattle.affine.specs.Affine as affine
 use Rattle.affine.specs.declared.AffineParams.{AffineParams}
 use Rattle.affine.proofs.Laws as affine-laws
@@ -39,16 +41,16 @@ use Rattle.kannala_brandt.proofs.Laws as kb-laws
 use Rattle.brown_conrady.specs.BrownConrady as bc
 use Rattle.brown_conrady.proofs.Laws as bc-laws
 use Rattle.kannala_brandt.specs.declared.Reached.{Reached}
-use Rattle.camera.specs.Camera.{parameters, zero-focal, judged, decided, pixel-of, finite-pixel, distort, point-of, finite-point, undistort-judged, undistort, limit, slopes, finite-jacobian, refused, dx-distort-x, judged-params, parameter-slopes, dx-distort-params}
-use Rattle.camera.specs.Rows.{_when_, first, not-finite, steep, too-steep, point-not-finite, distort-rows, undistort-rows, dx-distort-x-rows, dx-distort-params-rows}
-use Rattle.camera.specs.Told.{ToldPixel, told-pixel}
+use Rattle.camera.specs.Camera.{parameters, zero-focal, judged, pixel-of, finite-pixel, distort, point-of, finite-point, undistort-judged, undistort, limit, slopes, finite-jacobian, refused, dx-distort-x, judged-params, parameter-slopes, dx-distort-params}
+use Rattle.camera.specs.Rows.{not-finite, steep, too-steep, point-not-finite, distort-rows, undistort-rows, dx-distort-x-rows, dx-distort-params-rows}
+use Rattle.lens.specs.Distorted.{told-pixel}
 use Rattle.camera.specs.declared.Camera.{Camera}
 use Rattle.camera.specs.declared.Camera.the-variants.{Affine, EnhancedUnified, KannalaBrandt, BrownConrady}
 use Rattle.camera.specs.declared.Differentiated.{Differentiated}
-use Rattle.camera.specs.declared.Judgement.{Judgement}
-use Rattle.camera.specs.declared.Judgement.the-variants as Judged
-use Rattle.camera.specs.declared.Distorted.{Distorted}
-use Rattle.camera.specs.declared.Distorted.the-variants.{At, Refused}
+use Rattle.lens.specs.declared.Judgement.{Judgement}
+use Rattle.lens.specs.declared.Judgement.the-variants as Judged
+use Rattle.lens.specs.declared.Distorted.{Distorted}
+use Rattle.lens.specs.declared.Distorted.the-variants.{At, Refused}
 use Rattle.camera.proofs.Steep as far-out
 use Rattle.camera.proofs.finite_parameters.Reads as finite-parameters-contract
 use Rattle.camera.proofs.zero_focal.Reads as zero-focal-contract
@@ -61,16 +63,6 @@ use Rattle.camera.proofs.dx_distort_x.Reads as dx-distort-x-contract
 use Rattle.camera.proofs.dx_distort_params.Reads as dx-distort-params-contract
 
 -- ---- each contract permits one answer
-
-apart : (p : Pixel) (r : Refusal) → told-pixel (At p) ≡ told-pixel (Refused r) → ⊥
-apart p r e = omega (arith, ap (λ (t : ToldPixel). t .number) e, number-within r)
-
--- What a distort tells determines it: two that tell the same number and pixel are equal.
-pub told-pixel-one-to-one : (a b : Distorted) → told-pixel a ≡ told-pixel b → a ≡ b
-told-pixel-one-to-one (At p) (At q) e = ap (λ (t : ToldPixel). At (t .pixel)) e
-told-pixel-one-to-one (At p) (Refused r) e = absurd (apart p r e)
-told-pixel-one-to-one (Refused r) (At p) e = absurd (apart p r (sym e))
-told-pixel-one-to-one (Refused q) (Refused r) e = ap Refused (number-one-to-one q r (ap (λ (t : ToldPixel). t .number) e))
 
 -- Any two answers to one call that the contract of an operation permits are equal, for each of the four.
 pub determined : Determined distort-contract.Post × Determined undistort-contract.Post × Determined dx-distort-x-contract.Post × Determined dx-distort-params-contract.Post

@@ -9,6 +9,7 @@ use Rattle.arctan.specs.Arctangent.{arctangent}
 use Rattle.arctan.specs.Tangent.{tangent}
 use Rattle.lens.specs.Finite.{all-finite}
 use Rattle.lens.specs.Jacobian.{twoRows}
+use Rattle.lens.specs.Judgement.{decided}
 use Rattle.lens.specs.Refusal.{number}
 use Rattle.lens.specs.declared.Jacobian.{Jacobian}
 use Rattle.lens.specs.declared.Pixel.{Pixel}
@@ -24,10 +25,10 @@ use Rattle.brown_conrady.specs.BrownConrady as bc
 use Rattle.camera.specs.declared.Camera.{Camera}
 use Rattle.camera.specs.declared.Camera.the-variants.{Affine, EnhancedUnified, KannalaBrandt, BrownConrady}
 use Rattle.camera.specs.declared.Differentiated.{Differentiated}
-use Rattle.camera.specs.declared.Distorted.{Distorted}
-use Rattle.camera.specs.declared.Distorted.the-variants as pixels
-use Rattle.camera.specs.declared.Judgement.{Judgement}
-use Rattle.camera.specs.declared.Judgement.the-variants.{Taken, Refused}
+use Rattle.lens.specs.declared.Distorted.{Distorted}
+use Rattle.lens.specs.declared.Distorted.the-variants as pixels
+use Rattle.lens.specs.declared.Judgement.{Judgement}
+use Rattle.lens.specs.declared.Judgement.the-variants.{Taken, Refused}
 
 -- ---- before: 4, then 5
 
@@ -52,11 +53,6 @@ judged camera x y =
     cond (all-finite (parameters camera) && (finite x && finite y))
     (cond (zero-focal camera) (Refused ZeroFocalLength) Taken)
     (Refused NotFinite)
-
--- a call that is refused so, and one that is taken
-abbrev pub decided : {A : Type 0} → Judgement → (Refusal → A) → A → A
-decided (Refused refusal) refuse answer = refuse refusal
-decided Taken refuse answer = answer
 
 -- ---- distort: the model's pixel, or 11
 

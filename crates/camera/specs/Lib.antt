@@ -1,3 +1,2 @@
 pub mod Camera
 pub mod Rows
-pub mod Told

@@ -1,6 +1,6 @@
 -- The rows of the refusal table (docs/RULES.md, 5.1) that a call with one point can meet, in the order they are tried: each number, and when it is given. The laws hold the four
 -- operations to them. Definitions only.
-use mathlib.Core.Bool.{Bool, true, false, not, cond, _&&_}
+use mathlib.Core.Bool.{Bool, true, false, not, _&&_}
 use mathlib.Core.List.{List, [], _∷_}
 use Prim.Native.Nat.{ℕ}
 use lib.Ieee.{Float, le}
@@ -11,6 +11,7 @@ use Rattle.arctan.specs.declared.Slope.{Slope}
 use Rattle.arctan.specs.declared.Slope.the-variants.{Is, TooSteep}
 use Rattle.lens.specs.Constants.{eps}
 use Rattle.lens.specs.Finite.{all-finite}
+use Rattle.lens.specs.Rows.{Row, _when_}
 use Rattle.lens.specs.declared.Pixel.{Pixel}
 use Rattle.lens.specs.declared.Point.{Point}
 use Rattle.lens.specs.declared.Undistorted.{Undistorted}
@@ -19,20 +20,6 @@ use Rattle.kannala_brandt.specs.KannalaBrandt as kb
 use Rattle.camera.specs.Camera.{parameters, zero-focal, pixel-of, point-of, slopes, parameter-slopes}
 use Rattle.camera.specs.declared.Camera.{Camera}
 use Rattle.camera.specs.declared.Camera.the-variants.{Affine, EnhancedUnified, KannalaBrandt, BrownConrady}
-
--- a number, and whether its row holds
-infix 20 _when_
-pub record Row : Type 0 where
-  pub number : ℕ
-  pub holds : Bool
-
-abbrev pub _when_ : ℕ → Bool → Row
-number when holds = record { number = number; holds = holds }
-
--- the number of the first row that holds, and 0 if none does
-abbrev pub first : List Row → ℕ
-first [] = 0
-first (row ∷ rest) = cond (row .holds) (row .number) (first rest)
 
 -- 4: a parameter or a number of the point or pixel (x, y) is NaN or infinite
 abbrev pub not-finite : Camera → Float → Float → Bool

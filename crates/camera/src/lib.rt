@@ -2,15 +2,17 @@
 ghost use mathlib.Core.Path.{_≡_};
 ghost use mathlib.Core.Bool.{_&&_};
 ghost use lib.Ieee.Scale.{finite};
+ghost use Rattle.lens.specs.Distorted.{told-pixel};
 ghost use Rattle.lens.specs.Finite.{all-finite};
 ghost use Rattle.lens.specs.Undistorted.{told};
 ghost use Rattle.camera.specs.Camera.{parameters, either-zero, zero-focal, judged, pixel-of, finite-pixel, distort-judged, distort, point-of, finite-point, undistort-judged, undistort, limit, refused, finite-jacobian, slopes, dx-distort-x, judged-params, parameter-slopes, dx-distort-params};
-ghost use Rattle.camera.specs.Told.{told-pixel};
 use affine::AffineParams;
 use brown_conrady::BrownConradyParams;
 use enhanced_unified::EnhancedUnifiedParams;
 use kannala_brandt::KannalaBrandtParams;
+use lens::Distorted;
 use lens::Jacobian;
+use lens::Judgement;
 use lens::Pixel;
 use lens::Point;
 use lens::Refusal;
@@ -24,22 +26,10 @@ pub enum Camera {
     BrownConrady(BrownConradyParams),
 }
 
-// What distort answers: a pixel, or why there is none.
-pub enum Distorted {
-    At(Pixel),
-    Refused(Refusal),
-}
-
 // What the derivatives answer: number 0 and a Jacobian, or a refusal's number and zeros. No enum, since an enum can't hold the Jacobian's array.
 pub struct Differentiated {
     pub number: u8,
     pub jacobian: Jacobian,
-}
-
-// Whether a call is taken up.
-pub enum Judgement {
-    Taken,
-    Refused(Refusal),
 }
 
 // Whether every parameter is finite.
@@ -82,6 +72,7 @@ fn either_zero(fx: f64, fy: f64) -> bool
     }
 }
 
+// The same of a camera: what 5 asks.
 pub fn zero_focal(camera: Camera) -> bool
     ensures { λ r. ⌜ r ≡ zero-focal camera ⌝ }
 {

@@ -11,13 +11,15 @@ use Rattle.lens.specs.declared.Settled.{Settled}
 use Rattle.lens.specs.declared.Undistorted.the-variants.{At, Refused}
 use Rattle.lens.specs.Undistorted.{told}
 use Rattle.lens.specs.declared.Undistorted.{Undistorted}
-use Rattle.camera.specs.Camera.{decided, undistort-judged}
+use Rattle.lens.specs.Judgement.{decided}
+use Rattle.camera.specs.Camera.{undistort-judged}
 use Rattle.camera.specs.declared.Camera.{Camera}
-use Rattle.camera.specs.declared.Judgement.{Judgement}
-use Rattle.camera.specs.declared.Judgement.the-variants as judged
+use Rattle.lens.specs.declared.Judgement.{Judgement}
+use Rattle.lens.specs.declared.Judgement.the-variants as judged
+use Rattle.region.specs.Region.{increments, wrong}
 use Rattle.distortion_table.specs.Border.{samples, border-at}
 use Rattle.distortion_table.specs.Sweep.{sampled, closed, after-sample, swept}
-use Rattle.distortion_table.specs.Region.{doubled, increments, wrong}
+use Rattle.distortion_table.specs.Edges.{doubled}
 use Rattle.distortion_table.specs.Turns.{refuses, does}
 use Rattle.distortion_table.specs.declared.Progress.{Progress}
 

@@ -7,9 +7,9 @@ use borrow.Author.Tests.{ltb-true}
 use lib.Dec.{ltb}
 use lib.ListN.{set}
 use Rattle.camera.specs.declared.Camera.{Camera}
+use Rattle.region.specs.Region.{increments}
 use Rattle.distortion_table.specs.Border.{samples, all-units}
 use Rattle.distortion_table.specs.Cells.{cell}
-use Rattle.distortion_table.specs.Region.{increments}
 use Rattle.distortion_table.specs.Sweep.{swept}
 use Rattle.distortion_table.specs.Table.{State, beside, one-more, put-in, cell-unit, next}
 use Rattle.distortion_table.specs.Turns.{Next, over, refuses, does, turn, units}

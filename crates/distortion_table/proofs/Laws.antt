@@ -1,27 +1,44 @@
 -- What a caller may rely on, of the definitions of specs/ and of the contracts of src/. Assumes nothing.
 use mathlib.Core.Path.{_≡_, refl, sym, ap, _∙_}
+use mathlib.Core.Bool.{Bool, true, false, cond}
 use mathlib.Core.List.{List}
-use Prim.Native.Nat.{ℕ, _+_, _≤_}
+use Prim.Native.Nat.{ℕ, _+_, _*_, _≤_}
 use native.Mathlib.Omega.{arith}
 use lib.Dec.{ltb}
 use lib.Ieee.{Float}
 use lib.ListN.{length}
 use Rattle.exact.specs.Determined.{Determined}
 use Rattle.lens.proofs.Laws.{number-one-to-one}
+use Rattle.lens.specs.Judgement.{verdict}
+use Rattle.lens.specs.Rows.{first}
+use Rattle.lens.specs.Undistorted.{told}
+use Rattle.lens.specs.declared.Judgement.the-variants.{Taken}
+use Rattle.region.proofs.Size.{is-sized}
+use Rattle.camera.specs.Camera.{undistort-judged, limit}
 use Rattle.camera.specs.declared.Camera.{Camera}
-use Rattle.distortion_table.specs.Border.{border, samples, all-units}
-use Rattle.distortion_table.specs.Job.{Answer, told-status, told-turned}
+use Rattle.camera.proofs.Laws.{updates-limit-judged}
+use Rattle.distortion_table.specs.Border.{border, samples, all-units, border-at}
+use Rattle.distortion_table.specs.Calls.{Held, kept, calls}
+use Rattle.distortion_table.specs.Job.{Answer, fresh, admitted, enough, whole-table, told-started, told-status, told-turned}
+use Rattle.distortion_table.specs.Rows.{fresh-rows, turn-rows}
 use Rattle.distortion_table.specs.Table.{State, next}
-use Rattle.distortion_table.specs.Turns.{turn, turns, total, units, least}
+use Rattle.distortion_table.specs.Turns.{finished, running, turn, turns, total, units, summed, least}
 use Rattle.distortion_table.specs.declared.Job.{Job}
+use Rattle.distortion_table.specs.declared.Started.{Started}
+use Rattle.distortion_table.specs.declared.Started.the-variants as begun
 use Rattle.distortion_table.specs.declared.Status.{Status}
 use Rattle.distortion_table.specs.declared.Status.the-variants.{Finished, Refused, Running}
 use Rattle.distortion_table.specs.declared.Turned.{Turned}
-use Rattle.distortion_table.proofs.Border as sweep
+use Rattle.distortion_table.proofs.Sides as sweep
+use Rattle.distortion_table.proofs.Calls.{Takes, held-of, start, start-good, fresh-takes, good-admitted, answer-is, call-is, calls-are, largest, turns-good}
 use Rattle.distortion_table.proofs.Counting.{done-is, done-most}
+use Rattle.distortion_table.proofs.Ends as ends
+use Rattle.distortion_table.proofs.Reaching.{Good}
 use Rattle.distortion_table.proofs.Turns as any
+use Rattle.distortion_table.proofs.Written as written
 use Rattle.distortion_table.proofs.fresh.Reads as fresh-contract
 use Rattle.distortion_table.proofs.turn.Reads as turn-contract
+use Rattle.distortion_table.proofs.distort_table.Reads as distort-table-contract
 
 -- ---- each contract permits one answer
 
@@ -46,13 +63,24 @@ same-turned r r' c c' e =
 pub same-table : (r r' : Turned) (c c' : List Float) → told-turned r c ≡ told-turned r' c' → c ≡ c'
 same-table r r' c c' e = ap (λ (t : Answer). t .cells) e
 
+-- What `fresh` tells determines its answer.
+pub started-one-to-one : (a b : Started) → told-started a ≡ told-started b → a ≡ b
+started-one-to-one (begun.With j) (begun.With k) e = ap begun.With (cc)
+started-one-to-one (begun.With j) (begun.Refused r) e = let z : _≡_ {A = ℕ} 0 1 = cc in absurd (omega arith)
+started-one-to-one (begun.Refused q) (begun.With k) e = let z : _≡_ {A = ℕ} 0 1 = cc in absurd (omega arith)
+started-one-to-one (begun.Refused q) (begun.Refused r) e = ap begun.Refused (number-one-to-one q r (cc))
+
 -- Any two answers to one call that the contract of `fresh` permits are equal.
 pub fresh-determined : Determined fresh-contract.Post
-fresh-determined κ a s s' r r' p q = p ∙ sym q
+fresh-determined κ a s s' r r' p q = started-one-to-one r r' (p ∙ sym q)
 
--- The same of `turn`.
+-- The same of `turn`,
 pub turn-determined : Determined turn-contract.Post
 turn-determined κ a s s' r r' p q = same-turned r r' _ _ (p ∙ sym q)
+
+-- and of `distort_table`.
+pub distort-table-determined : Determined distort-table-contract.Post
+distort-table-determined κ a s s' r r' p q = same-turned r r' _ _ (p ∙ sym q)
 
 -- ---- the border
 
@@ -60,16 +88,28 @@ turn-determined κ a s s' r r' p q = same-turned r r' _ _ (p ∙ sym q)
 pub border-length : (width height : ℕ) → length (border width height) ≡ samples width height
 border-length = sweep.border-length
 
--- ---- turns
+-- ---- which records are taken
+
+-- A turn refuses a record before any unit with 4, 5, 6, 7 or 13 exactly when the table of refusals says so, the first row that holds; 13 is given for the records that no build can have, and no others.
+pub admitted-number : (job : Job) (places : ℕ) → verdict (admitted job places) ≡ first (turn-rows job places)
+admitted-number = ends.admitted-number
+
+-- `fresh` refuses with 4, 5 or 6 exactly when the table says so, the first row that holds; 0 stands for a record.
+pub fresh-number : (camera : Camera) (width height : ℕ) → ends.begun-number (told-started (fresh camera width height)) ≡ first (fresh-rows camera width height)
+fresh-number = ends.fresh-number
+
+-- ---- one turn
 
 module _ (camera : Camera) (width height : ℕ) where
-  -- However the work is split: turns of any allowances end where one turn ends that may do as much as all of them, record and cells alike.
-  pub any-split : (allowances : List ℕ) (s : State) → turns (next camera width height) allowances s ≡ turn (next camera width height) (total allowances) s .state
-  any-split = any.any-split (next camera width height)
-
   -- A turn says finished exactly if no unit is left after it, refused with a number exactly if the next unit refuses with it and the allowance had room for that unit, and running otherwise.
   pub says : (allowance : ℕ) (s : State) → turn (next camera width height) allowance s .said ≡ any.told (next camera width height) (next camera width height (turn (next camera width height) allowance s .state)) (ltb (units (next camera width height) allowance s) allowance)
   says = any.says (next camera width height)
+
+  -- It says finished exactly when T units are done after it.
+  pub finished-exactly : (allowance : ℕ) (s : State) → s .at .done ≤ all-units width height
+      → (turn (next camera width height) allowance s .said ≡ finished → turn (next camera width height) allowance s .state .at .done ≡ all-units width height)
+      × (turn (next camera width height) allowance s .state .at .done ≡ all-units width height → turn (next camera width height) allowance s .said ≡ finished)
+  finished-exactly allowance s h = (ends.finished-only camera width height allowance s h, ends.finished-at camera width height allowance s)
 
   -- The units done are exactly min(A, F): from a record with no more than T units done, an allowance A does as many units as A says, or as there are before the first that refuses or is not there.
   pub units-exactly : (allowance : ℕ) (s : State) → s .at .done ≤ all-units width height → units (next camera width height) allowance s ≡ least allowance (units (next camera width height) (all-units width height) s)
@@ -78,3 +118,72 @@ module _ (camera : Camera) (width height : ℕ) where
   -- The record counts them.
   pub units-counted : (allowance : ℕ) (s : State) → turn (next camera width height) allowance s .state .at .done ≡ s .at .done + units (next camera width height) allowance s
   units-counted = done-is camera width height
+
+  -- Each cell that a turn does holds its definition's two numbers when the turn ends.
+  pub cells-hold : (allowance : ℕ) (s : State) → length (s .cells) ≡ 2 * (width * height) → written.Hold camera width height s (turn (next camera width height) allowance s .state)
+  cells-hold = written.done-hold camera width height
+
+  -- All other places are as they were: those ahead of the turn's first cell, and those behind the last one done.
+  pub untouched : (allowance : ℕ) (s : State) → written.Kept camera width height s (turn (next camera width height) allowance s .state)
+  untouched = written.untouched camera width height
+
+  -- The updates a turn adds are the sum of the definition's over the samples it did.
+  pub updates-summed : (allowance : ℕ) (s : State) → turn (next camera width height) allowance s .state .at .updates ≡ s .at .updates + summed (next camera width height) (written.cost camera width height) allowance s
+  updates-summed = written.updates-summed camera width height
+
+  -- Each sample adds at most the model's limit.
+  pub updates-limited : (s : State) → written.cost camera width height s ≤ limit camera
+  updates-limited s = go (ltb (s .at .done) (samples width height))
+    where
+      go : (b : Bool) → cond b (told (undistort-judged camera (border-at width height (s .at .done))) .settled .updates) 0 ≤ limit camera
+      go true = updates-limit-judged camera (border-at width height (s .at .done))
+      go false = omega arith
+
+-- ---- a build: calls from a fresh record on, each with the record and the table that the one before handed back
+
+module _ (camera : Camera) (width height : ℕ) (job : Job) (begin : fresh camera width height ≡ begun.With job) (cells : List Float) (long : length cells ≡ 2 * (width * height)) where
+  abbrev first-state : State
+  first-state = start camera width height cells
+
+  abbrev first-held : Held
+  first-held = record { job = job; cells = cells }
+
+  takes : Takes camera width height
+  takes = fresh-takes camera width height job begin .0
+
+  as-started : first-held ≡ held-of camera width height first-state
+  as-started = ap (λ (j : Job). record { job = j; cells = cells }) (fresh-takes camera width height job begin .1)
+
+  good : Good camera width height first-state
+  good = start-good camera width height cells long
+
+  -- However the work is split: calls with any allowances end where one turn ends that may do as much as all of them, record and cells alike.
+  pub any-split : (allowances : List ℕ) → calls allowances first-held ≡ held-of camera width height (turn (next camera width height) (total allowances) first-state .state)
+  any-split allowances =
+      ap (calls allowances) as-started ∙ calls-are camera width height takes allowances first-state good
+      ∙ ap (held-of camera width height) (any.any-split (next camera width height) allowances first-state)
+
+  -- The units done are exactly min(A, F), A being all that the calls allow together, and F the units before the first that refuses or is not there.
+  pub build-units : (allowances : List ℕ) → calls allowances first-held .job .at .done ≡ least (total allowances) (units (next camera width height) (all-units width height) first-state)
+  build-units allowances =
+      ap (λ (h : Held). h .job .at .done) (any-split allowances)
+      ∙ omega (arith, units-counted camera width height (total allowances) first-state, units-exactly camera width height (total allowances) first-state (omega arith))
+
+  -- Every record that a build can reach is admitted: no call of it is refused with 4, 5, 6, 7 or 13.
+  pub build-admitted : (allowances : List ℕ) → admitted (calls allowances first-held .job) (length (calls allowances first-held .cells)) ≡ Taken
+  build-admitted allowances =
+      ap (λ (h : Held). admitted (h .job) (length (h .cells))) (ap (calls allowances) as-started ∙ calls-are camera width height takes allowances first-state good)
+      ∙ good-admitted camera width height takes (turns (next camera width height) allowances first-state) (turns-good camera width height takes allowances first-state good)
+
+  -- The table at once is the table by calls: where these allow T units or more, however split, both end with the same record and the same cells,
+  pub at-once : (allowances : List ℕ) → all-units width height ≤ total allowances → calls allowances first-held ≡ kept (whole-table camera width height cells)
+  at-once allowances h =
+      any-split allowances
+      ∙ ap (held-of camera width height) (ends.enough-for camera width height first-state (omega arith) (total allowances) h ∙ sym (ends.enough-for camera width height first-state (omega arith) enough (largest width height (is-sized width height (takes .size)))))
+      ∙ sym (call-is camera width height takes enough first-state good)
+
+  -- and the table at once is finished, or refused at a unit: it never says running.
+  pub at-once-ends : whole-table camera width height cells .said ≡ running → ⊥
+  at-once-ends e =
+      ends.never-running camera width height first-state (omega arith) enough (largest width height (is-sized width height (takes .size)))
+      (sym (ap (λ (a : Answer). a .said) (answer-is camera width height takes enough first-state good)) ∙ e)

@@ -9,9 +9,9 @@ use lib.Dec.{ltb}
 use lib.Ieee.{Float}
 use lib.ListN.{length, set}
 use Rattle.camera.specs.declared.Camera.{Camera}
+use Rattle.region.specs.Region.{increments}
 use Rattle.distortion_table.specs.Border.{samples, all-units}
 use Rattle.distortion_table.specs.Cells.{Filling, put, cell, filled}
-use Rattle.distortion_table.specs.Region.{increments}
 use Rattle.distortion_table.specs.Sweep.{swept}
 use Rattle.distortion_table.specs.Table.{State, beside, put-in, cell-unit, next}
 use Rattle.distortion_table.specs.Turns.{Next, over, refuses, does, Turn, spent, turn, met}

@@ -13,12 +13,14 @@ use Rattle.lens.specs.Refusal.{number}
 use Rattle.lens.specs.declared.Refusal.{Refusal}
 use Rattle.lens.specs.declared.Undistorted.{Undistorted}
 use Rattle.lens.specs.declared.Undistorted.the-variants as found
-use Rattle.camera.specs.Camera.{decided, undistort-judged}
+use Rattle.lens.specs.Judgement.{decided}
+use Rattle.camera.specs.Camera.{undistort-judged}
 use Rattle.camera.specs.declared.Camera.{Camera}
-use Rattle.camera.specs.declared.Judgement.{Judgement}
-use Rattle.camera.specs.declared.Judgement.the-variants.{Taken, Refused}
+use Rattle.lens.specs.declared.Judgement.{Judgement}
+use Rattle.lens.specs.declared.Judgement.the-variants.{Taken, Refused}
+use Rattle.region.specs.Region.{increments, wrong}
 use Rattle.distortion_table.specs.Border.{samples, all-units, border-at}
-use Rattle.distortion_table.specs.Region.{doubled, increments, wrong}
+use Rattle.distortion_table.specs.Edges.{doubled}
 use Rattle.distortion_table.specs.Sweep.{sampled, after-sample, swept, told-refusal, told-stop}
 use Rattle.distortion_table.specs.Cells.{Filling, cell, filled}
 use Rattle.distortion_table.specs.Job.{Lent, told-status, moved, reached}

@@ -1,6 +1,6 @@
 -- What a record that is admitted keeps. Assumes nothing.
 use mathlib.Core.Path.{_≡_, refl}
-use mathlib.Core.Bool.{Bool, true, false, cond, _&&_, false≢true}
+use mathlib.Core.Bool.{Bool, true, false, cond, _&&_}
 use Prim.Native.Nat.{ℕ, _*_, _≤_}
 use native.Mathlib.Omega.{arith}
 use borrow.Author.Tests.{leb-true, eqb-true}
@@ -8,23 +8,21 @@ use lib.Dec.{leb, eqb}
 use Rattle.lens.specs.Finite.{all-finite}
 use Rattle.lens.specs.declared.Refusal.the-variants.{NotFinite, ZeroFocalLength, WrongSize, WrongLength, ImpossibleRecord}
 use Rattle.camera.specs.Camera.{parameters, zero-focal, limit}
-use Rattle.camera.specs.declared.Judgement.the-variants.{Taken, Refused}
-use Rattle.distortion_table.specs.Border.{Sized, samples, all-units}
-use Rattle.distortion_table.specs.Job.{sized, four, possible, admitted}
+use Rattle.lens.specs.declared.Judgement.the-variants.{Taken, Refused}
+use Rattle.region.specs.Region.{four}
+use Rattle.region.specs.Size.{Sized, sized}
+use Rattle.distortion_table.specs.Border.{samples, all-units}
+use Rattle.distortion_table.specs.Job.{possible, admitted}
 use Rattle.distortion_table.specs.Turns.{least}
 use Rattle.distortion_table.specs.declared.Job.{Job}
-use Rattle.distortion_table.proofs.Smaller.{is-sized}
+use Rattle.distortion_table.proofs.Finite.{both}
+use Rattle.region.proofs.Size.{is-sized}
 
 pub record Kept (job : Job) (places : ℕ) : Type 0 where
   pub size : Sized (job .width) (job .height)
   pub long : places ≡ 2 * (job .width * job .height)
   pub not-past : job .at .done ≤ all-units (job .width) (job .height)
   pub updates : job .at .updates ≤ limit (job .camera) * least (job .at .done) (samples (job .width) (job .height))
-
-both : (a b : Bool) → (a && b) ≡ true → (a ≡ true) × (b ≡ true)
-both true true e = (refl, refl)
-both true false e = absurd (false≢true e)
-both false b e = absurd (false≢true e)
 
 passed : (g z s e p : Bool) → cond g (cond z (Refused ZeroFocalLength) (cond s (cond e (cond p Taken (Refused ImpossibleRecord)) (Refused WrongLength)) (Refused WrongSize))) (Refused NotFinite) ≡ Taken → (s ≡ true) × (e ≡ true) × (p ≡ true)
 passed true false true true true h = (refl, refl, refl)

@@ -94,6 +94,30 @@ module _ {S : Type 0} (next : S → Next S) where
         let f : units next most s ≡ units next (most + a) s = units-cut most a s ∙ least-second most (units next (most + a) s) (bounded (most + a)) in
         units-cut a most s ∙ ap (λ (n : ℕ). least a (units next n s)) e ∙ ap (least a) (sym f)
 
+  -- ---- a turn that did not use up its allowance
+
+  apart-does : (n : Next S) (s t : S) → next s ≡ n → next s ≡ does t → ((u : S) → n ≡ does u → ⊥) → ⊥
+  apart-does n s t e f h = h t (sym e ∙ f)
+
+  -- It ended where a unit refuses or none is left.
+  pub stops : (a : ℕ) (s : S) → units next a s < a → (t : S) → next (run a s) ≡ does t → ⊥
+  stops zero s h t e = omega (arith, h)
+  stops (suc a) s h t e = go (next s) refl (λ u k f. stops a u k t f)
+    where
+      go : (n : Next S) → next s ≡ n → ((u : S) → units next a u < a → next (run a u) ≡ does t → ⊥) → ⊥
+      go over f k = apart-does over s t f (ap next (sym (at-end (suc a) s f)) ∙ e) (λ u q. let z : _≡_ {A = ℕ} 0 1 = cc in omega arith)
+      go (refuses r) f k = apart-does (refuses r) s t f (ap next (sym (at-refusal (suc a) s r f)) ∙ e) (λ u q. let z : _≡_ {A = ℕ} 0 1 = cc in omega arith)
+      go (does u) f k = k u (omega (arith, h, count-one a s u f)) (ap next (sym (one-unit a s u f)) ∙ e)
+
+  -- Any further turn stays there.
+  pub stays : (b : ℕ) (s : S) → ((t : S) → next s ≡ does t → ⊥) → run b s ≡ s
+  stays b s h = go (next s) refl
+    where
+      go : (n : Next S) → next s ≡ n → run b s ≡ s
+      go over e = at-end b s e
+      go (refuses r) e = at-refusal b s r e
+      go (does t) e = absurd (h t e)
+
   -- ---- what each unit adds
 
   -- A number that each unit raises by its cost is raised by the costs of the units done.

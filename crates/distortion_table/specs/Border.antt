@@ -1,24 +1,13 @@
 -- The border of an image, half a pixel outside it, as a list of pixels in sweep order, and the number of units of a table. Definitions only.
 use mathlib.Core.Bool.{cond}
 use mathlib.Core.List.{List, [], _∷_, _++_}
-use Prim.Native.Nat.{ℕ, zero, suc, _+_, _*_, _/_, _%_, _≤_}
+use Prim.Native.Nat.{ℕ, zero, suc, _+_, _*_, _/_, _%_}
 use lib.Dec.{eqb}
-use lib.IntN.{pos}
-use lib.Ieee.{Float, binary64, ofInt}
+use lib.Ieee.{Float}
 use lib.ListN.{getD}
 use Rattle.exact.specs.F64.{f64, minus, _⊖_}
 use Rattle.lens.specs.declared.Pixel.{Pixel}
-
--- the sizes that are taken: 2 to 4,096 both ways
-pub record Sized (width height : ℕ) : Type 0 where
-  pub wide : 2 ≤ width
-  pub high : 2 ≤ height
-  pub not-wider : width ≤ 4096
-  pub not-higher : height ≤ 4096
-
--- a whole number as an f64
-unfoldable pub float : ℕ → Float
-float n = ofInt binary64 (pos n)
+use Rattle.region.specs.Size.{float}
 
 -- half a pixel before pixel n; before pixel 0 that is -0.5
 abbrev pub before : ℕ → Float

@@ -13,16 +13,16 @@ use Rattle.lens.specs.declared.Point.{Point}
 use Rattle.lens.specs.declared.Refusal.the-variants.{AnswerNotFinite, CellInfinite}
 use Rattle.camera.specs.Camera.{distort-judged}
 use Rattle.camera.specs.declared.Camera.{Camera}
-use Rattle.camera.specs.declared.Distorted.{Distorted}
-use Rattle.camera.specs.declared.Distorted.the-variants as pixels
-use Rattle.distortion_table.specs.Border.{float}
+use Rattle.lens.specs.declared.Distorted.{Distorted}
+use Rattle.lens.specs.declared.Distorted.the-variants as pixels
+use Rattle.region.specs.Size.{float}
 use Rattle.distortion_table.specs.Sweep.{told-refusal}
 use Rattle.distortion_table.specs.Turns.{Next, refuses, does, Turn}
 use Rattle.distortion_table.specs.declared.Cell.{Cell}
 use Rattle.distortion_table.specs.declared.Cell.the-variants.{Holds, Refused}
 use Rattle.distortion_table.specs.declared.Filled.{Filled}
-use Rattle.distortion_table.specs.declared.Increments.{Increments}
-use Rattle.distortion_table.specs.declared.Region.{Region}
+use Rattle.region.specs.declared.Increments.{Increments}
+use Rattle.region.specs.declared.Region.{Region}
 
 -- ---- one cell
 

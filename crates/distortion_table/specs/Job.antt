@@ -10,32 +10,27 @@ use Rattle.lens.specs.Constants.{zeros}
 use Rattle.lens.specs.Finite.{all-finite}
 use Rattle.lens.specs.Refusal.{number}
 use Rattle.lens.specs.declared.Refusal.the-variants.{NotFinite, ZeroFocalLength, WrongSize, WrongLength, ImpossibleRecord}
-use Rattle.camera.specs.Camera.{parameters, zero-focal, decided, limit}
+use Rattle.lens.specs.Judgement.{decided}
+use Rattle.camera.specs.Camera.{parameters, zero-focal, limit}
 use Rattle.camera.specs.declared.Camera.{Camera}
-use Rattle.camera.specs.declared.Judgement.{Judgement}
-use Rattle.camera.specs.declared.Judgement.the-variants.{Taken, Refused}
-use Rattle.distortion_table.specs.Border.{Sized, samples, all-units}
+use Rattle.lens.specs.declared.Judgement.{Judgement}
+use Rattle.lens.specs.declared.Judgement.the-variants.{Taken, Refused}
+use Rattle.region.specs.Region.{four, increments, wrong}
+use Rattle.region.specs.Size.{sized, Sized}
+use Rattle.distortion_table.specs.Border.{samples, all-units}
 use Rattle.distortion_table.specs.Cells.{filled, told-filled}
-use Rattle.distortion_table.specs.Region.{increments, wrong}
 use Rattle.distortion_table.specs.Table.{State, next}
 use Rattle.distortion_table.specs.Turns.{Said, finished, refused, running, Turn, turn, met, least}
 use Rattle.distortion_table.specs.declared.Filled.{Filled}
-use Rattle.distortion_table.specs.declared.Increments.{Increments}
+use Rattle.region.specs.declared.Increments.{Increments}
 use Rattle.distortion_table.specs.declared.Job.{Job}
 use Rattle.distortion_table.specs.declared.Progress.{Progress}
-use Rattle.distortion_table.specs.declared.Region.{Region}
+use Rattle.region.specs.declared.Region.{Region}
 use Rattle.distortion_table.specs.declared.Started.{Started}
 use Rattle.distortion_table.specs.declared.Started.the-variants as begun
 use Rattle.distortion_table.specs.declared.Status.{Status}
 use Rattle.distortion_table.specs.declared.Status.the-variants as status
 use Rattle.distortion_table.specs.declared.Turned.{Turned}
-
--- 2 to 4,096 both ways
-abbrev pub sized : ℕ → ℕ → Bool
-sized width height = (leb 2 width && leb width 4096) && (leb 2 height && leb height 4096)
-
-abbrev pub four : Region → List Float
-four r = r .left ∷ r .top ∷ r .right ∷ r .bottom ∷ []
 
 -- ---- a fresh record: zeros but for its camera and size
 
@@ -57,6 +52,15 @@ fresh camera width height =
     (cond (zero-focal camera) (begun.Refused ZeroFocalLength)
     (cond (sized width height) (begun.With (fresh-job camera width height)) (begun.Refused WrongSize)))
     (begun.Refused NotFinite)
+
+-- what the code's answer says: a record, or a refusal's number
+pub data Begun : Type 0 where
+  a-job : Job → Begun
+  no-job : ℕ → Begun
+
+abbrev pub told-started : Started → Begun
+told-started (begun.With job) = a-job job
+told-started (begun.Refused r) = no-job (number r)
 
 -- ---- which records a turn takes
 
@@ -112,6 +116,14 @@ told-status status.Running = running
 
 abbrev pub told-turned : Turned → List Float → Answer
 told-turned t cells = record { said = told-status (t .status); job = t .job; cells = cells }
+
+-- ---- the whole table at once: a turn that may do as many units as the largest table has
+
+abbrev pub enough : ℕ
+enough = all-units 4096 4096
+
+abbrev pub whole-table : Camera → ℕ → ℕ → List Float → Answer
+whole-table camera width height cells = turn-of (fresh-job camera width height) cells enough
 
 -- ---- what the code's parts ask and give
 

@@ -1,7 +1,9 @@
 pub mod Border
+pub mod Calls
 pub mod Cells
+pub mod Edges
 pub mod Job
-pub mod Region
+pub mod Rows
 pub mod Sweep
 pub mod Table
 pub mod Turns

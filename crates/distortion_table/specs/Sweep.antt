@@ -6,12 +6,14 @@ use Rattle.lens.specs.Refusal.{number}
 use Rattle.lens.specs.declared.Settled.{Settled}
 use Rattle.lens.specs.declared.Undistorted.{Undistorted}
 use Rattle.lens.specs.declared.Undistorted.the-variants as found
-use Rattle.camera.specs.Camera.{undistort-judged, decided}
+use Rattle.lens.specs.Judgement.{decided}
+use Rattle.camera.specs.Camera.{undistort-judged}
 use Rattle.camera.specs.declared.Camera.{Camera}
-use Rattle.camera.specs.declared.Judgement.{Judgement}
-use Rattle.camera.specs.declared.Judgement.the-variants as judged
+use Rattle.lens.specs.declared.Judgement.{Judgement}
+use Rattle.lens.specs.declared.Judgement.the-variants as judged
+use Rattle.region.specs.Region.{increments, wrong}
 use Rattle.distortion_table.specs.Border.{samples, border-at}
-use Rattle.distortion_table.specs.Region.{edges-after, doubled, increments, wrong}
+use Rattle.distortion_table.specs.Edges.{edges-after, doubled}
 use Rattle.distortion_table.specs.Turns.{Next, refuses, does, Said, refused, running, Turn}
 use Rattle.distortion_table.specs.declared.Stop.{Stop}
 use Rattle.distortion_table.specs.declared.Progress.{Progress}

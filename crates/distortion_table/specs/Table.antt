@@ -7,9 +7,9 @@ use lib.Ieee.{Float}
 use lib.ListN.{set}
 use Rattle.lens.specs.Refusal.{number}
 use Rattle.camera.specs.declared.Camera.{Camera}
+use Rattle.region.specs.Region.{increments}
 use Rattle.distortion_table.specs.Border.{samples, all-units}
 use Rattle.distortion_table.specs.Cells.{cell}
-use Rattle.distortion_table.specs.Region.{increments}
 use Rattle.distortion_table.specs.Sweep.{swept}
 use Rattle.distortion_table.specs.Turns.{Next, over, refuses, does}
 use Rattle.distortion_table.specs.declared.Cell.{Cell}

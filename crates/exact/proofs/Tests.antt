@@ -42,15 +42,15 @@ above-zero m e = is-true (ltb (0 * down e) (suc m * up e * 1)) (lt→ltb (0 * do
 
 -- ---- finite: above the one infinity and below the other
 
-pub finite-under : (x : Float) → lt x (f64 0x7ff0_0000_0000_0000) ≡ true → lt (neg (f64 0x7ff0_0000_0000_0000)) x ≡ finite x
-unfolding lt ofBits neg
+pub finite-under : (x : Float) → lt x (inf false) ≡ true → lt (neg (inf false)) x ≡ finite x
+unfolding lt neg
 finite-under nan h = absurd (false≢true h)
 finite-under (inf true) h = refl
 finite-under (inf false) h = absurd (false≢true h)
 finite-under (fin s m e) h = refl
 
-pub finite-not : (x : Float) → lt x (f64 0x7ff0_0000_0000_0000) ≡ false → false ≡ finite x
-unfolding lt ofBits
+pub finite-not : (x : Float) → lt x (inf false) ≡ false → false ≡ finite x
+unfolding lt
 finite-not nan h = refl
 finite-not (inf true) h = refl
 finite-not (inf false) h = refl

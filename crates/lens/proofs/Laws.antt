@@ -11,8 +11,15 @@ use lib.Seq.{getD-append-add}
 use Rattle.lens.specs.Constants.{zeros}
 use Rattle.exact.specs.Determined.{Determined}
 use Rattle.lens.specs.Jacobian.{entries, twoRows}
+use Rattle.lens.specs.Distorted.{ToldPixel, told-pixel}
+use Rattle.lens.specs.Judgement.{verdict}
 use Rattle.lens.specs.Refusal.{number}
+use Rattle.lens.specs.declared.Distorted.{Distorted}
+use Rattle.lens.specs.declared.Distorted.the-variants as distorted
+use Rattle.lens.specs.declared.Judgement.{Judgement}
+use Rattle.lens.specs.declared.Judgement.the-variants as judged
 use Rattle.lens.specs.Undistorted.{Told, told}
+use Rattle.lens.specs.declared.Pixel.{Pixel}
 use Rattle.lens.specs.declared.Refusal.{Refusal}
 use Rattle.lens.specs.declared.Refusal.the-variants.{UnknownModel, NoParameterJacobian, WrongCount, NotFinite, ZeroFocalLength, WrongSize, WrongLength, IncrementNotPositive, OutsideTable, AngleTooLarge, AnswerNotFinite, CellInfinite, ImpossibleRecord, NotTheForm}
 use Rattle.lens.specs.declared.Settled.{Settled}
@@ -79,6 +86,13 @@ unfolding refusals
 number-each n low high =
     (numbered n, sym (List·getD-map number refusals (n - 1) UnknownModel) ∙ counted-at 1 14 (n - 1) 1 (omega arith) ∙ omega arith)
 
+-- What a judgement's number says determines it.
+pub verdict-one-to-one : (a b : Judgement) → verdict a ≡ verdict b → a ≡ b
+verdict-one-to-one judged.Taken judged.Taken e = refl
+verdict-one-to-one judged.Taken (judged.Refused r) e = absurd (omega (arith, e, number-within r))
+verdict-one-to-one (judged.Refused r) judged.Taken e = absurd (omega (arith, e, number-within r))
+verdict-one-to-one (judged.Refused q) (judged.Refused r) e = ap judged.Refused (number-one-to-one q r e)
+
 -- ---- what undistort tells
 
 told-apart : (s : Settled) (r : Refusal) → told (At s) ≡ told (Refused r) → ⊥
@@ -90,6 +104,18 @@ told-one-to-one (At s) (At t) e = ap (λ (x : Told). At (x .settled)) e
 told-one-to-one (At s) (Refused r) e = absurd (told-apart s r e)
 told-one-to-one (Refused r) (At s) e = absurd (told-apart s r (sym e))
 told-one-to-one (Refused q) (Refused r) e = ap Refused (number-one-to-one q r (ap (λ (x : Told). x .number) e))
+
+-- ---- what distort tells
+
+pixel-apart : (p : Pixel) (r : Refusal) → told-pixel (distorted.At p) ≡ told-pixel (distorted.Refused r) → ⊥
+pixel-apart p r e = omega (arith, ap (λ (t : ToldPixel). t .number) e, number-within r)
+
+-- What a distort tells determines it: two that tell the same number and pixel are equal.
+pub told-pixel-one-to-one : (a b : Distorted) → told-pixel a ≡ told-pixel b → a ≡ b
+told-pixel-one-to-one (distorted.At p) (distorted.At q) e = ap (λ (t : ToldPixel). distorted.At (t .pixel)) e
+told-pixel-one-to-one (distorted.At p) (distorted.Refused r) e = absurd (pixel-apart p r e)
+told-pixel-one-to-one (distorted.Refused r) (distorted.At p) e = absurd (pixel-apart p r (sym e))
+told-pixel-one-to-one (distorted.Refused q) (distorted.Refused r) e = ap distorted.Refused (number-one-to-one q r (ap (λ (t : ToldPixel). t .number) e))
 
 -- ---- Jacobians
 

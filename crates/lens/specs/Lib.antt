@@ -1,6 +1,9 @@
 pub mod Constants
+pub mod Distorted
 pub mod Jacobian
+pub mod Judgement
 pub mod Refusal
+pub mod Rows
 pub mod Undistorted
 pub mod Radius
 pub mod Passes

@@ -1,4 +1,4 @@
-// The words that the lens models and all above them share: point, pixel, Jacobian, what undistort answers, refusal, EPS.
+// The words that the lens models and all above them share: point, pixel, Jacobian, what distort and undistort answer, judgement, refusal, EPS.
 ghost use mathlib.Core.Path.{_≡_};
 ghost use mathlib.Core.List.{[], _∷_, _++_};
 ghost use lib.ListN.{getD};
@@ -32,6 +32,18 @@ pub struct Settled {
     pub point: Point,
     pub updates: u32,
     pub flag: bool,
+}
+
+// Whether a call is taken up.
+pub enum Judgement {
+    Taken,
+    Refused(Refusal),
+}
+
+// What distort answers, and a lookup in a table of its answers: a pixel, or why there is none.
+pub enum Distorted {
+    At(Pixel),
+    Refused(Refusal),
 }
 
 // An undistort's answer, or why there is none.

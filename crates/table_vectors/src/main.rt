@@ -13,7 +13,6 @@ use affine::AffineParams;
 use brown_conrady::BrownConradyParams;
 use camera::Camera;
 use distortion_table::Job;
-use distortion_table::Region;
 use distortion_table::Started;
 use distortion_table::Status;
 use enhanced_unified::EnhancedUnifiedParams;
@@ -22,6 +21,7 @@ use kannala_brandt::KannalaBrandtParams;
 use lens::Refusal;
 use libc::STDIN_FILENO;
 use libc::STDOUT_FILENO;
+use region::Region;
 ghost use mathlib.Core.Path.{_≡_};
 ghost use Prim.Native.Nat.{_+_, _≤_, _<_};
 ghost use lib.ListN.{length};
@@ -350,7 +350,7 @@ fn refuse() {
 // Answers a question whose record is made, if there is room for its table. No record is made of a size
 // that the first test refuses, so that only the second ever does.
 fn answer_fresh(fresh: Job, width: usize, height: usize, allowance: usize) {
-    if width == 0 || distortion_table::MOST < width || distortion_table::MOST < height {
+    if width == 0 || region::MOST < width || region::MOST < height {
         refuse();
         return;
     }

@@ -1,17 +1,25 @@
 -- `camera::finite_pixel` meets its contract. Assumes nothing.
-use mathlib.Core.Path.{refl}
+use mathlib.Core.Path.{sym, ap, _∙_}
+use mathlib.Core.Bool.{Bool, cond}
+use Rattle.lens.specs.declared.Distorted.{Distorted}
+use Rattle.lens.specs.declared.Distorted.the-variants.{At, Refused}
+use Rattle.lens.specs.declared.Pixel.{Pixel}
+use Rattle.lens.specs.declared.Refusal.the-variants.{AnswerNotFinite}
 use borrow.Author.Needs.{needs}
 use Rattle.camera.proofs.finite_pixel.Statement.{statement}
 use Rattle.camera.proofs.finite_pixel.Tie as tie
+
+abbrev judged-by : Pixel → Bool → Distorted
+judged-by pixel b = cond b (At pixel) (Refused AnswerNotFinite)
 
 both-finite-requires : tie.Need-both-finite-requires
 both-finite-requires c κs = search needs
 
 returns : tie.Need-returns
-returns c = rw (← c .before .both-finite .ensures, c .if1 .taken) refl
+returns c = ap (judged-by (c .before .before .args .pixel)) (sym (c .if1 .taken) ∙ c .before .both-finite .ensures)
 
 returns-2 : tie.Need-returns-2
-returns-2 c = rw (← c .before .both-finite .ensures, c .if1 .left) refl
+returns-2 c = ap (judged-by (c .before .before .args .pixel)) (sym (c .if1 .left) ∙ c .before .both-finite .ensures)
 
 pub finite-pixel-spec : {M : Type 1} → statement M
 finite-pixel-spec = tie.close (tie.spec both-finite-requires returns returns-2)

@@ -4,7 +4,7 @@ use Prim.Native.Nat.{_*_}
 use native.Mathlib.Omega.{arith}
 use borrow.Author.Tests.{eq-eqb, ne-eqb, not-true, not-false}
 use Rattle.distortion_table.specs.Job.{admitted}
-use Rattle.distortion_table.proofs.Smaller.{is-sized, bounded}
+use Rattle.region.proofs.Size.{is-sized, bounded}
 use borrow.Author.Needs.{needs}
 use Rattle.distortion_table.proofs.admitted.Statement.{statement}
 use Rattle.distortion_table.proofs.admitted.Tie as tie

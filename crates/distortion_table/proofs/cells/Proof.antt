@@ -5,11 +5,12 @@ use native.Mathlib.Omega.{arith}
 use Rattle.distortion_table.specs.Border.{samples}
 use Rattle.distortion_table.specs.Job.{Lent, Answer, answer, told-status, moved, reached}
 use Rattle.distortion_table.specs.Table.{State, next}
-use Rattle.distortion_table.specs.declared.Increments.{Increments}
+use Rattle.region.specs.declared.Increments.{Increments}
 use Rattle.lens.specs.Refusal.{number}
 use Rattle.distortion_table.specs.Turns.{refused, turn}
 use Rattle.distortion_table.proofs.Phases.{at-border-spent, filled-most, cells-refused, cells-on}
-use Rattle.distortion_table.proofs.Smaller.{least-most, bounded}
+use Rattle.region.proofs.Size.{bounded}
+use Rattle.distortion_table.proofs.Smaller.{least-most}
 use borrow.Author.Needs.{needs}
 use Rattle.distortion_table.proofs.cells.Statement.{statement}
 use Rattle.distortion_table.proofs.cells.Tie as tie

@@ -1,5 +1,7 @@
 -- `distortion_table::fine` meets its contract. Assumes nothing.
 use mathlib.Core.Path.{refl}
+use Rattle.lens.proofs.Laws.{verdict-one-to-one}
+use Rattle.region.specs.Region.{wrong}
 use borrow.Author.Needs.{needs}
 use Rattle.distortion_table.proofs.fine.Statement.{statement}
 use Rattle.distortion_table.proofs.fine.Tie as tie
@@ -17,10 +19,10 @@ enum-told-2 : tie.Need-enum-told-2
 enum-told-2 c = search needs
 
 returns : tie.Need-returns
-returns c = rw (← c .before .before .before .increments-of .ensures, ← c .before .before .wrong .ensures, c .enum-told .given .1) refl
+returns c = let same = verdict-one-to-one (c .before .before .wrong .result) (wrong (c .before .before .before .increments-of .result)) (c .before .before .wrong .ensures) in rw (← c .before .before .before .increments-of .ensures, ← same, c .enum-told .given .1) refl
 
 returns-2 : tie.Need-returns-2
-returns-2 c = rw (← c .before .before .before .increments-of .ensures, ← c .before .before .wrong .ensures, c .enum-told2 .given .1) refl
+returns-2 c = let same = verdict-one-to-one (c .before .before .wrong .result) (wrong (c .before .before .before .increments-of .result)) (c .before .before .wrong .ensures) in rw (← c .before .before .before .increments-of .ensures, ← same, c .enum-told2 .given .1) refl
 
 pub fine-spec : {M : Type 1} → statement M
 fine-spec =

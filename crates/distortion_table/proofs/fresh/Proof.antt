@@ -27,15 +27,12 @@ returns-3 : tie.Need-returns-3
 unfolding fresh
 returns-3 c = rw (← c .before .before .before .before .before .finite-parameters .ensures, not-false (c .before .before .before .before .before .finite-parameters .result) (c .before .before .before .before .if1 .left), ← c .before .before .before .zero-focal .ensures, c .before .before .if2 .left, ← c .before .sized .ensures, not-true (c .before .sized .result) (c .if3 .taken)) refl
 
-nowhere-requires : tie.Need-nowhere-requires
-nowhere-requires c κs = search needs
-
-nowhere-requires-2 : tie.Need-nowhere-requires-2
-nowhere-requires-2 c κs = search needs
+begun-requires : tie.Need-begun-requires
+begun-requires c κs = search needs
 
 returns-4 : tie.Need-returns-4
 unfolding fresh
-returns-4 c = rw (← c .before .before .before .before .before .before .before .finite-parameters .ensures, not-false (c .before .before .before .before .before .before .before .finite-parameters .result) (c .before .before .before .before .before .before .if1 .left), ← c .before .before .before .before .before .zero-focal .ensures, c .before .before .before .before .if2 .left, ← c .before .before .before .sized .ensures, not-false (c .before .before .before .sized .result) (c .before .before .if3 .left), c .nowhere2 .ensures, c .before .nowhere .ensures) refl
+returns-4 c = rw (← c .before .before .before .before .before .before .finite-parameters .ensures, not-false (c .before .before .before .before .before .before .finite-parameters .result) (c .before .before .before .before .before .if1 .left), ← c .before .before .before .before .zero-focal .ensures, c .before .before .before .if2 .left, ← c .before .before .sized .ensures, not-false (c .before .before .sized .result) (c .before .if3 .left), c .begun .ensures) refl
 
 pub fresh-spec : {M : Type 1} → statement M
 fresh-spec =
@@ -47,6 +44,5 @@ fresh-spec =
     returns-2
     sized-requires
     returns-3
-    nowhere-requires
-    nowhere-requires-2
+    begun-requires
     returns-4)

@@ -1,15 +1,19 @@
 -- `distortion_table::possible` meets its contract. Assumes nothing.
-use mathlib.Core.Path.{refl, ap, _∙_}
+use mathlib.Core.Path.{_≡_, refl, sym, ap, _∙_}
+use mathlib.Core.Bool.{false}
 use Prim.Native.Nat.{ℕ, _*_, _≤_}
 use native.Mathlib.Nat.{mul-le-mul}
 use native.Mathlib.Omega.{arith}
 use borrow.Author.Tests.{lt-ltb, le-ltb, le-leb, lt-leb, not-true, not-false}
+use Rattle.lens.specs.Finite.{all-finite}
 use Rattle.camera.specs.Camera.{limit}
+use Rattle.region.specs.Region.{four}
 use Rattle.camera.proofs.Laws.{limit-most}
 use Rattle.distortion_table.specs.Border.{samples, all-units}
 use Rattle.distortion_table.specs.Job.{possible}
 use Rattle.distortion_table.specs.Turns.{least}
-use Rattle.distortion_table.proofs.Smaller.{least-most, bounded}
+use Rattle.region.proofs.Size.{bounded}
+use Rattle.distortion_table.proofs.Smaller.{least-most}
 use borrow.Author.Needs.{needs}
 use Rattle.distortion_table.proofs.possible.Statement.{statement}
 use Rattle.distortion_table.proofs.possible.Tie as tie
@@ -58,8 +62,9 @@ finite-region-requires c κs = search needs
 returns-3 : tie.Need-returns-3
 unfolding possible
 returns-3 c =
+    let not-numbers : all-finite (four (c .before .before .before .before .before .before .before .before .before .before .args .at .edges)) ≡ false = sym (c .before .finite-region .ensures) ∙ not-true (c .before .finite-region .result) (c .if3 .taken) in
     let q = ap (λ (n : ℕ). n * c .before .before .before .before .least .result) (c .before .before .before .before .before .limit .ensures) ∙ ap (λ (n : ℕ). limit (c .before .before .before .before .before .before .before .before .before .before .args .camera) * n) (c .before .before .before .before .least .ensures ∙ ap (least (c .before .before .before .before .before .before .before .before .before .before .args .at .done)) (c .before .before .before .before .before .before .before .before .before .samples .ensures)) in
-    rw (le-leb (c .before .before .before .before .before .before .before .before .before .before .args .at .done) (all-units (c .before .before .before .before .before .before .before .before .before .before .args .width) (c .before .before .before .before .before .before .before .before .before .before .args .height)) (omega (arith, c .before .before .before .before .before .before .before .before .before .samples .ensures, c .before .before .before .before .before .before .if1 .left)), le-leb (c .before .before .before .before .before .before .before .before .before .before .args .at .updates) (limit (c .before .before .before .before .before .before .before .before .before .before .args .camera) * least (c .before .before .before .before .before .before .before .before .before .before .args .at .done) (samples (c .before .before .before .before .before .before .before .before .before .before .args .width) (c .before .before .before .before .before .before .before .before .before .before .args .height))) (omega (arith, q, c .before .before .if2 .left)), ← c .before .finite-region .ensures, not-true (c .before .finite-region .result) (c .if3 .taken)) refl
+    rw (le-leb (c .before .before .before .before .before .before .before .before .before .before .args .at .done) (all-units (c .before .before .before .before .before .before .before .before .before .before .args .width) (c .before .before .before .before .before .before .before .before .before .before .args .height)) (omega (arith, c .before .before .before .before .before .before .before .before .before .samples .ensures, c .before .before .before .before .before .before .if1 .left)), le-leb (c .before .before .before .before .before .before .before .before .before .before .args .at .updates) (limit (c .before .before .before .before .before .before .before .before .before .before .args .camera) * least (c .before .before .before .before .before .before .before .before .before .before .args .at .done) (samples (c .before .before .before .before .before .before .before .before .before .before .args .width) (c .before .before .before .before .before .before .before .before .before .before .args .height))) (omega (arith, q, c .before .before .if2 .left)), not-numbers) refl
 
 returns-4 : tie.Need-returns-4
 unfolding possible

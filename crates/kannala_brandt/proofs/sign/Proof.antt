@@ -1,13 +1,16 @@
 -- `kannala_brandt::sign` meets its contract. Assumes nothing.
-use mathlib.Core.Path.{refl}
+use mathlib.Core.Path.{sym, ap}
+use mathlib.Core.Bool.{Bool, cond}
+use Rattle.exact.specs.F64.{minus}
+use Rattle.lens.specs.Constants.{ones}
 use Rattle.kannala_brandt.proofs.sign.Statement.{statement}
 use Rattle.kannala_brandt.proofs.sign.Tie as tie
 
 returns : tie.Need-returns
-returns c = rw (c .if1 .taken) refl
+returns c = ap (λ (b : Bool). cond b (minus ones) ones) (sym (c .if1 .taken))
 
 returns-2 : tie.Need-returns-2
-returns-2 c = rw (c .if1 .left) refl
+returns-2 c = ap (λ (b : Bool). cond b (minus ones) ones) (sym (c .if1 .left))
 
 pub sign-spec : {M : Type 1} → statement M
 sign-spec = tie.close (tie.spec returns returns-2)

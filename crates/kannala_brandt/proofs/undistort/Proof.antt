@@ -1,5 +1,9 @@
 -- `kannala_brandt::undistort` meets its contract. Assumes nothing.
-use mathlib.Core.Path.{refl}
+use mathlib.Core.Path.{_≡_, refl, sym, ap, _∙_}
+use mathlib.Core.Bool.{true}
+use lib.Ieee.{Float, le}
+use Rattle.lens.specs.Constants.{eps}
+use Rattle.kannala_brandt.specs.KannalaBrandt.{rth2}
 use borrow.Author.Needs.{needs}
 use Rattle.kannala_brandt.proofs.undistort.Statement.{statement}
 use Rattle.kannala_brandt.proofs.undistort.Tie as tie
@@ -11,7 +15,10 @@ direct-requires : tie.Need-direct-requires
 direct-requires c κs = search needs
 
 returns : tie.Need-returns
-returns c = rw (c .direct .ensures, ← c .before .before .squared-radius .ensures, c .before .if1 .taken) refl
+returns c =
+    let a = c .before .before .before .before .before .before .before .before .before .args in
+    let near : le (rth2 (a .params) (a .pixel)) eps ≡ true = ap (λ (q : Float). le q eps) (sym (c .before .before .squared-radius .ensures)) ∙ c .before .if1 .taken in
+    rw (c .direct .ensures, near) refl
 
 root-requires : tie.Need-root-requires
 root-requires c κs = search needs

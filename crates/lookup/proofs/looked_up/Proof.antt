@@ -1,0 +1,56 @@
+-- `lookup::looked_up` meets its contract. Assumes nothing.
+use mathlib.Core.Path.{refl, sym, ap, _∙_}
+use Rattle.lens.specs.declared.Distorted.{Distorted}
+use Rattle.lookup.specs.Lookup.{finite-pixel}
+use Rattle.lookup.proofs.Steps.{looked-up-so, inside-wide, inside-high, reaches}
+use borrow.Author.Needs.{needs}
+use Rattle.lookup.proofs.looked_up.Statement.{statement}
+use Rattle.lookup.proofs.looked_up.Tie as tie
+
+returns : tie.Need-returns
+returns c = looked-up-so _ _ _ _ _ (sym (c .if1 .taken) ∙ c .before .outside .ensures) refl refl
+
+returns-2 : tie.Need-returns-2
+returns-2 c =
+    looked-up-so _ _ _ _ _
+    (sym (c .before .before .if1 .left) ∙ c .before .before .before .outside .ensures)
+    (sym (c .if2 .taken) ∙ c .before .outside2 .ensures)
+    refl
+
+spot-of-requires : tie.Need-spot-of-requires
+spot-of-requires c κs =
+    let p = c .before .before .before .before .before .pre in
+    inside-wide (p .0) _ (p .1) (sym (c .before .before .before .outside .ensures) ∙ c .before .before .if1 .left)
+
+spot-of-requires-2 : tie.Need-spot-of-requires-2
+spot-of-requires-2 c κs =
+    let p = c .before .before .before .before .before .before .pre in
+    inside-high (p .0) _ (p .2) (sym (c .before .before .outside2 .ensures) ∙ c .before .if2 .left)
+
+pixel-at-requires : tie.Need-pixel-at-requires
+pixel-at-requires c κs =
+    let p = c .before .before .before .before .before .before .before .pre in
+    let i = inside-wide (p .0) _ (p .1) (sym (c .before .before .before .before .before .outside .ensures) ∙ c .before .before .before .before .if1 .left) in
+    let j = inside-high (p .0) _ (p .2) (sym (c .before .before .before .outside2 .ensures) ∙ c .before .before .if2 .left) in
+    rw (c .spot-of2 .ensures, c .before .spot-of .ensures) (reaches (p .0) i j)
+
+returns-3 : tie.Need-returns-3
+returns-3 c =
+    looked-up-so _ _ _ _ _
+    (sym (c .before .before .before .before .before .before .if1 .left) ∙ c .before .before .before .before .before .before .before .outside .ensures)
+    (sym (c .before .before .before .before .if2 .left) ∙ c .before .before .before .before .before .outside2 .ensures)
+    (c .finite-pixel .ensures ∙ ap finite-pixel (rw (c .before .pixel-at .ensures, c .before .before .spot-of2 .ensures, c .before .before .before .spot-of .ensures) refl))
+
+pub looked-up-spec : {M : Type 1} → statement M
+looked-up-spec =
+    tie.close
+    (tie.spec
+    (λ c κs. search needs)
+    returns
+    (λ c κs. search needs)
+    returns-2
+    spot-of-requires
+    spot-of-requires-2
+    pixel-at-requires
+    (λ c κs. search needs)
+    returns-3)

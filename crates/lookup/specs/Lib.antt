@@ -1,0 +1,4 @@
+pub mod Lookup
+pub mod Asked
+pub mod Rows
+pub mod Owed

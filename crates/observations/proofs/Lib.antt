@@ -1,0 +1,3 @@
+pub mod Pass
+pub mod Written
+pub mod Laws
