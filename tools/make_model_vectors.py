@@ -441,6 +441,16 @@ def kinds():
     yield "bc, touching", by_ending(Splitmix(45), touching_bc, 3, 60)
 
 
+def misspelled(fields, one):
+    """The line of these fields, each field by itself with a digit of `one` spelled wrong, as the neighbours of the
+    digits' ranges and as a capital; then each tab as a space."""
+    for place in range(len(fields)):
+        wrong = ("/" + one[1:], one[:-1] + ":", "`" + one[1:], one[:-1] + "g", one[:-1] + "A")[place % 5]
+        yield "\t".join(fields[:place] + [wrong] + fields[place + 1 :])
+    for place in range(1, len(fields)):
+        yield "\t".join(fields[:place]) + " " + "\t".join(fields[place:])
+
+
 def bad_lines():
     """Lines of 272 bytes that are not of the form: the program reads so many at a time. The last one is of the
     form, and is bad because `main` cuts its end off."""
@@ -452,12 +462,7 @@ def bad_lines():
     for place in (0, 1):
         for wrong in (4, 2**32, 2**63):
             bad.append("\t".join(fields[:place] + [f"{wrong:016x}"] + fields[place + 1 :]))
-    # each field by itself: the neighbours of the digits' ranges, capitals; then each tab
-    for place in range(16):
-        wrong = ("/" + one[1:], one[:-1] + ":", "`" + one[1:], one[:-1] + "g", one[:-1] + "A")[place % 5]
-        bad.append("\t".join(fields[:place] + [wrong] + fields[place + 1 :]))
-    for place in range(1, 16):
-        bad.append("\t".join(fields[:place]) + " " + "\t".join(fields[place:]))
+    bad += misspelled(fields, one)
     assert all(len(line) == 271 for line in bad)
     return bad + [good]
 

@@ -65,7 +65,7 @@ from lens_tables import (
 )
 from make_leaf_vectors import INF, NANS, SIGN, Splitmix, value
 from make_leaf_vectors import narrow as exact_narrow
-from make_model_vectors import BC_EXAMPLE, number_of, pattern, sized, spelled, uniform
+from make_model_vectors import BC_EXAMPLE, misspelled, number_of, pattern, sized, spelled, uniform
 from make_model_vectors import unit as plain
 
 FOLDER = pathlib.Path(__file__).resolve().parent.parent / "crates" / "table_vectors"
@@ -426,12 +426,7 @@ def bad_lines():
     # the model: the first number past the last, and large ones that fit again once high bits are lost
     for wrong in (4, 2**8, 2**32, 2**63):
         bad.append("\t".join([f"{wrong:016x}"] + fields[1:]))
-    # each field by itself: the neighbours of the digits' ranges, capitals; then each tab
-    for place in range(16):
-        wrong = ("/" + one[1:], one[:-1] + ":", "`" + one[1:], one[:-1] + "g", one[:-1] + "A")[place % 5]
-        bad.append("\t".join(fields[:place] + [wrong] + fields[place + 1 :]))
-    for place in range(1, 16):
-        bad.append("\t".join(fields[:place]) + " " + "\t".join(fields[place:]))
+    bad += misspelled(fields, one)
     assert all(len(line) == 271 for line in bad)
     return bad + [good]
 

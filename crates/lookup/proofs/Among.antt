@@ -1,9 +1,9 @@
 -- An index among the cells: that it is a number, and what its whole part is. Assumes nothing.
 use mathlib.Core.Path.{_≡_, refl, sym, ap, _∙_, subst}
-use mathlib.Core.Logic.{_⊎_, inl, inr}
+use mathlib.Core.Logic.{inl, inr}
 use mathlib.Core.Bool.{Bool, true, false, not, _&&_, _||_, cond, Bool·beq, true≢false, false≢true}
-use Prim.Native.Nat.{ℕ, zero, suc, _+_, _-_, _*_, _/_, _^_, _≤_, _<_, min}
-use native.Mathlib.Nat.{le-trans, lt-of-le-of-lt, le-of-lt, min-eq-left, zero-mul, zero-lt-suc, mul-pos, mul-le-mul-right, div-le-of-le-mul, div-mul-le-self, lt-div-mul-add}
+use Prim.Native.Nat.{ℕ, zero, suc, _+_, _-_, _*_, _/_, _^_, _≤_, _<_}
+use native.Mathlib.Nat.{le-trans, min-eq-left, zero-lt-suc, mul-pos, mul-le-mul-right, div-le-of-le-mul, div-mul-le-self, lt-div-mul-add}
 use native.Mathlib.Decide.{decLt}
 use native.Mathlib.Omega.{arith}
 use lib.IntN.{ℤ, pos}
@@ -13,21 +13,19 @@ use lib.Ieee.Fits.{up-pos, down-pos}
 use lib.Ieee.Back.{round-whole}
 use lib.Ieee.Exact.{HasValue}
 use lib.Ieee.Scale.{finite, overflow}
-use Rattle.exact.specs.F64.{_⊖_, _⊘_, f64, isZero}
+use Rattle.exact.specs.F64.{_⊖_, _⊘_, isZero}
 use Rattle.exact.specs.Fraction.{_≼_, _≺_, _≈_, over, whole, opposite, exactly}
-use Rattle.exact.specs.Rounding.{Rounded}
 use Rattle.exact.proofs.Fractions.{value, over-≼, lt-≺, ≼-or-≺, ≼-≈, exactly-proper}
 use Rattle.exact.proofs.Laws.{rounding-near}
 use Rattle.exact.proofs.Tests.{is-zero, below-zero}
 use Rattle.lens.specs.Constants.{zeros}
-use Rattle.lens.specs.declared.Judgement.{Judgement}
 use Rattle.lens.specs.declared.Judgement.the-variants.{Taken, Refused}
 use Rattle.lens.specs.declared.Refusal.the-variants.{IncrementNotPositive, AnswerNotFinite}
 use Rattle.region.specs.Region.{flat, wrong}
 use Rattle.region.specs.Size.{float}
 use Rattle.region.specs.declared.Increments.{Increments}
 use Rattle.lookup.specs.Asked.{Number, Inside}
-use Rattle.lookup.specs.Lookup.{index, outside, whole-part}
+use Rattle.lookup.specs.Lookup.{index, whole-part}
 
 -- ---- no operation of an index makes a NaN
 

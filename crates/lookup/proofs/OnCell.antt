@@ -1,12 +1,12 @@
 -- An index that is a whole number: it isn't outside, its whole part is that number, and its fraction is a zero. So of the four cells around it the first comes back. Assumes nothing.
 use mathlib.Core.Path.{_≡_, refl, sym, ap, _∙_, subst}
 use mathlib.Core.Logic.{inl, inr}
-use mathlib.Core.Bool.{Bool, true, false, _||_, _&&_, true≢false, false≢true}
+use mathlib.Core.Bool.{Bool, true, false, _&&_, false≢true}
 use mathlib.Core.List.{List, [], _∷_}
-use Prim.Native.Nat.{ℕ, zero, suc, _+_, _-_, _*_, _^_, _≤_, _<_}
-use native.Mathlib.Nat.{le-trans, eq-zero-or-pos, mul-pos, mul-one, zero-lt-suc}
+use Prim.Native.Nat.{ℕ, zero, _+_, _-_, _*_, _^_, _≤_, _<_}
+use native.Mathlib.Nat.{le-trans, eq-zero-or-pos, mul-pos, zero-lt-suc}
 use native.Mathlib.Omega.{arith}
-use lib.IntN.{ℤ, pos}
+use lib.IntN.{ℤ}
 use lib.Dec.{T, le→leb, lit≤}
 use lib.Ieee.{Float, nan, inf, fin, binary32, binary64, up, down, round, sum, sub, add, neg, lt, eq, ofBits, ofInt, toUnsigned, fits, inFloat}
 use lib.Ieee.Fits.{up-pos, down-pos, round-fits}
@@ -14,7 +14,7 @@ use lib.Ieee.Back.{round-whole, unsigned-back, whole-unique}
 use lib.Ieee.Scale.{finite}
 use lib.ListN.{getD}
 use Rattle.exact.specs.F64.{_⊖_, isZero}
-use Rattle.exact.specs.Fraction.{_≼_, _≺_, _≈_, over, whole, opposite, exactly}
+use Rattle.exact.specs.Fraction.{_≼_, _≈_, over, whole, opposite, exactly}
 use Rattle.exact.proofs.Fractions.{over-≼, over-≈, lt-≺, eq-≈, ≈-trans, ≈→≼, ≈-sym, ≼-trans, ≺-not-≼, exactly-proper, whole-proper}
 use Rattle.lens.specs.Constants.{zeros}
 use Rattle.lens.specs.Finite.{all-finite}

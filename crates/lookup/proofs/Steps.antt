@@ -1,8 +1,8 @@
 -- What the refusals before the answer leave, and that the four cells around two spots are in the table. Assumes nothing.
-use mathlib.Core.Path.{_≡_, refl, sym, ap, _∙_, subst}
-use mathlib.Core.Bool.{Bool, true, false, not, cond, _||_, _&&_, true≢false, false≢true}
+use mathlib.Core.Path.{_≡_, refl}
+use mathlib.Core.Bool.{Bool, true, false, not, cond, _||_, _&&_, false≢true}
 use mathlib.Core.List.{List, [], _∷_}
-use Prim.Native.Nat.{ℕ, suc, _+_, _-_, _*_, _≤_, _<_, min}
+use Prim.Native.Nat.{ℕ, _+_, _-_, _*_, _<_}
 use native.Mathlib.Nat.{mul-le-mul-right, min-le-right}
 use native.Mathlib.Omega.{arith}
 use borrow.Author.Tests.{eqb-true}
@@ -18,12 +18,12 @@ use Rattle.lens.specs.declared.Judgement.the-variants as call
 use Rattle.lens.specs.declared.Point.{Point}
 use Rattle.lens.specs.declared.Refusal.the-variants.{NotFinite, WrongSize, WrongLength, OutsideTable}
 use Rattle.region.specs.Region.{four, increments, wrong}
-use Rattle.region.specs.Size.{Sized, sized}
+use Rattle.region.specs.Size.{sized}
 use Rattle.region.specs.declared.Increments.{Increments}
 use Rattle.region.specs.declared.Region.{Region}
 use Rattle.region.proofs.Size.{is-sized}
 use Rattle.lookup.specs.Asked.{Number, Inside, Whole, Reaches, Taken}
-use Rattle.lookup.specs.Lookup.{index, outside, spot, beside, whole-part, finite-pixel, pixel-at, looked-up, spread, given}
+use Rattle.lookup.specs.Lookup.{index, outside, spot, whole-part, finite-pixel, pixel-at, looked-up, spread, given}
 use Rattle.lookup.proofs.Among.{cut, steps, index-number}
 
 -- ---- 4, 6 and 7, by what the tests say

@@ -1,20 +1,19 @@
 -- Sums and products with a zero: between two f32s by a fraction of zero lies the first. Assumes nothing.
 use mathlib.Core.Path.{_≡_, refl, sym, ap, _∙_, subst}
-use mathlib.Core.Logic.{_⊎_, inl, inr}
-use mathlib.Core.Bool.{Bool, true, false, not, _&&_, cond, Bool·beq, true≢false, false≢true}
-use Prim.Native.Nat.{ℕ, zero, suc, _+_, _-_, _*_, _^_, _≤_, _<_}
+use mathlib.Core.Logic.{inl, inr}
+use mathlib.Core.Bool.{Bool, true, false, not, _&&_, cond, Bool·beq, false≢true}
+use Prim.Native.Nat.{ℕ, zero, suc, _+_, _-_, _*_, _^_, _<_}
 use native.Mathlib.Nat.{zero-mul, mul-pos, mul-one, mul-le-mul-right, lt-of-lt-of-le, lt-of-mul-lt-mul-right, mul-right-comm, mul-comm, mul-lt-mul-of-pos-right, le-of-eq, le-refl, sub-self, sub-zero, add-zero, mul-assoc, zero-lt-suc}
 use native.Mathlib.Omega.{arith}
 use borrow.Author.Tests.{le-ltb, lt-ltb}
 use lib.IntN.{ℤ, pos}
 use lib.Dec.{T, ltb, lit≤}
 use lib.Pow.{pow-add, pow-pos}
-use lib.Ieee.{Float, nan, inf, fin, Format, binary32, binary64, prec, emax, low, up, down, round, sum, add, sub, mul, neg, ofBits, fits, unlike}
+use lib.Ieee.{Float, nan, inf, fin, Format, binary32, binary64, emax, low, up, down, round, sum, add, sub, mul, neg, ofBits, fits, unlike}
 use lib.Ieee.Fits.{up-pos, down-pos, round-fits, fits-widens}
-use lib.Ieee.Exact.{HasValue, round-exact}
+use lib.Ieee.Exact.{round-exact}
 use lib.Ieee.Scale.{finite, round-same}
-use Rattle.exact.specs.F64.{_⊕_, _⊖_, _⊗_, isZero}
-use Rattle.exact.specs.Rounding.{limit}
+use Rattle.exact.specs.F64.{_⊕_, _⊖_, isZero}
 use Rattle.exact.proofs.Laws.{rounding-finite, value-unique, value-in-units}
 use Rattle.exact.proofs.Pattern.{in-range}
 use Rattle.lens.specs.Constants.{zeros}

@@ -1,6 +1,6 @@
 -- Lookup: the pixel at a point between the cells of a table. Definitions only.
 use mathlib.Core.Bool.{Bool, not, cond, _||_}
-use mathlib.Core.List.{List, [], _∷_, _++_}
+use mathlib.Core.List.{List, [], _∷_}
 use Prim.Native.Nat.{ℕ, _+_, _-_, _*_, min}
 use lib.Dec.{eqb}
 use lib.Ieee.{Float, nan, lt, toUnsigned}

@@ -1,7 +1,6 @@
 -- `lookup::between` meets its contract. Assumes nothing.
 use mathlib.Core.Path.{refl}
 use Rattle.lookup.specs.Lookup.{between}
-use borrow.Author.Needs.{needs}
 use Rattle.lookup.proofs.between.Statement.{statement}
 use Rattle.lookup.proofs.between.Tie as tie
 

@@ -1,7 +1,6 @@
 -- `lookup::index` meets its contract. Assumes nothing.
 use mathlib.Core.Path.{refl}
 use Rattle.lookup.specs.Lookup.{index}
-use borrow.Author.Needs.{needs}
 use Rattle.lookup.proofs.index.Statement.{statement}
 use Rattle.lookup.proofs.index.Tie as tie
 

@@ -1,6 +1,5 @@
 -- `lookup::looked_up` meets its contract. Assumes nothing.
 use mathlib.Core.Path.{refl, sym, ap, _∙_}
-use Rattle.lens.specs.declared.Distorted.{Distorted}
 use Rattle.lookup.specs.Lookup.{finite-pixel}
 use Rattle.lookup.proofs.Steps.{looked-up-so, inside-wide, inside-high, reaches}
 use borrow.Author.Needs.{needs}

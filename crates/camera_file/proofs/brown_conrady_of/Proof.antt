@@ -1,0 +1,61 @@
+-- `camera_file::brown_conrady_of` meets its contract: each parameter at its place. Assumes nothing.
+use borrow.Author.Needs.{needs}
+use Rattle.camera_file.proofs.brown_conrady_of.Statement.{statement}
+use Rattle.camera_file.proofs.brown_conrady_of.Tie as tie
+
+at-requires : tie.Need-at-requires
+at-requires c κs = search needs
+
+at-requires-2 : tie.Need-at-requires-2
+at-requires-2 c κs = search needs
+
+at-requires-3 : tie.Need-at-requires-3
+at-requires-3 c κs = search needs
+
+at-requires-4 : tie.Need-at-requires-4
+at-requires-4 c κs = search needs
+
+at-requires-5 : tie.Need-at-requires-5
+at-requires-5 c κs = search needs
+
+at-requires-6 : tie.Need-at-requires-6
+at-requires-6 c κs = search needs
+
+at-requires-7 : tie.Need-at-requires-7
+at-requires-7 c κs = search needs
+
+at-requires-8 : tie.Need-at-requires-8
+at-requires-8 c κs = search needs
+
+at-requires-9 : tie.Need-at-requires-9
+at-requires-9 c κs = search needs
+
+at-requires-10 : tie.Need-at-requires-10
+at-requires-10 c κs = search needs
+
+at-requires-11 : tie.Need-at-requires-11
+at-requires-11 c κs = search needs
+
+at-requires-12 : tie.Need-at-requires-12
+at-requires-12 c κs = search needs
+
+returns : tie.Need-returns
+returns c = cc
+
+pub brown-conrady-of-spec : {M : Type 1} → statement M
+brown-conrady-of-spec =
+    tie.close
+    (tie.spec
+    at-requires
+    at-requires-2
+    at-requires-3
+    at-requires-4
+    at-requires-5
+    at-requires-6
+    at-requires-7
+    at-requires-8
+    at-requires-9
+    at-requires-10
+    at-requires-11
+    at-requires-12
+    returns)
