@@ -1,0 +1,128 @@
+-- All that is printed, whatever the input, has no more than 34 bytes for each of 4,096 cells. Assumes nothing.
+use mathlib.Core.Path.{_≡_, refl, sym, ap, _∙_, subst}
+use mathlib.Core.Bool.{Bool, true, false, cond}
+use mathlib.Core.List.{List, [], _∷_, _++_}
+use Prim.Native.Nat.{ℕ, _+_, _*_, _≤_, _<_}
+use native.Mathlib.Nat.{mul-le-mul-right}
+use native.Mathlib.Omega.{arith}
+use borrow.Author.Tests.{ltb-false}
+use lib.Dec.{ltb}
+use lib.Ieee.{Float, binary32, ofBits}
+use lib.ListN.{length, length-append, take, replicate, length-replicate}
+use lib.Seq.{length-take-le}
+use Rattle.lens.specs.Refusal.{number}
+use Rattle.lens.specs.declared.Refusal.the-variants.{WrongSize}
+use Rattle.lens.proofs.Laws.{number-within}
+use Rattle.region.specs.Size.{Sized}
+use Rattle.region.proofs.Size.{is-sized}
+use Rattle.camera.specs.Camera.{limit}
+use Rattle.camera.specs.declared.Camera.{Camera}
+use Rattle.camera.specs.declared.Camera.the-variants as model
+use Rattle.camera_file.specs.Asked.{parsed}
+use Rattle.camera_file.specs.declared.Parsed.{Parsed}
+use Rattle.camera_file.specs.declared.Parsed.the-variants as file
+use Rattle.listing.specs.Listing.{table-line, region-line, refused-line, cell-lines, listing-lines, joined}
+use Rattle.distortion_table.specs.Border.{samples}
+use Rattle.distortion_table.specs.Job.{Answer, answer, fresh, whole-table, enough}
+use Rattle.distortion_table.specs.Table.{State, next}
+use Rattle.distortion_table.specs.Turns.{Said, finished, refused, running, turn, least}
+use Rattle.distortion_table.specs.declared.Job.{Job}
+use Rattle.distortion_table.specs.declared.Started.{Started}
+use Rattle.distortion_table.specs.declared.Started.the-variants as begun
+use Rattle.distortion_table.proofs.Calls.{Takes, start, start-good, fresh-takes, answer-is}
+use Rattle.distortion_table.proofs.Reaching.{Good, turn-keeps}
+use Rattle.distortion_table.proofs.Smaller.{least-most}
+use Rattle.printer.specs.Printed.{refusal-lines, shown-as, shown, most-cells, blank, sized-lines, started, table-lines, file-lines, printed-lines, printed, most-printed}
+use Rattle.printer.proofs.Numbers.{Told, table-told}
+use Rattle.printer.proofs.Short.{refused-short, table-short, region-long, cells-short}
+
+abbrev Short : List (List ℕ) → Type 0
+Short lines = length (joined lines) ≤ most-printed
+
+refusal-short : (n : ℕ) → n ≤ 14 → Short (refusal-lines n)
+unfolding joined
+refusal-short n h = omega (arith, length-append (refused-line n) [], refused-short n (omega arith))
+
+none-short : Short []
+unfolding joined
+none-short = omega arith
+
+limit-most : (camera : Camera) → limit camera ≤ 50
+limit-most (model.Affine p) = omega arith
+limit-most (model.EnhancedUnified p) = omega arith
+limit-most (model.KannalaBrandt p) = omega arith
+limit-most (model.BrownConrady p) = omega arith
+
+pub blank-long : (cells : ℕ) → cells ≤ most-cells → length (blank cells) ≡ 2 * cells
+blank-long cells h =
+    length-take-le (2 * cells) (replicate (2 * most-cells) (ofBits binary32 0)) (omega (arith, length-replicate (2 * most-cells) (ofBits binary32 0)))
+
+-- a listing of a table of no more than that many cells
+listing-short : (a : Answer) → Sized (a .job .width) (a .job .height) → a .job .at .updates < 10000000 → length (a .cells) ≤ 2 * most-cells
+    → Short (shown-as finished a)
+unfolding listing-lines joined
+listing-short a s u c =
+    let header = table-line (a .job .width) (a .job .height) (a .job .at .updates) in
+    let region = region-line (a .job .at .region) in
+    let cells = joined (cell-lines (a .job .width) (a .job .height) 0 0 (a .cells)) in
+    omega (
+      arith,
+      length-append header (region ++ cells),
+      length-append region cells,
+      region-long (a .job .at .region),
+      table-short (a .job .width) (a .job .height) (a .job .at .updates) (omega (arith, s .not-wider)) (omega (arith, s .not-higher)) u,
+      cells-short (a .job .width) (a .job .height) 0 0 (a .cells) (omega (arith, s .not-wider)) (omega (arith, s .not-higher)) (omega (arith, s .wide)),
+      c,
+    )
+
+module _ (camera : Camera) (width height : ℕ) (s : Sized width height) where
+  shown-short : (a : Answer) → a .job .width ≡ width → a .job .height ≡ height → a .job .at .updates < 10000000 → length (a .cells) ≤ 2 * most-cells → Told (a .said) → Short (shown a)
+  shown-short a w h u c t = go (a .said) t
+    where
+      go : (x : Said) → Told x → Short (shown-as x a)
+      go finished k = listing-short a (subst (λ (x : ℕ). Sized x (a .job .height)) (sym w) (subst (λ (y : ℕ). Sized width y) (sym h) s)) u c
+      go (refused n) k = refusal-short n k
+      go running k = none-short
+
+  whole-short : (job : Job) → fresh camera width height ≡ begun.With job → width * height ≤ most-cells → Short (shown (whole-table camera width height (blank (width * height))))
+  whole-short job e h =
+      let cells = blank (width * height) in
+      let long = blank-long (width * height) h in
+      let takes = fresh-takes camera width height job e .0 in
+      let good = start-good camera width height cells long in
+      let s' = start camera width height cells in
+      let after = turn-keeps camera width height enough s' good in
+      let t = turn (next camera width height) enough s' in
+      subst (λ (a : Answer). Short (shown a)) (sym (answer-is camera width height takes enough s' good))
+      (shown-short (answer camera width height t) refl refl (few _ (t .state .at .done) (after .record-of .updates)) (omega (arith, after .long)) (table-told camera width height enough s'))
+    where
+      few : (updates done : ℕ) → updates ≤ limit camera * least done (samples width height) → updates < 10000000
+      few updates done h = omega (arith, h, mul-le-mul-right (least done (samples width height)) (limit-most camera), least-most done (samples width height), s .not-wider, s .not-higher)
+
+  pub sized-short : (job : Job) → fresh camera width height ≡ begun.With job → Short (sized-lines camera width height)
+  unfolding sized-lines
+  sized-short job e = go (ltb most-cells (width * height)) refl
+    where
+      go : (b : Bool) → ltb most-cells (width * height) ≡ b → Short (cond b (refusal-lines (number WrongSize)) (shown (whole-table camera width height (blank (width * height)))))
+      go true k = refusal-short (number WrongSize) (omega arith)
+      go false k = whole-short job e (ltb-false most-cells (width * height) k)
+
+table-lines-short : (camera : Camera) (width height : ℕ) → Short (table-lines camera width height)
+unfolding table-lines
+table-lines-short camera width height = go (fresh camera width height) refl
+  where
+    go : (b : Started) → fresh camera width height ≡ b → Short (started b (sized-lines camera width height))
+    go (begun.Refused r) e = refusal-short (number r) (number-within r .1)
+    go (begun.With job) e = sized-short camera width height (is-sized width height (fresh-takes camera width height job e .0 .size)) job e
+
+lines-short : (input : List ℕ) → Short (printed-lines input)
+unfolding printed-lines
+lines-short input = go (parsed input)
+  where
+    go : (p : Parsed) → Short (file-lines p)
+    go (file.Refused r) = refusal-short (number r) (number-within r .1)
+    go (file.Asked camera width height) = table-lines-short camera width height
+
+pub printed-short : (input : List ℕ) → length (printed input) ≤ most-printed
+unfolding printed
+printed-short input = lines-short _

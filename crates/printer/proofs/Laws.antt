@@ -1,0 +1,106 @@
+-- What a caller may rely on, of the definitions of specs/ and of the contract of src/. Assumes nothing.
+use mathlib.Core.Path.{_≡_, sym, ap, _∙_}
+use mathlib.Core.Bool.{Bool, cond}
+use mathlib.Core.List.{List, [], _∷_, append-nil}
+use mathlib.Core.Option.{some}
+use Prim.Native.Nat.{ℕ, _*_, _≤_}
+use native.Mathlib.Omega.{arith}
+use borrow.Author.Tests.{le-ltb}
+use lib.Ieee.{binary64}
+use lib.Ieee.Bits.{ofBits-fits}
+use lib.ListN.{length}
+use Rattle.exact.specs.Determined.{Determined}
+use Rattle.lens.specs.Refusal.{number}
+use Rattle.lens.specs.declared.Refusal.the-variants.{WrongSize}
+use Rattle.region.proofs.Size.{is-sized}
+use Rattle.camera.specs.declared.Camera.{Camera}
+use Rattle.camera_file.specs.Asked.{parsed}
+use Rattle.camera_file.specs.declared.Parsed.{Parsed}
+use Rattle.camera_file.specs.declared.Parsed.the-variants as file
+use Rattle.listing.specs.Listing.{refused-line, listing, joined}
+use Rattle.listing.specs.Placed.{Written}
+use Rattle.listing.specs.Read.{Listed, read-listing}
+use Rattle.listing.proofs.Laws.{listing-read}
+use Rattle.distortion_table.specs.Job.{Answer, answer, fresh, whole-table, enough}
+use Rattle.distortion_table.specs.Table.{State, next}
+use Rattle.distortion_table.specs.Turns.{Said, finished, refused, Turn, turn}
+use Rattle.distortion_table.specs.declared.Job.{Job}
+use Rattle.distortion_table.specs.declared.Started.{Started}
+use Rattle.distortion_table.specs.declared.Started.the-variants as begun
+use Rattle.distortion_table.proofs.Calls.{Takes, start, start-good, fresh-takes, answer-is}
+use Rattle.distortion_table.proofs.Reaching.{Good, turn-keeps}
+use Rattle.printer.specs.Printed.{refusal-lines, shown-as, most-cells, blank, sized-lines, started, table-lines, file-lines, printed-lines, printed, most-printed}
+use Rattle.printer.proofs.Back.{Fit, blank-fit, turn-fits}
+use Rattle.printer.proofs.Fits.{blank-long, printed-short}
+use Rattle.printer.proofs.print.Reads as print-contract
+
+-- Any two answers to one call that the contract of `print` permits are equal.
+pub print-determined : Determined print-contract.Post
+print-determined κ a s s' r r' p q = ap (λ (w : Written). w .at) (p .0 ∙ sym (q .0))
+
+-- All that is printed has room in a buffer of OUTPUT bytes, whatever the input: 34 bytes for each of 4,096 cells.
+pub fits : (input : List ℕ) → length (printed input) ≤ most-printed
+fits = printed-short
+
+-- ---- an input that asks for a table
+
+module _ (input : List ℕ) (camera : Camera) (width height : ℕ) (asks : parsed input ≡ file.Asked camera width height)
+    (job : Job) (begin : fresh camera width height ≡ begun.With job) (few : width * height ≤ most-cells) where
+  -- the table that it asks for, built at once
+  abbrev pub built : Answer
+  built = whole-table camera width height (blank (width * height))
+
+  abbrev first-state : State
+  first-state = start camera width height (blank (width * height))
+
+  takes : Takes camera width height
+  takes = fresh-takes camera width height job begin .0
+
+  good : Good camera width height first-state
+  good = start-good camera width height (blank (width * height)) (blank-long (width * height) few)
+
+  abbrev last : Turn State
+  last = turn (next camera width height) enough first-state
+
+  built-is : built ≡ answer camera width height last
+  built-is = answer-is camera width height takes enough first-state good
+
+  shown-lines : (said : Said) → built .said ≡ said → printed-lines input ≡ shown-as said built
+  unfolding printed-lines table-lines sized-lines
+  shown-lines said e =
+      ap file-lines asks
+      ∙ ap (λ (b : Started). started b (sized-lines camera width height)) begin
+      ∙ ap (λ (b : Bool). cond b (refusal-lines (number WrongSize)) (shown-as (built .said) built)) (le-ltb most-cells (width * height) few)
+      ∙ ap (λ (s : Said). shown-as s built) e
+
+  -- A table that is finished is printed as its listing.
+  pub printed-listing : built .said ≡ finished → printed input ≡ listing width height (built .job .at .updates) (built .job .at .region) (built .cells)
+  unfolding printed listing
+  printed-listing e =
+      ap joined (shown-lines finished e)
+      ∙ ap (λ (a : Answer). joined (shown-as finished a)) built-is
+      ∙ ap (λ (a : Answer). listing width height (a .job .at .updates) (a .job .at .region) (a .cells)) (sym built-is)
+
+  -- One that a unit refuses is printed as that refusal's line, and nothing of the table is.
+  pub printed-refused : (n : ℕ) → built .said ≡ refused n → printed input ≡ refused-line n
+  unfolding printed joined
+  printed-refused n e = ap joined (shown-lines (refused n) e) ∙ append-nil (refused-line n)
+
+  first-fit : Fit first-state
+  first-fit = record {
+    cells = blank-fit (2 * (width * height)) (2 * most-cells) 0;
+    region = (ofBits-fits binary64 0, ofBits-fits binary64 0, ofBits-fits binary64 0, ofBits-fits binary64 0);
+  }
+
+  fit : Fit (last .state)
+  fit = turn-fits camera width height enough first-state first-fit
+
+  -- From what is printed of a finished table the same size, updates, region and cells are read back.
+  pub printed-read : built .said ≡ finished
+      → read-listing (printed input) ≡ some record { header = record { width = width; height = height; updates = built .job .at .updates }; region = built .job .at .region; table = built .cells }
+  printed-read e =
+      let s = is-sized width height (takes .size) in
+      let at = last .state .at in
+      ap read-listing (printed-listing e ∙ ap (λ (a : Answer). listing width height (a .job .at .updates) (a .job .at .region) (a .cells)) built-is)
+      ∙ listing-read width height (at .updates) (at .region) (last .state .cells) (omega (arith, s .wide)) (turn-keeps camera width height enough first-state good .long) (fit .cells) (fit .region .0) (fit .region .1) (fit .region .2) (fit .region .3)
+      ∙ ap (λ (a : Answer). some record { header = record { width = width; height = height; updates = a .job .at .updates }; region = a .job .at .region; table = a .cells }) (sym built-is)

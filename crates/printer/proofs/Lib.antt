@@ -1,0 +1,7 @@
+pub mod Back
+pub mod Fits
+pub mod Laws
+pub mod Lines
+pub mod Numbers
+pub mod Short
+pub mod Whole

@@ -1,0 +1,26 @@
+-- `printer::fill` meets its contract. Assumes nothing.
+use mathlib.Core.Path.{_≡_, sym, ap, _∙_}
+use native.Mathlib.Omega.{arith}
+use lib.ListN.{length, drop, length-append, length-drop}
+use lib.Seq.{length-take-le, take-at}
+use Rattle.distortion_table.specs.Job.{told-turned}
+use borrow.Author.Needs.{needs}
+use Rattle.printer.proofs.fill.Statement.{statement}
+use Rattle.printer.proofs.fill.Tie as tie
+
+slice-aggregate-distort-table : tie.Need-slice-aggregate-distort-table
+slice-aggregate-distort-table c =
+    let a = c .before .before .args in
+    sym (length-take-le (a .n) (a .room .now) (omega arith))
+
+returns : tie.Need-returns
+returns c =
+    let a = c .before .before .before .before .before .args in
+    let ys = c .before .before .distort-table .last .1 .1 .1 .0 in
+    let long : length ys ≡ a .n = omega (arith, length-take-le (a .n) (a .room .now) (c .before .before .before .before .before .pre)) in (
+      ap (told-turned (c .before .before .distort-table .result)) (take-at ys (drop (a .n) (a .room .now)) (a .n) long) ∙ c .before .before .distort-table .ensures,
+      length-append ys (drop (a .n) (a .room .now)) ∙ omega (arith, long, length-drop (a .n) (a .room .now), c .before .before .before .before .before .pre),
+    )
+
+pub fill-spec : {M : Type 1} → statement M
+fill-spec = tie.close (tie.spec (λ c. search needs) slice-aggregate-distort-table (λ c κs. search needs) (λ c. search needs) returns)
