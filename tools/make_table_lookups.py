@@ -287,21 +287,13 @@ def not_finite():
 
 
 def sizes():
+    most = 2**64 - 1
+    name = lambda n: "the largest" if n == most else n
+    cases = [(6, 0, 2), (6, 1, 6), (6, 6, 1), (6, 3, 0), (6, 4097, 2), (6, 2, 4097), (6, most, 2), (6, 2, most)]
+    cases += [(7, 4096, 4096), (7, 2, 2), (7, 4, 2), ("none", 2, 3), ("none", 3, 2)]
     return [
         "Refusals 6 and 7: a width or height outside 2 to 4096; a table of 12 places for another size.",
-        sized("6\t0 by 2", 0, 2),
-        sized("6\t1 by 6", 1, 6),
-        sized("6\t6 by 1", 6, 1),
-        sized("6\t3 by 0", 3, 0),
-        sized("6\t4097 by 2", 4097, 2),
-        sized("6\t2 by 4097", 2, 4097),
-        sized("6\tthe largest by 2", 2**64 - 1, 2),
-        sized("6\t2 by the largest", 2, 2**64 - 1),
-        sized("7\t4096 by 4096", 4096, 4096),
-        sized("7\t2 by 2", 2, 2),
-        sized("7\t4 by 2", 4, 2),
-        sized("none\t2 by 3", 2, 3),
-        sized("none\t3 by 2", 3, 2),
+        *(sized(f"{no}\t{name(w)} by {name(h)}", w, h) for no, w, h in cases),
     ]
 
 

@@ -218,32 +218,23 @@ def units_lines():
         yield f"units {done}", record(done=done), outcome
 
 
+def limits(most):
+    """After 5 samples, after all 14 and among the cells: the last count that is taken, and the first that is not."""
+    for done, outcome in ((5, SAMPLE), (14, CELL), (17, CELL)):
+        yield done, most * min(done, 14), outcome
+        yield done, most * min(done, 14) + 1, 13
+
+
 def updates_lines():
     yield "Updates: at most 0 (affine, eucm), 20 (kb) or 50 (bc) for each sample done, of which there are 14."
-    for name, camera, done, updates, outcome in (
-        ("affine", CAMERA, 5, 0, SAMPLE),
-        ("affine", CAMERA, 5, 1, 13),
-        ("affine", CAMERA, 17, 1, 13),
-        ("eucm", EUCM_ORDINARY, 5, 0, SAMPLE),
-        ("eucm", EUCM_ORDINARY, 5, 1, 13),
-        ("kb", KB_ORDINARY, 0, 0, SAMPLE),
-        ("kb", KB_ORDINARY, 0, 1, 13),
-        ("kb", KB_ORDINARY, 5, 100, SAMPLE),
-        ("kb", KB_ORDINARY, 5, 101, 13),
-        ("kb", KB_ORDINARY, 14, 280, CELL),
-        ("kb", KB_ORDINARY, 14, 281, 13),
-        ("kb", KB_ORDINARY, 17, 280, CELL),
-        ("kb", KB_ORDINARY, 17, 281, 13),
-        ("bc", BC_ORDINARY, 0, 1, 13),
-        ("bc", BC_ORDINARY, 5, 250, SAMPLE),
-        ("bc", BC_ORDINARY, 5, 251, 13),
-        ("bc", BC_ORDINARY, 14, 700, CELL),
-        ("bc", BC_ORDINARY, 14, 701, 13),
-        ("bc", BC_ORDINARY, 17, 700, CELL),
-        ("bc", BC_ORDINARY, 17, 701, 13),
-        ("bc", BC_ORDINARY, 17, 2**32 - 1, 13),
+    for name, camera, rows in (
+        ("affine", CAMERA, ((5, 0, SAMPLE), (5, 1, 13), (17, 1, 13))),
+        ("eucm", EUCM_ORDINARY, ((5, 0, SAMPLE), (5, 1, 13))),
+        ("kb", KB_ORDINARY, ((0, 0, SAMPLE), (0, 1, 13), *limits(20))),
+        ("bc", BC_ORDINARY, ((0, 1, 13), *limits(50), (17, 2**32 - 1, 13))),
     ):
-        yield f"{name}, units {done}, updates {updates}", record(camera, done, updates), outcome
+        for done, updates, outcome in rows:
+            yield f"{name}, units {done}, updates {updates}", record(camera, done, updates), outcome
 
 
 def edges_lines():

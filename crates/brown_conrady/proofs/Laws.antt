@@ -9,6 +9,7 @@ use Rattle.exact.specs.Determined.{Determined}
 use Rattle.root.specs.Root.{root}
 use Rattle.lens.specs.Constants.{zeros, ones}
 use Rattle.lens.specs.Passes.{passes}
+use Rattle.lens.specs.Radius.{squared-radius}
 use Rattle.lens.specs.Undistorted.{direct}
 use Rattle.lens.specs.declared.Pixel.{Pixel}
 use Rattle.lens.specs.declared.Point.{Point}
@@ -16,7 +17,9 @@ use Rattle.lens.proofs.Passes.{passes-most}
 use Rattle.affine.specs.Affine as affine
 use Rattle.brown_conrady.specs.BrownConrady.{three, affine-params, distortion, distort, shared-at, slopes-at, small, step, pass, limit, start, ended, undistort}
 use Rattle.brown_conrady.specs.declared.BrownConradyParams.{BrownConradyParams}
+use Rattle.brown_conrady.specs.declared.Offset.{Offset}
 use Rattle.brown_conrady.specs.declared.Search.{Search}
+use Rattle.brown_conrady.proofs.NoRoot.{no-root}
 use Rattle.brown_conrady.proofs.distort.Reads as distort-contract
 use Rattle.brown_conrady.proofs.undistort.Reads as undistort-contract
 use Rattle.brown_conrady.proofs.dx_distort_x.Reads as dx-distort-x-contract
@@ -24,6 +27,10 @@ use Rattle.brown_conrady.proofs.dx_distort_x.Reads as dx-distort-x-cont
 -- Any two answers to one call that the contract of an operation permits are equal, for each of the three.
 pub determined : Determined distort-contract.Post × Determined undistort-contract.Post × Determined dx-distort-x-contract.Post
 determined = (λ κ a s s' r r' p q. p ∙ sym q, λ κ a s s' r r' p q. p ∙ sym q, λ κ a s s' r r' p q. p ∙ sym q)
+
+-- A norm is at most EPS exactly where its square, as rounded before the root is taken, is at most the f64 nearest to 1e-12. So the code takes no root.
+pub small-squared : (offset : Offset) → small offset ≡ le (squared-radius (offset .0) (offset .1)) (f64 0x3d71_9799_812d_ea11)
+small-squared offset = no-root (offset .0) (offset .1)
 
 -- ---- how many updates
 

@@ -150,11 +150,15 @@ fn f_xy(params: BrownConradyParams, distorted: Point, xy: Point) -> Offset
     Offset(d.0 - distorted.0, d.1 - distorted.1)
 }
 
-// Whether an offset's norm is at most EPS: the Rust's test of its step, and of what Newton leaves.
+// The last f64 whose root is at most EPS: the f64 nearest to 1e-12. Another EPS has another, and the proof asks for it.
+const EPS_SQUARED: f64 = 1e-12;
+
+// Whether an offset's norm is at most EPS: the Rust's test of its step, and of what Newton leaves. The norm is a root, which in software costs more than all else in an update, and the
+// small processor has 3 ms a frame. A squared norm is past EPS_SQUARED exactly where its root is past EPS, so no root is taken.
 fn small(offset: Offset) -> bool
     ensures { λ r. ⌜ r ≡ small offset ⌝ }
 {
-    root::root(lens::squared_radius(offset.0, offset.1)) <= lens::EPS
+    lens::squared_radius(offset.0, offset.1) <= EPS_SQUARED
 }
 
 // The inverse of the matrix a b above c d, times f.

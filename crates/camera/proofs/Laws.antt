@@ -41,9 +41,9 @@ use Rattle.kannala_brandt.proofs.Laws as kb-laws
 use Rattle.brown_conrady.specs.BrownConrady as bc
 use Rattle.brown_conrady.proofs.Laws as bc-laws
 use Rattle.kannala_brandt.specs.declared.Reached.{Reached}
-use Rattle.camera.specs.Camera.{parameters, zero-focal, judged, pixel-of, finite-pixel, distort, point-of, finite-point, undistort-judged, undistort, limit, slopes, finite-jacobian, refused, dx-distort-x, judged-params, parameter-slopes, dx-distort-params}
+use Rattle.camera.specs.Camera.{parameters, zero-focal, judged, pixel-of, distort, point-of, finite-point, undistort-judged, undistort, limit, slopes, finite-jacobian, refused, dx-distort-x, judged-params, parameter-slopes, dx-distort-params}
 use Rattle.camera.specs.Rows.{not-finite, steep, too-steep, point-not-finite, distort-rows, undistort-rows, dx-distort-x-rows, dx-distort-params-rows}
-use Rattle.lens.specs.Distorted.{told-pixel}
+use Rattle.lens.specs.Distorted.{told-pixel, finite-pixel}
 use Rattle.camera.specs.declared.Camera.{Camera}
 use Rattle.camera.specs.declared.Camera.the-variants.{Affine, EnhancedUnified, KannalaBrandt, BrownConrady}
 use Rattle.camera.specs.declared.Differentiated.{Differentiated}

@@ -7,6 +7,7 @@ use lib.Ieee.Scale.{finite}
 use Rattle.exact.specs.F64.{isZero}
 use Rattle.arctan.specs.Arctangent.{arctangent}
 use Rattle.arctan.specs.Tangent.{tangent}
+use Rattle.lens.specs.Distorted.{finite-pixel}
 use Rattle.lens.specs.Finite.{all-finite}
 use Rattle.lens.specs.Jacobian.{twoRows}
 use Rattle.lens.specs.Judgement.{decided}
@@ -61,9 +62,6 @@ pixel-of (Affine p) point = affine.distort p point
 pixel-of (EnhancedUnified p) point = eucm.distort p point
 pixel-of (KannalaBrandt p) point = kb.distort arctangent p point
 pixel-of (BrownConrady p) point = bc.distort p point
-
-abbrev pub finite-pixel : Pixel → Distorted
-finite-pixel pixel = cond (finite (pixel .0) && finite (pixel .1)) (pixels.At pixel) (pixels.Refused AnswerNotFinite)
 
 abbrev pub distort-judged : Camera → Point → Distorted
 distort-judged camera point = finite-pixel (pixel-of camera point)

@@ -1,11 +1,9 @@
 // One of four cameras: its model's four operations with the refusals that stand before and behind them. Whatever is handed in, there is an answer or a refusal's number.
 ghost use mathlib.Core.Path.{_≡_};
-ghost use mathlib.Core.Bool.{_&&_};
-ghost use lib.Ieee.Scale.{finite};
 ghost use Rattle.lens.specs.Distorted.{told-pixel};
 ghost use Rattle.lens.specs.Finite.{all-finite};
 ghost use Rattle.lens.specs.Undistorted.{told};
-ghost use Rattle.camera.specs.Camera.{parameters, either-zero, zero-focal, judged, pixel-of, finite-pixel, distort-judged, distort, point-of, finite-point, undistort-judged, undistort, limit, refused, finite-jacobian, slopes, dx-distort-x, judged-params, parameter-slopes, dx-distort-params};
+ghost use Rattle.camera.specs.Camera.{parameters, either-zero, zero-focal, judged, pixel-of, distort-judged, distort, point-of, finite-point, undistort-judged, undistort, limit, refused, finite-jacobian, slopes, dx-distort-x, judged-params, parameter-slopes, dx-distort-params};
 use affine::AffineParams;
 use brown_conrady::BrownConradyParams;
 use enhanced_unified::EnhancedUnifiedParams;
@@ -84,23 +82,12 @@ pub fn zero_focal(camera: Camera) -> bool
     }
 }
 
-// Whether both numbers of a point or a pixel are finite.
-fn both_finite(x: f64, y: f64) -> bool
-    ensures { λ r. ⌜ r ≡ (finite x && finite y) ⌝ }
-{
-    if exact::is_finite(x) {
-        exact::is_finite(y)
-    } else {
-        false
-    }
-}
-
 // 4 and then 5, before anything is worked out.
 fn judged(camera: Camera, x: f64, y: f64) -> Judgement
     ensures { λ r. ⌜ r ≡ judged camera x y ⌝ }
 {
     if finite_parameters(camera) {
-        if both_finite(x, y) {
+        if lens::both_finite(x, y) {
             if zero_focal(camera) {
                 Judgement::Refused(Refusal::ZeroFocalLength)
             } else {
@@ -126,21 +113,11 @@ fn pixel_of(camera: Camera, point: Point) -> Pixel
     }
 }
 
-// 11 for a pixel that isn't finite.
-fn finite_pixel(pixel: Pixel) -> Distorted
-    ensures { λ r. ⌜ r ≡ finite-pixel pixel ⌝ }
-{
-    if both_finite(pixel.0, pixel.1) {
-        return Distorted::At(pixel);
-    }
-    Distorted::Refused(Refusal::AnswerNotFinite)
-}
-
 // The pixel of a point, for a camera and a point that 4 and 5 do not refuse: a table judges its camera once.
 pub fn distort_judged(camera: Camera, point: Point) -> Distorted
     ensures { λ r. ⌜ told-pixel r ≡ told-pixel (distort-judged camera point) ⌝ }
 {
-    finite_pixel(pixel_of(camera, point))
+    lens::finite_pixel(pixel_of(camera, point))
 }
 
 // The pixel of a point.
@@ -172,7 +149,7 @@ fn finite_point(found: Undistorted) -> Undistorted
     match found {
         Undistorted::Refused(refusal) => Undistorted::Refused(refusal),
         Undistorted::At(settled) => {
-            if both_finite(settled.point.0, settled.point.1) {
+            if lens::both_finite(settled.point.0, settled.point.1) {
                 return Undistorted::At(settled);
             }
             Undistorted::Refused(Refusal::AnswerNotFinite)

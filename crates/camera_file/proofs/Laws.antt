@@ -1,9 +1,9 @@
 -- What a caller may rely on, of the definitions of specs/ and of the contract of src/. Assumes nothing.
 use mathlib.Core.Path.{_≡_, refl, sym, ap, subst, _∙_}
-use mathlib.Core.Bool.{Bool, true, false, not, cond, true≢false, false≢true}
+use mathlib.Core.Bool.{Bool, true, false, not, cond}
 use mathlib.Core.List.{List}
 use mathlib.Core.Option.{Option, none, some}
-use Prim.Native.Nat.{ℕ, _≤_}
+use Prim.Native.Nat.{ℕ}
 use native.Mathlib.Omega.{arith}
 use lib.Dec.{eqb}
 use lib.ListN.{length}
@@ -14,15 +14,14 @@ use Rattle.lens.specs.declared.Refusal.{Refusal}
 use Rattle.lens.specs.declared.Refusal.the-variants as refusals
 use Rattle.lens.proofs.Laws.{number-one-to-one, number-within}
 use Rattle.camera.specs.declared.Camera.{Camera}
-use Rattle.camera_file.specs.Text.{all, pattern, CameraFile, params-line, text-of, Form}
-use Rattle.camera_file.specs.Reading.{is-params, params-of, is-file, file-of, read}
+use Rattle.camera_file.specs.Text.{CameraFile, text-of, Form}
+use Rattle.camera_file.specs.Reading.{is-file, file-of, read}
 use Rattle.camera_file.specs.Asked.{model, count, camera-of, asked-of, asked, asked-if, parsed, ToldFile, told-file}
 use Rattle.camera_file.specs.Rows.{is-unknown, wrong-count, file-rows}
 use Rattle.camera_file.specs.declared.Named.{Named}
 use Rattle.camera_file.specs.declared.Named.the-variants.{Known, Unknown}
 use Rattle.camera_file.specs.declared.Parsed.{Parsed}
 use Rattle.camera_file.specs.declared.Parsed.the-variants.{Asked, Refused}
-use Rattle.camera_file.proofs.Written.{params-there, params-back, params-patterns, params-some}
 use Rattle.camera_file.proofs.Whole.{file-there, file-same, text-back, form-back}
 use Rattle.camera_file.proofs.parse.Reads as parse-contract
 
@@ -43,14 +42,6 @@ taken text file false e f = let z : _≡_ {A = ℕ} 0 1 = cc in absurd (omega ar
 pub read-written : (text : List ℕ) (file : CameraFile) → read text ≡ some file → (text ≡ text-of file) × Form file
 unfolding read
 read-written text file e = taken text file (is-file text) refl e
-
--- A params line that is written and read gives the same patterns.
-pub params-written : (params : List ℕ) → 1 ≤ length params → all pattern params ≡ true → (is-params (params-line params) ≡ true) × (params-of (params-line params) ≡ params)
-params-written = params-there
-
--- A text that is read as a params line is what is written of its patterns, of which there is one or more, each of an f64.
-pub params-read : (line : List ℕ) → is-params line ≡ true → (line ≡ params-line (params-of line)) × (1 ≤ length (params-of line)) × (all pattern (params-of line) ≡ true)
-params-read line e = (params-back line e, params-some line e, params-patterns line e)
 
 -- ---- the refusals
 

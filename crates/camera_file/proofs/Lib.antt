@@ -1,6 +1,5 @@
 pub mod Bytes
-pub mod Params
+pub mod Models
 pub mod Stages
-pub mod Written
 pub mod Whole
 pub mod Laws

@@ -1,21 +1,23 @@
 -- Field by field: what the code does with one field and the rest of the text is what the definitions say of both. Assumes nothing.
 use mathlib.Core.Path.{_≡_, refl, sym, ap, ap₂, _∙_}
-use mathlib.Core.Bool.{Bool, true, false, not, cond, _&&_, true≢false, false≢true}
-use mathlib.Core.List.{List, [], _∷_}
-use mathlib.Core.Option.{Option, none, some}
-use Prim.Native.Nat.{ℕ, _-_, _/_, _≤_, _<_}
-use native.Mathlib.Omega.{arith}
-use borrow.Author.Tests.{lt-ltb, le-ltb, le-leb, lt-leb, eq-eqb, ne-eqb}
-use lib.ListN.{length, getD, take, drop}
-use lib.Dec.{leb}
+use mathlib.Core.Bool.{Bool, true, false, cond, _&&_}
+use mathlib.Core.List.{List}
+use mathlib.Core.Option.{none, some}
+use Prim.Native.Nat.{ℕ, _-_, _≤_, _<_}
+use borrow.Author.Tests.{lt-ltb, le-ltb, le-leb, lt-leb}
+use lib.ListN.{length, take, drop}
 use Rattle.lens.specs.declared.Refusal.the-variants.{NotTheForm}
-use Rattle.camera_file.specs.Text.{tab, newline, camera-word, digit, letter, all, longest, CameraFile}
-use Rattle.camera_file.specs.Reading.{place, before, past, same, is-name, is-number, worth, is-params, params-of, is-high, is-wide, is-named, is-file, file-of, read}
+use Rattle.decimal.specs.Decimal.{worth, number-in}
+use Rattle.decimal.specs.Text.{tab, newline, all, same}
+use Rattle.decimal.specs.declared.Number.{Number}
+use Rattle.decimal.specs.declared.Number.the-variants.{Is, NotANumber}
+use Rattle.decimal.proofs.Numbers.{number-is, number-isnt}
+use Rattle.params_line.specs.Params.{is-params, params-of}
+use Rattle.camera_file.specs.Text.{camera-word, letter, longest, CameraFile}
+use Rattle.camera_file.specs.Reading.{place, before, past, is-name, is-high, is-wide, is-named, is-file, file-of, read}
 use Rattle.camera_file.specs.Asked.{model, asked-of, asked, asked-if, parsed}
-use Rattle.camera_file.specs.Steps.{Starts, number-of, from-params, from-height, from-width, from-name}
+use Rattle.camera_file.specs.Steps.{Starts, from-params, from-height, from-width, from-name}
 use Rattle.camera_file.specs.declared.Named.{Named}
-use Rattle.camera_file.specs.declared.Number.{Number}
-use Rattle.camera_file.specs.declared.Number.the-variants.{Is, NotANumber}
 use Rattle.camera_file.specs.declared.Parsed.{Parsed}
 use Rattle.camera_file.specs.declared.Parsed.the-variants.{Refused}
 use Rattle.camera_file.proofs.Bytes.{whole-rest}
@@ -34,49 +36,6 @@ module _ (field : List ℕ) where
   pub name-empty : length field ≤ 0 → false ≡ is-name field
   unfolding is-name
   name-empty h = simp (le-ltb 0 (length field) h)
-
-  -- ---- a number
-
-  pub number-yes : 0 < length field → length field ≤ 4 → (getD field 0 0 ≡ 48 → ⊥) → all digit field ≡ true → is-number field ≡ true
-  unfolding is-number
-  number-yes full short lead d = simp (lt-ltb 0 (length field) full, le-leb (length field) 4 short, ne-eqb (getD field 0 0) 48 lead) d
-
-  pub number-letters : 0 < length field → length field ≤ 4 → (getD field 0 0 ≡ 48 → ⊥) → all digit field ≡ false → is-number field ≡ false
-  unfolding is-number
-  number-letters full short lead d = simp (lt-ltb 0 (length field) full, le-leb (length field) 4 short, ne-eqb (getD field 0 0) 48 lead) d
-
-  pub number-zero : 0 < length field → length field ≤ 4 → getD field 0 0 ≡ 48 → is-number field ≡ false
-  unfolding is-number
-  number-zero full short lead = simp (lt-ltb 0 (length field) full, le-leb (length field) 4 short, eq-eqb (getD field 0 0) 48 lead)
-
-  pub number-long : 0 < length field → 4 < length field → is-number field ≡ false
-  unfolding is-number
-  number-long full long = simp (lt-ltb 0 (length field) full, lt-leb (length field) 4 long)
-
-  pub number-empty : length field ≤ 0 → is-number field ≡ false
-  unfolding is-number
-  number-empty h = simp (le-ltb 0 (length field) h)
-
-  pub number-told : is-number field ≡ true → Is (worth 0 field) ≡ number-of field
-  number-told e = sym (ap (λ (t : Bool). cond t (Is (worth 0 field)) NotANumber) e)
-
-  pub number-none : is-number field ≡ false → NotANumber ≡ number-of field
-  number-none e = sym (ap (λ (t : Bool). cond t (Is (worth 0 field)) NotANumber) e)
-
-  -- what the code's answer tells of the field
-  by-test : (n : ℕ) (t : Bool) → is-number field ≡ t → cond t (Is (worth 0 field)) NotANumber ≡ Is n → (is-number field ≡ true) × (worth 0 field ≡ n)
-  by-test n true e f = (e, (cc))
-  by-test n false e f = let z : _≡_ {A = ℕ} 0 1 = cc in absurd (omega arith)
-
-  number-is : (n : ℕ) → number-of field ≡ Is n → (is-number field ≡ true) × (worth 0 field ≡ n)
-  number-is n e = by-test n (is-number field) refl e
-
-  by-none : (t : Bool) → is-number field ≡ t → cond t (Is (worth 0 field)) NotANumber ≡ NotANumber → is-number field ≡ false
-  by-none true e f = let z : _≡_ {A = ℕ} 0 1 = cc in absurd (omega arith)
-  by-none false e f = e
-
-  number-isnt : number-of field ≡ NotANumber → is-number field ≡ false
-  number-isnt e = by-none (is-number field) refl e
 
 -- ---- one field, and the rest
 
@@ -97,9 +56,9 @@ module _ (m : Named) (width height : ℕ) (text : List ℕ) where
   unfolding params-so
   not-lined e = sym (ap params-so e)
 
-module _ (m : Named) (width : ℕ) (text : List ℕ) (end : ℕ) (p : end ≡ place newline text) (num : Number) (a : num ≡ number-of (take end text)) where
-  field-is : num ≡ number-of (before newline text)
-  field-is = a ∙ ap number-of (before-place newline text end p)
+module _ (m : Named) (width : ℕ) (text : List ℕ) (end : ℕ) (p : end ≡ place newline text) (num : Number) (a : num ≡ number-in (take end text)) where
+  field-is : num ≡ number-in (before newline text)
+  field-is = a ∙ ap number-in (before-place newline text end p)
 
   pub high : (h next : ℕ) → num ≡ Is h → Starts newline text next → from-params m width h (take (length text - next) (drop next text)) ≡ from-height m width text
   unfolding is-high
@@ -114,9 +73,9 @@ module _ (m : Named) (width : ℕ) (text : List ℕ) (end : ℕ) (p : end ≡ pl
       ap (λ (t : Bool). cond (t && is-params (past newline text)) (asked-of m width (worth 0 (before newline text)) (params-of (past newline text))) (Refused NotTheForm))
       (sym (number-isnt (before newline text) (sym field-is ∙ e)))
 
-module _ (m : Named) (text : List ℕ) (end : ℕ) (p : end ≡ place tab text) (num : Number) (a : num ≡ number-of (take end text)) where
-  width-is : num ≡ number-of (before tab text)
-  width-is = a ∙ ap number-of (before-place tab text end p)
+module _ (m : Named) (text : List ℕ) (end : ℕ) (p : end ≡ place tab text) (num : Number) (a : num ≡ number-in (take end text)) where
+  width-is : num ≡ number-in (before tab text)
+  width-is = a ∙ ap number-in (before-place tab text end p)
 
   -- the whole, where t says that the width is a number
   sized : Bool → Parsed

@@ -2,17 +2,22 @@
 use mathlib.Core.Path.{_≡_, refl, sym, ap, ap₂, _∙_}
 use mathlib.Core.Bool.{Bool, true, false, not, cond, _&&_, true≢false}
 use mathlib.Core.List.{List, [], _∷_, _++_, append-assoc}
-use Prim.Native.Nat.{ℕ, zero, suc, _+_, _*_, _-_, _/_, _≤_, _<_}
+use Prim.Native.Nat.{ℕ, suc, _+_, _≤_, _<_}
 use native.Mathlib.Numerals.{add-one}
 use native.Mathlib.Omega.{arith}
 use borrow.Author.Tests.{eq-eqb, ne-eqb, eqb-true, not-true, le-leb, leb-true, lt-ltb, ltb-true}
 use lib.Dec.{eqb, leb, ltb}
 use lib.ListN.{length, getD, take, drop, length-take, length-drop}
 use lib.Seq.{take-append-seam, drop-append-add, split-at}
-use Rattle.camera_file.specs.Text.{tab, newline, camera-word, digit, letter, all, pattern, longest, CameraFile, decimal, camera-line, params-line, text-of, Form}
-use Rattle.camera_file.specs.Reading.{place, before, past, same, is-name, is-number, worth, many, is-params, params-of, is-high, is-wide, is-named, is-file, file-of}
-use Rattle.camera_file.proofs.Bytes.{and-left, and-right, same-self, same-true}
-use Rattle.camera_file.proofs.Written.{both, decimal-number, decimal-worth, decimal-digits, number-decimal, number-counted, number-some, params-there, params-many, params-back, params-patterns, params-some}
+use Rattle.decimal.specs.Decimal.{decimal, digit, worth, is-number}
+use Rattle.decimal.specs.Text.{tab, newline, all, same}
+use Rattle.decimal.proofs.Bytes.{and-left, and-right, both, same-self, same-true}
+use Rattle.decimal.proofs.Digits.{decimal-worth, decimal-digits}
+use Rattle.decimal.proofs.Numbers.{decimal-number, number-some, number-decimal, number-range}
+use Rattle.params_line.specs.Params.{pattern, params-line, is-params, params-of}
+use Rattle.params_line.proofs.Written.{params-there, params-many, params-back, params-patterns, params-some}
+use Rattle.camera_file.specs.Text.{camera-word, letter, longest, CameraFile, camera-line, text-of, Form}
+use Rattle.camera_file.specs.Reading.{place, before, past, is-name, is-high, is-wide, is-named, is-file, file-of}
 
 -- ---- a field without the byte b, and b after it
 
@@ -127,10 +132,10 @@ module _ (file : CameraFile) (form : Form file) where
       (ap is-params to-params ∙ good-params)))))
 
   the-size : worth 0 (before tab (past tab (past tab (text-of file)))) ≡ file .width
-  the-size = ap (worth 0) the-width ∙ decimal-worth (file .width) (form .wide) (form .narrow)
+  the-size = ap (worth 0) the-width ∙ decimal-worth (file .width)
 
   the-rows : worth 0 (before newline (past tab (past tab (past tab (text-of file))))) ≡ file .height
-  the-rows = ap (worth 0) the-height ∙ decimal-worth (file .height) (form .high) (form .low)
+  the-rows = ap (worth 0) the-height ∙ decimal-worth (file .height)
 
   the-params : params-of (past newline (past tab (past tab (past tab (text-of file))))) ≡ file .params
   unfolding line
@@ -264,15 +269,11 @@ module _ (text : List ℕ) (e : is-file text ≡ true) where
 
   the-width-form : (1 ≤ file-of text .width) × (file-of text .width ≤ 9999)
   unfolding file-of named' wide'
-  the-width-form =
-      let w = number-counted (before tab wide') width-good in
-      (w .some, w .few)
+  the-width-form = number-range (before tab wide') width-good
 
   the-height-form : (1 ≤ file-of text .height) × (file-of text .height ≤ 9999)
   unfolding file-of named' wide' high'
-  the-height-form =
-      let h = number-counted (before newline high') height-good in
-      (h .some, h .few)
+  the-height-form = number-range (before newline high') height-good
 
   the-params-form : (1 ≤ length (file-of text .params)) × (all pattern (file-of text .params) ≡ true)
   unfolding file-of named' wide' high' line'

@@ -5,16 +5,16 @@ use mathlib.Core.List.{List, [], _∷_}
 use mathlib.Core.Option.{Option, none, some}
 use Prim.Native.Nat.{ℕ}
 use lib.Dec.{eqb}
-use lib.Ieee.{Float}
-use lib.ListN.{length, getD}
-use Rattle.exact.specs.F64.{f64}
+use lib.ListN.{length}
+use Rattle.decimal.specs.Text.{same}
 use Rattle.lens.specs.Constants.{zeros}
 use Rattle.lens.specs.Refusal.{number}
 use Rattle.lens.specs.declared.Refusal.the-variants.{UnknownModel, WrongCount, NotTheForm}
 use Rattle.camera.specs.declared.Camera.{Camera}
 use Rattle.camera.specs.declared.Camera.the-variants as cameras
+use Rattle.params_line.specs.Params.{at}
 use Rattle.camera_file.specs.Text.{CameraFile}
-use Rattle.camera_file.specs.Reading.{same, read}
+use Rattle.camera_file.specs.Reading.{read}
 use Rattle.camera_file.specs.declared.Model.{Model}
 use Rattle.camera_file.specs.declared.Model.the-variants.{Affine, EnhancedUnified, KannalaBrandt, BrownConrady}
 use Rattle.camera_file.specs.declared.Named.{Named}
@@ -52,10 +52,7 @@ count BrownConrady = 12
 abbrev pub counted : ℕ → List ℕ → Parsed → Parsed
 counted count params answer = cond (eqb (length params) count) answer (Refused WrongCount)
 
--- ---- the camera: its k-th parameter is the f64 of the k-th pattern
-
-abbrev pub at : List ℕ → ℕ → Float
-at params k = f64 (getD params k 0)
+-- ---- the camera of its parameters, in order
 
 abbrev pub affine : List ℕ → Camera
 affine p = cameras.Affine record { fx = at p 0; fy = at p 1; cx = at p 2; cy = at p 3 }

@@ -1,15 +1,15 @@
 -- How a camera file's text is read: field by field, each up to its tab or newline. Where one of these is missing, the field after it is empty, and no
 -- field may be empty. Definitions only.
-use mathlib.Core.Bool.{Bool, true, false, not, cond, _&&_}
+use mathlib.Core.Bool.{Bool, cond, _&&_}
 use mathlib.Core.List.{List, [], _∷_}
 use mathlib.Core.Option.{Option, none, some}
-use Prim.Native.Nat.{ℕ, zero, suc, _+_, _*_, _-_, _/_}
+use Prim.Native.Nat.{ℕ, suc}
 use lib.Dec.{eqb, leb, ltb}
-use lib.ListN.{length, getD, take, drop}
-use Rattle.hex.specs.Hex.{after}
-use Rattle.hex.specs.declared.Bits.{Bits}
-use Rattle.hex.specs.declared.Bits.the-variants.{Of, None}
-use Rattle.camera_file.specs.Text.{tab, newline, camera-word, params-word, digit, letter, all, longest, CameraFile}
+use lib.ListN.{length, take, drop}
+use Rattle.decimal.specs.Decimal.{worth, is-number}
+use Rattle.decimal.specs.Text.{tab, newline, all, same}
+use Rattle.params_line.specs.Params.{is-params, params-of}
+use Rattle.camera_file.specs.Text.{camera-word, letter, longest, CameraFile}
 
 -- ---- parts of a text
 
@@ -25,58 +25,10 @@ before b text = take (place b text) text
 unfoldable pub past : ℕ → List ℕ → List ℕ
 past b text = drop (suc (place b text)) text
 
--- whether two texts are the same
-unfoldable pub same : List ℕ → List ℕ → Bool
-same [] [] = true
-same [] (y ∷ t) = false
-same (x ∷ s) [] = false
-same (x ∷ s) (y ∷ t) = eqb x y && same s t
-
--- ---- the fields of the camera line
+-- ---- the name
 
 unfoldable pub is-name : List ℕ → Bool
 is-name field = ltb 0 (length field) && (leb (length field) 16 && all letter field)
-
-unfoldable pub is-number : List ℕ → Bool
-is-number field = ltb 0 (length field) && (leb (length field) 4 && (not (eqb (getD field 0 0) 48) && all digit field))
-
--- the number n with more digits after it
-unfoldable pub worth : ℕ → List ℕ → ℕ
-worth n [] = n
-worth n (b ∷ field) = worth (n * 10 + (b - 48)) field
-
--- ---- the params line: the word, then a tab and 16 digits for each parameter, then a newline and no more
-
-abbrev pub is-bits : Bits → Bool
-is-bits (Of bits) = true
-is-bits None = false
-
-abbrev pub bits-of : Bits → ℕ
-bits-of (Of bits) = bits
-bits-of None = 0
-
--- the number after the tab
-abbrev pub field : List ℕ → Bits
-field chunk = after (tab ∷ []) (take 17 chunk)
-
--- n fields and the line's end
-unfoldable pub fielded : ℕ → List ℕ → Bool
-fielded zero rest = same rest (newline ∷ [])
-fielded (suc n) rest = is-bits (field rest) && fielded n (drop 17 rest)
-
-unfoldable pub patterns : ℕ → List ℕ → List ℕ
-patterns zero rest = []
-patterns (suc n) rest = bits-of (field rest) ∷ patterns n (drop 17 rest)
-
--- how many fields a line has room for
-abbrev pub many : List ℕ → ℕ
-many line = (length line - 6) / 17
-
-unfoldable pub is-params : List ℕ → Bool
-is-params line = ltb 0 (many line) && (same (take 6 line) params-word && fielded (many line) (drop 6 line))
-
-unfoldable pub params-of : List ℕ → List ℕ
-params-of line = patterns (many line) (drop 6 line)
 
 -- ---- the whole text
 

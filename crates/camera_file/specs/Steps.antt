@@ -1,33 +1,23 @@
 -- The same with the first fields read: what the code's parts work out. Definitions only.
 use mathlib.Core.Path.{_≡_}
-use mathlib.Core.Bool.{Bool, cond}
+use mathlib.Core.Bool.{cond}
 use mathlib.Core.List.{List}
 use Prim.Native.Nat.{ℕ, _≤_}
 use lib.ListN.{length, drop}
 use Rattle.lens.specs.declared.Refusal.the-variants.{NotTheForm}
-use Rattle.camera_file.specs.Text.{tab, newline, digit, letter}
-use Rattle.camera_file.specs.Reading.{before, past, is-number, worth, is-params, params-of, is-high, is-wide, is-named}
+use Rattle.decimal.specs.Decimal.{worth}
+use Rattle.decimal.specs.Text.{tab, newline}
+use Rattle.params_line.specs.Params.{is-params, params-of}
+use Rattle.camera_file.specs.Reading.{before, past, is-high, is-wide, is-named}
 use Rattle.camera_file.specs.Asked.{model, asked-of}
-use Rattle.camera_file.specs.declared.Kind.{Kind}
-use Rattle.camera_file.specs.declared.Kind.the-variants.{Letter, Digit}
 use Rattle.camera_file.specs.declared.Named.{Named}
-use Rattle.camera_file.specs.declared.Number.{Number}
-use Rattle.camera_file.specs.declared.Number.the-variants.{Is, NotANumber}
 use Rattle.camera_file.specs.declared.Parsed.{Parsed}
 use Rattle.camera_file.specs.declared.Parsed.the-variants.{Refused}
-
--- the bytes of a name, and those of a number
-abbrev pub of-kind : Kind → ℕ → Bool
-of-kind Letter = letter
-of-kind Digit = digit
 
 -- what i is to a text whose rest after the first b starts there
 pub record Starts (b : ℕ) (text : List ℕ) (i : ℕ) : Type 0 where
   pub within : i ≤ length text
   pub rest : drop i text ≡ past b text
-
-abbrev pub number-of : List ℕ → Number
-number-of field = cond (is-number field) (Is (worth 0 field)) NotANumber
 
 -- from the params line on
 abbrev pub from-params : Named → ℕ → ℕ → List ℕ → Parsed

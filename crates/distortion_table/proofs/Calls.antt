@@ -2,10 +2,9 @@
 use mathlib.Core.Path.{_≡_, refl, sym, ap, _∙_}
 use mathlib.Core.Bool.{Bool, true, false, cond}
 use mathlib.Core.List.{List, [], _∷_}
-use Prim.Native.Nat.{ℕ, zero, suc, _*_, _≤_}
+use Prim.Native.Nat.{ℕ, _*_, _≤_}
 use native.Mathlib.Omega.{arith}
 use borrow.Author.Tests.{eq-eqb}
-use lib.Dec.{eqb}
 use lib.Ieee.{Float, ofBits}
 use lib.ListN.{length}
 use Rattle.lens.specs.Finite.{all-finite}
@@ -18,16 +17,16 @@ use Rattle.region.specs.Size.{sized, Sized}
 use Rattle.region.proofs.Size.{bounded}
 use Rattle.camera.specs.Camera.{parameters, zero-focal}
 use Rattle.camera.specs.declared.Camera.{Camera}
-use Rattle.distortion_table.specs.Border.{samples, all-units}
-use Rattle.distortion_table.specs.Calls.{Held, kept, calls}
-use Rattle.distortion_table.specs.Job.{Answer, nowhere, fresh-job, fresh, possible, admitted, answer, turn-of, enough}
-use Rattle.distortion_table.specs.Table.{State, next}
-use Rattle.distortion_table.specs.Turns.{refused, turn, turns}
-use Rattle.distortion_table.specs.declared.Job.{Job}
-use Rattle.distortion_table.specs.declared.Progress.{Progress}
-use Rattle.distortion_table.specs.declared.Started.the-variants as begun
-use Rattle.distortion_table.proofs.Finite.{Four, all-four}
-use Rattle.distortion_table.proofs.Reaching.{Good, then-possible, turn-keeps}
+use Rattle.turns.specs.Turns.{refused, turn, turns}
+use Rattle.border.specs.Border.{all-units}
+use Rattle.border.proofs.Finite.{Four, all-four}
+use Rattle.job.specs.Job.{nowhere, fresh-job, fresh, admitted}
+use Rattle.job.specs.declared.Job.{Job}
+use Rattle.job.specs.declared.Started.the-variants as begun
+use Rattle.distortion_table.specs.Answer.{answer, turn-of, enough}
+use Rattle.distortion_table.specs.Calls.{kept, calls, job-of, held-of, start}
+use Rattle.units.specs.Table.{State, next}
+use Rattle.units.proofs.Reaching.{Good, then-possible, turn-keeps}
 
 -- no table that is taken has more units than the largest
 pub largest : (width height : ℕ) → Sized width height → all-units width height ≤ enough
@@ -39,16 +38,6 @@ module _ (camera : Camera) (width height : ℕ) where
     pub numbers : all-finite (parameters camera) ≡ true
     pub focal : zero-focal camera ≡ false
     pub size : sized width height ≡ true
-
-  abbrev pub job-of : State → Job
-  job-of s = record { camera = camera; width = width; height = height; at = s .at }
-
-  abbrev pub held-of : State → Held
-  held-of s = record { job = job-of s; cells = s .cells }
-
-  -- where a build starts
-  abbrev pub start : List Float → State
-  start cells = record { at = record { done = 0; edges = nowhere; region = nowhere; updates = 0 }; cells = cells }
 
   nowhere-finite : Four nowhere
   unfolding ofBits
@@ -75,17 +64,17 @@ module _ (camera : Camera) (width height : ℕ) where
       (record { numbers = b .0; focal = b .1; size = b .2 }, b .3)
 
   module _ (t : Takes) where
-    pub good-admitted : (s : State) → Good camera width height s → admitted (job-of s) (length (s .cells)) ≡ Taken
+    pub good-admitted : (s : State) → Good camera width height s → admitted (job-of camera width height s) (length (s .cells)) ≡ Taken
     unfolding admitted
     good-admitted s g = rw (t .numbers, all-four (s .at .region) (g .region), t .focal, t .size, eq-eqb (length (s .cells)) (2 * (width * height)) (g .long), then-possible camera width height (s .at) (g .record-of)) refl
 
-    pub answer-is : (a : ℕ) (s : State) → Good camera width height s → turn-of (job-of s) (s .cells) a ≡ answer camera width height (turn (next camera width height) a s)
-    answer-is a s g = ap (λ (j : Judgement). decided j (λ r. record { said = refused (number r); job = job-of s; cells = s .cells }) (answer camera width height (turn (next camera width height) a s))) (good-admitted s g)
+    pub answer-is : (a : ℕ) (s : State) → Good camera width height s → turn-of (job-of camera width height s) (s .cells) a ≡ answer camera width height (turn (next camera width height) a s)
+    answer-is a s g = ap (λ (j : Judgement). decided j (λ r. record { said = refused (number r); job = job-of camera width height s; cells = s .cells }) (answer camera width height (turn (next camera width height) a s))) (good-admitted s g)
 
-    pub call-is : (a : ℕ) (s : State) → Good camera width height s → kept (turn-of (job-of s) (s .cells) a) ≡ held-of (turn (next camera width height) a s .state)
+    pub call-is : (a : ℕ) (s : State) → Good camera width height s → kept (turn-of (job-of camera width height s) (s .cells) a) ≡ held-of camera width height (turn (next camera width height) a s .state)
     call-is a s g = ap kept (answer-is a s g)
 
-    pub calls-are : (allowances : List ℕ) (s : State) → Good camera width height s → calls allowances (held-of s) ≡ held-of (turns (next camera width height) allowances s)
+    pub calls-are : (allowances : List ℕ) (s : State) → Good camera width height s → calls allowances (held-of camera width height s) ≡ held-of camera width height (turns (next camera width height) allowances s)
     unfolding calls turns
     calls-are [] s g = refl
     calls-are (a ∷ rest) s g = ap (calls rest) (call-is a s g) ∙ calls-are rest (turn (next camera width height) a s .state) (turn-keeps camera width height a s g)

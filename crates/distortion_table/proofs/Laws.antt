@@ -2,41 +2,38 @@
 use mathlib.Core.Path.{_≡_, refl, sym, ap, _∙_}
 use mathlib.Core.Bool.{Bool, true, false, cond}
 use mathlib.Core.List.{List}
-use Prim.Native.Nat.{ℕ, _+_, _*_, _≤_}
+use Prim.Native.Nat.{ℕ, _+_, _*_, _≤_, min}
 use native.Mathlib.Omega.{arith}
+use denote.Ref.{now}
 use lib.Dec.{ltb}
 use lib.Ieee.{Float}
 use lib.ListN.{length}
-use Rattle.exact.specs.Determined.{Determined}
-use Rattle.lens.proofs.Laws.{number-one-to-one}
-use Rattle.lens.specs.Judgement.{verdict}
-use Rattle.lens.specs.Rows.{first}
+use Rattle.exact.specs.Determined.{DeterminedWith}
 use Rattle.lens.specs.Undistorted.{told}
 use Rattle.lens.specs.declared.Judgement.the-variants.{Taken}
+use Rattle.lens.proofs.Laws.{number-one-to-one}
 use Rattle.region.proofs.Size.{is-sized}
 use Rattle.camera.specs.Camera.{undistort-judged, limit}
 use Rattle.camera.specs.declared.Camera.{Camera}
 use Rattle.camera.proofs.Laws.{updates-limit-judged}
-use Rattle.distortion_table.specs.Border.{border, samples, all-units, border-at}
-use Rattle.distortion_table.specs.Calls.{Held, kept, calls}
-use Rattle.distortion_table.specs.Job.{Answer, fresh, admitted, enough, whole-table, told-started, told-status, told-turned}
-use Rattle.distortion_table.specs.Rows.{fresh-rows, turn-rows}
-use Rattle.distortion_table.specs.Table.{State, next}
-use Rattle.distortion_table.specs.Turns.{finished, running, turn, turns, total, units, summed, least}
-use Rattle.distortion_table.specs.declared.Job.{Job}
-use Rattle.distortion_table.specs.declared.Started.{Started}
-use Rattle.distortion_table.specs.declared.Started.the-variants as begun
+use Rattle.turns.specs.Turns.{finished, running, ended, turn, turns, total, units, summed}
+use Rattle.turns.proofs.Laws as any
+use Rattle.border.specs.Border.{samples, all-units, border-at}
+use Rattle.job.specs.Job.{fresh, admitted}
+use Rattle.job.specs.declared.Job.{Job}
+use Rattle.job.specs.declared.Started.the-variants as begun
+use Rattle.distortion_table.specs.Answer.{Answer, enough, whole-table, told-status, told-turned}
+use Rattle.distortion_table.specs.Calls.{Held, kept, calls, held-of, start}
+use Rattle.units.specs.Owed.{Kept, Hold, cost}
+use Rattle.units.specs.Table.{State, next}
 use Rattle.distortion_table.specs.declared.Status.{Status}
 use Rattle.distortion_table.specs.declared.Status.the-variants.{Finished, Refused, Running}
 use Rattle.distortion_table.specs.declared.Turned.{Turned}
-use Rattle.distortion_table.proofs.Sides as sweep
-use Rattle.distortion_table.proofs.Calls.{Takes, held-of, start, start-good, fresh-takes, good-admitted, answer-is, call-is, calls-are, largest, turns-good}
-use Rattle.distortion_table.proofs.Counting.{done-is, done-most}
-use Rattle.distortion_table.proofs.Ends as ends
-use Rattle.distortion_table.proofs.Reaching.{Good}
-use Rattle.distortion_table.proofs.Turns as any
-use Rattle.distortion_table.proofs.Written as written
-use Rattle.distortion_table.proofs.fresh.Reads as fresh-contract
+use Rattle.distortion_table.proofs.Calls.{Takes, start-good, fresh-takes, good-admitted, answer-is, call-is, calls-are, largest, turns-good}
+use Rattle.units.proofs.Counting.{done-is, done-most}
+use Rattle.units.proofs.Reaching.{Good}
+use Rattle.units.proofs.Ends as ends
+use Rattle.units.proofs.Written as written
 use Rattle.distortion_table.proofs.turn.Reads as turn-contract
 use Rattle.distortion_table.proofs.distort_table.Reads as distort-table-contract
 
@@ -63,46 +60,19 @@ same-turned r r' c c' e =
 pub same-table : (r r' : Turned) (c c' : List Float) → told-turned r c ≡ told-turned r' c' → c ≡ c'
 same-table r r' c c' e = ap (λ (t : Answer). t .cells) e
 
--- What `fresh` tells determines its answer.
-pub started-one-to-one : (a b : Started) → told-started a ≡ told-started b → a ≡ b
-started-one-to-one (begun.With j) (begun.With k) e = ap begun.With (cc)
-started-one-to-one (begun.With j) (begun.Refused r) e = let z : _≡_ {A = ℕ} 0 1 = cc in absurd (omega arith)
-started-one-to-one (begun.Refused q) (begun.With k) e = let z : _≡_ {A = ℕ} 0 1 = cc in absurd (omega arith)
-started-one-to-one (begun.Refused q) (begun.Refused r) e = ap begun.Refused (number-one-to-one q r (cc))
+-- Any two answers to one call that the contract of `turn` permits are equal, and so are any two tables at the return;
+pub turn-determined : DeterminedWith turn-contract.Post (λ κ s. now (s .1 .0))
+turn-determined κ a s s' r r' p q = (same-turned r r' _ _ (p ∙ sym q), same-table r r' _ _ (p ∙ sym q))
 
--- Any two answers to one call that the contract of `fresh` permits are equal.
-pub fresh-determined : Determined fresh-contract.Post
-fresh-determined κ a s s' r r' p q = started-one-to-one r r' (p ∙ sym q)
-
--- The same of `turn`,
-pub turn-determined : Determined turn-contract.Post
-turn-determined κ a s s' r r' p q = same-turned r r' _ _ (p ∙ sym q)
-
--- and of `distort_table`.
-pub distort-table-determined : Determined distort-table-contract.Post
-distort-table-determined κ a s s' r r' p q = same-turned r r' _ _ (p ∙ sym q)
-
--- ---- the border
-
--- The border has 2w + 2h + 4 samples.
-pub border-length : (width height : ℕ) → length (border width height) ≡ samples width height
-border-length = sweep.border-length
-
--- ---- which records are taken
-
--- A turn refuses a record before any unit with 4, 5, 6, 7 or 13 exactly when the table of refusals says so, the first row that holds; 13 is given for the records that no build can have, and no others.
-pub admitted-number : (job : Job) (places : ℕ) → verdict (admitted job places) ≡ first (turn-rows job places)
-admitted-number = ends.admitted-number
-
--- `fresh` refuses with 4, 5 or 6 exactly when the table says so, the first row that holds; 0 stands for a record.
-pub fresh-number : (camera : Camera) (width height : ℕ) → ends.begun-number (told-started (fresh camera width height)) ≡ first (fresh-rows camera width height)
-fresh-number = ends.fresh-number
+-- and so for `distort_table`.
+pub distort-table-determined : DeterminedWith distort-table-contract.Post (λ κ s. now (s .1 .1 .1 .0))
+distort-table-determined κ a s s' r r' p q = (same-turned r r' _ _ (p ∙ sym q), same-table r r' _ _ (p ∙ sym q))
 
 -- ---- one turn
 
 module _ (camera : Camera) (width height : ℕ) where
   -- A turn says finished exactly if no unit is left after it, refused with a number exactly if the next unit refuses with it and the allowance had room for that unit, and running otherwise.
-  pub says : (allowance : ℕ) (s : State) → turn (next camera width height) allowance s .said ≡ any.told (next camera width height) (next camera width height (turn (next camera width height) allowance s .state)) (ltb (units (next camera width height) allowance s) allowance)
+  pub says : (allowance : ℕ) (s : State) → turn (next camera width height) allowance s .said ≡ ended (next camera width height (turn (next camera width height) allowance s .state)) (ltb (units (next camera width height) allowance s) allowance)
   says = any.says (next camera width height)
 
   -- It says finished exactly when T units are done after it.
@@ -112,7 +82,7 @@ module _ (camera : Camera) (width height : ℕ) where
   finished-exactly allowance s h = (ends.finished-only camera width height allowance s h, ends.finished-at camera width height allowance s)
 
   -- The units done are exactly min(A, F): from a record with no more than T units done, an allowance A does as many units as A says, or as there are before the first that refuses or is not there.
-  pub units-exactly : (allowance : ℕ) (s : State) → s .at .done ≤ all-units width height → units (next camera width height) allowance s ≡ least allowance (units (next camera width height) (all-units width height) s)
+  pub units-exactly : (allowance : ℕ) (s : State) → s .at .done ≤ all-units width height → units (next camera width height) allowance s ≡ min allowance (units (next camera width height) (all-units width height) s)
   units-exactly allowance s h = any.units-exactly (next camera width height) (all-units width height) s (λ a. omega (arith, done-is camera width height a s, done-most camera width height a s h)) allowance
 
   -- The record counts them.
@@ -120,19 +90,19 @@ module _ (camera : Camera) (width height : ℕ) where
   units-counted = done-is camera width height
 
   -- Each cell that a turn does holds its definition's two numbers when the turn ends.
-  pub cells-hold : (allowance : ℕ) (s : State) → length (s .cells) ≡ 2 * (width * height) → written.Hold camera width height s (turn (next camera width height) allowance s .state)
+  pub cells-hold : (allowance : ℕ) (s : State) → length (s .cells) ≡ 2 * (width * height) → Hold camera width height s (turn (next camera width height) allowance s .state)
   cells-hold = written.done-hold camera width height
 
   -- All other places are as they were: those ahead of the turn's first cell, and those behind the last one done.
-  pub untouched : (allowance : ℕ) (s : State) → written.Kept camera width height s (turn (next camera width height) allowance s .state)
+  pub untouched : (allowance : ℕ) (s : State) → Kept camera width height s (turn (next camera width height) allowance s .state)
   untouched = written.untouched camera width height
 
   -- The updates a turn adds are the sum of the definition's over the samples it did.
-  pub updates-summed : (allowance : ℕ) (s : State) → turn (next camera width height) allowance s .state .at .updates ≡ s .at .updates + summed (next camera width height) (written.cost camera width height) allowance s
+  pub updates-summed : (allowance : ℕ) (s : State) → turn (next camera width height) allowance s .state .at .updates ≡ s .at .updates + summed (next camera width height) (cost camera width height) allowance s
   updates-summed = written.updates-summed camera width height
 
   -- Each sample adds at most the model's limit.
-  pub updates-limited : (s : State) → written.cost camera width height s ≤ limit camera
+  pub updates-limited : (s : State) → cost camera width height s ≤ limit camera
   updates-limited s = go (ltb (s .at .done) (samples width height))
     where
       go : (b : Bool) → cond b (told (undistort-judged camera (border-at width height (s .at .done))) .settled .updates) 0 ≤ limit camera
@@ -143,7 +113,7 @@ module _ (camera : Camera) (width height : ℕ) where
 
 module _ (camera : Camera) (width height : ℕ) (job : Job) (begin : fresh camera width height ≡ begun.With job) (cells : List Float) (long : length cells ≡ 2 * (width * height)) where
   abbrev first-state : State
-  first-state = start camera width height cells
+  first-state = start cells
 
   abbrev first-held : Held
   first-held = record { job = job; cells = cells }
@@ -164,7 +134,7 @@ module _ (camera : Camera) (width height : ℕ) (job : Job) (begin : fresh camer
       ∙ ap (held-of camera width height) (any.any-split (next camera width height) allowances first-state)
 
   -- The units done are exactly min(A, F), A being all that the calls allow together, and F the units before the first that refuses or is not there.
-  pub build-units : (allowances : List ℕ) → calls allowances first-held .job .at .done ≡ least (total allowances) (units (next camera width height) (all-units width height) first-state)
+  pub build-units : (allowances : List ℕ) → calls allowances first-held .job .at .done ≡ min (total allowances) (units (next camera width height) (all-units width height) first-state)
   build-units allowances =
       ap (λ (h : Held). h .job .at .done) (any-split allowances)
       ∙ omega (arith, units-counted camera width height (total allowances) first-state, units-exactly camera width height (total allowances) first-state (omega arith))

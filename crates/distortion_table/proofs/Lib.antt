@@ -1,16 +1,6 @@
-pub mod AtBorder
-pub mod Sides
 pub mod Calls
-pub mod Counting
-pub mod Ends
-pub mod Finite
 pub mod Laws
 pub mod Lifted
 pub mod Parts
 pub mod Phases
 pub mod Places
-pub mod Reaching
-pub mod Smaller
-pub mod Taking
-pub mod Turns
-pub mod Written

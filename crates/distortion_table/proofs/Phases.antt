@@ -2,7 +2,8 @@
 use mathlib.Core.Path.{_≡_, refl, sym, ap, _∙_}
 use mathlib.Core.Bool.{Bool, true, false, cond}
 use mathlib.Core.List.{List, _++_}
-use Prim.Native.Nat.{ℕ, zero, suc, _+_, _-_, _*_, _/_, _%_, _≤_, _<_}
+use Prim.Native.Nat.{ℕ, _+_, _-_, _*_, _/_, _%_, _≤_, _<_, min}
+use native.Mathlib.Nat.{min-le-left, min-le-right}
 use native.Mathlib.Omega.{arith}
 use borrow.Author.Tests.{ltb-true, lt-ltb, le-ltb}
 use lib.Dec.{ltb}
@@ -10,47 +11,31 @@ use lib.Ieee.{Float}
 use lib.ListN.{length, take, drop, take-append-drop}
 use lib.Seq.{length-take-le}
 use Rattle.lens.specs.Refusal.{number}
-use Rattle.lens.specs.declared.Refusal.{Refusal}
-use Rattle.lens.specs.declared.Undistorted.{Undistorted}
-use Rattle.lens.specs.declared.Undistorted.the-variants as found
-use Rattle.lens.specs.Judgement.{decided}
-use Rattle.camera.specs.Camera.{undistort-judged}
-use Rattle.camera.specs.declared.Camera.{Camera}
 use Rattle.lens.specs.declared.Judgement.{Judgement}
 use Rattle.lens.specs.declared.Judgement.the-variants.{Taken, Refused}
-use Rattle.region.specs.Region.{increments, wrong}
-use Rattle.distortion_table.specs.Border.{samples, all-units, border-at}
-use Rattle.distortion_table.specs.Edges.{doubled}
-use Rattle.distortion_table.specs.Sweep.{sampled, after-sample, swept, told-refusal, told-stop}
-use Rattle.distortion_table.specs.Cells.{Filling, cell, filled}
-use Rattle.distortion_table.specs.Job.{Lent, told-status, moved, reached}
-use Rattle.distortion_table.specs.Table.{State, beside, put-in, cell-unit, next}
-use Rattle.distortion_table.specs.declared.Cell.{Cell}
-use Rattle.distortion_table.specs.declared.Cell.the-variants.{Holds}
-use Rattle.distortion_table.specs.declared.Cell.the-variants as held
+use Rattle.lens.specs.declared.Refusal.{Refusal}
+use Rattle.region.specs.Region.{increments}
+use Rattle.camera.specs.declared.Camera.{Camera}
+use Rattle.turns.specs.Turns.{Next, over, refuses, does, Said, refused, running, Turn, ended, turn, met}
+use Rattle.turns.proofs.Laws.{first-refused, first-running, over-turn, all-done, most-done}
+use Rattle.border.specs.Border.{samples, all-units}
+use Rattle.cell.specs.Cell.{cell}
+use Rattle.cell.specs.declared.Cell.{Cell}
+use Rattle.cell.specs.declared.Cell.the-variants.{Holds}
+use Rattle.cell.specs.declared.Cell.the-variants as held
+use Rattle.job.specs.declared.Progress.{Progress}
+use Rattle.distortion_table.specs.Answer.{told-status}
+use Rattle.distortion_table.specs.Loops.{Filling, filled}
+use Rattle.distortion_table.specs.Parts.{Lent, moved, reached}
+use Rattle.units.specs.Sweep.{swept}
+use Rattle.distortion_table.specs.Loops.{told-refusal, told-stop}
+use Rattle.units.specs.Table.{State, beside, put-in, cell-unit, next}
 use Rattle.distortion_table.specs.declared.Filled.{Filled}
 use Rattle.distortion_table.specs.declared.Status.the-variants as status
-use Rattle.distortion_table.specs.Turns.{Next, over, refuses, does, Said, refused, running, Turn, unspent, turn, met, least}
-use Rattle.distortion_table.specs.declared.Progress.{Progress}
 use Rattle.distortion_table.specs.declared.Stop.{Stop}
-use Rattle.distortion_table.proofs.AtBorder.{swept-counts}
-use Rattle.distortion_table.proofs.Lifted.{lifted, sweep-is, in-table, filled-counts, filled-there, fill-is}
-use Rattle.distortion_table.proofs.Smaller.{least-most}
-use Rattle.distortion_table.proofs.Turns.{first-refused, first-running, over-turn, all-done, most-done}
-
--- a border unit is never missing
-sample-there : (width height : ℕ) (at : Progress) (u : Undistorted) → after-sample width height at u ≡ over → ⊥
-sample-there width height at (found.Refused r) e = let z : _≡_ {A = ℕ} 0 1 = cc in omega arith
-sample-there width height at (found.At settled) e = go (ltb (sampled at settled .done) (samples width height)) (wrong (increments (doubled (sampled at settled .edges)) width height)) e
-  where
-    go : (b : Bool) (j : Judgement) → cond b (does (sampled at settled)) (decided j (λ r. refuses (number r)) (does record { done = at .done + 1; edges = sampled at settled .edges; region = doubled (sampled at settled .edges); updates = at .updates + settled .updates })) ≡ over → ⊥
-    go true j e = let z : _≡_ {A = ℕ} 0 1 = cc in omega arith
-    go false Taken e = let z : _≡_ {A = ℕ} 0 1 = cc in omega arith
-    go false (Refused r) e = let z : _≡_ {A = ℕ} 0 1 = cc in omega arith
-
-pub swept-there : (camera : Camera) (width height : ℕ) (at : Progress) → swept camera width height at ≡ over → ⊥
-unfolding swept
-swept-there camera width height at = sample-there width height at (undistort-judged camera (border-at width height (at .done)))
+use Rattle.units.proofs.AtBorder.{swept-counts, swept-there}
+use Rattle.turns.proofs.Lifted.{lifted}
+use Rattle.distortion_table.proofs.Lifted.{sweep-is, in-table, filled-counts, filled-there, fill-is}
 
 module _ (camera : Camera) (width height : ℕ) (at : Progress) (cells : List Float) (allowance count : ℕ) (less : count ≤ allowance) (room : count ≤ samples width height - at .done)
     (stop : Stop) (e : told-stop stop ≡ met (turn (swept camera width height) count at)) where
@@ -84,19 +69,12 @@ module _ (camera : Camera) (width height : ℕ) (at : Progress) (cells : List Fl
 
 -- ---- the cells
 
-pub least-first-most : (a b : ℕ) → least a b ≤ a
-least-first-most zero b = omega arith
-least-first-most (suc a) zero = omega arith
-least-first-most (suc a) (suc b) = omega (arith, least-first-most a b)
-
 -- where less than all are left, the allowance was the smaller
-pub last-left : (left all count : ℕ) → count ≡ least left all → count < all → left - count ≡ 0
-last-left zero all count e h = omega arith
-last-left (suc a) zero count e h = absurd (omega arith)
-last-left (suc a) (suc b) count e h = omega (arith, last-left a b (least a b) refl (omega arith))
+pub last-left : (left all count : ℕ) → count ≡ min left all → count < all → left - count ≡ 0
+last-left left all count e h = omega (arith, e, h)
 
 -- a cell's unit is there too
-cell-there : (x : Cell) (c : ℕ) (s : State) → unspent (put-in x c s) ≡ running
+cell-there : (x : Cell) (c : ℕ) (s : State) → ended (put-in x c s) false ≡ running
 cell-there (Holds a b) c s = refl
 cell-there (held.Refused r) c s = refl
 
@@ -112,7 +90,7 @@ module _ (camera : Camera) (width height : ℕ) (s : State) where
   unfolding next
   before-border h = ap (λ (b : Bool). cond b (beside (s .cells) (swept camera width height (s .at))) (cond (ltb (s .at .done) (all-units width height)) (cell-unit camera width height s) over)) (lt-ltb (s .at .done) (samples width height) h)
 
-  none-spent : turn (next camera width height) 0 s ≡ says (unspent (next camera width height s))
+  none-spent : turn (next camera width height) 0 s ≡ says (ended (next camera width height s) false)
   unfolding turn
   none-spent = refl
 
@@ -122,7 +100,7 @@ module _ (camera : Camera) (width height : ℕ) (s : State) where
   last-at k true e past spent =
       ap (λ (n : ℕ). turn (next camera width height) n s) (spent (ltb-true (s .at .done) (all-units width height) e))
       ∙ none-spent
-      ∙ ap (λ (n : Next State). says (unspent n)) (past-border past ∙ ap (λ (b : Bool). cond b (cell-unit camera width height s) over) e)
+      ∙ ap (λ (n : Next State). says (ended n false)) (past-border past ∙ ap (λ (b : Bool). cond b (cell-unit camera width height s) over) e)
       ∙ ap says (cell-there (cell camera (s .at .region) (increments (s .at .region) width height) ((s .at .done - samples width height) % width) ((s .at .done - samples width height) / width)) (s .at .done - samples width height) s)
   last-at k false e past spent = over-turn (next camera width height) k s (past-border past ∙ ap (λ (b : Bool). cond b (cell-unit camera width height s) over) e)
 
@@ -130,16 +108,16 @@ module _ (camera : Camera) (width height : ℕ) (s : State) where
   pub at-last : (k : ℕ) → samples width height ≤ s .at .done → (s .at .done < all-units width height → k ≡ 0) → turn (next camera width height) k s ≡ says (told-status (reached (s .at .done) (all-units width height)))
   at-last k past spent = last-at k (ltb (s .at .done) (all-units width height)) refl past spent
 
-  sample-next : (n : Next Progress) → swept camera width height (s .at) ≡ n → unspent (beside (s .cells) n) ≡ running
+  sample-next : (n : Next Progress) → swept camera width height (s .at) ≡ n → ended (beside (s .cells) n) false ≡ running
   sample-next over e = absurd (swept-there camera width height (s .at) e)
   sample-next (refuses r) e = refl
   sample-next (does t) e = refl
 
   -- before the border's end with its allowance spent
   pub at-border-spent : s .at .done < samples width height → turn (next camera width height) 0 s ≡ says running
-  at-border-spent h = none-spent ∙ ap (λ (n : Next State). says (unspent n)) (before-border h) ∙ ap says (sample-next (swept camera width height (s .at)) refl)
+  at-border-spent h = none-spent ∙ ap (λ (n : Next State). says (ended n false)) (before-border h) ∙ ap says (sample-next (swept camera width height (s .at)) refl)
 
-module _ (camera : Camera) (width height : ℕ) (at : Progress) (cells : List Float) (left first count : ℕ) (here : at .done ≡ samples width height + first) (counted : count ≡ least left (width * height - first))
+module _ (camera : Camera) (width height : ℕ) (at : Progress) (cells : List Float) (left first count : ℕ) (here : at .done ≡ samples width height + first) (counted : count ≡ min left (width * height - first))
     (within : first ≤ width * height) (long : length cells ≡ 2 * (width * height)) (f : Filled) (after : List Float)
     (l : Lent camera (at .region) (increments (at .region) width height) width first count cells f after) where
   abbrev ahead : List Float
@@ -165,12 +143,12 @@ module _ (camera : Camera) (width height : ℕ) (at : Progress) (cells : List Fl
   cells-run : met (turn (next camera width height) count begin) ≡ record { state = end; said = told-refusal (f .refusal) }
   cells-run =
       ap (λ (s : State). met (turn (next camera width height) count s)) (sym start-is)
-      ∙ fill-is camera width height first at ahead far count record { done = 0; cells = drop (2 * first) cells } (omega (arith, least-most left (width * height - first)))
+      ∙ fill-is camera width height first at ahead far count record { done = 0; cells = drop (2 * first) cells } (omega (arith, min-le-right left (width * height - first)))
       ∙ ap (lifted (in-table camera width height first at ahead far)) (sym (l .part))
       ∙ ap (λ (s : State). record { state = s; said = told-refusal (f .refusal) }) end-is
 
   cells-apart : turn (next camera width height) left begin ≡ turn (next camera width height) (count + (left - count)) begin
-  cells-apart = let e : left ≡ count + (left - count) = omega (arith, least-first-most left (width * height - first)) in ap (λ (n : ℕ). turn (next camera width height) n begin) e
+  cells-apart = let e : left ≡ count + (left - count) = omega (arith, min-le-left left (width * height - first)) in ap (λ (n : ℕ). turn (next camera width height) n begin) e
 
   abbrev ends-with : Judgement → Turn State
   ends-with j = record { state = end; said = told-refusal j }

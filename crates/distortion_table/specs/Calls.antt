@@ -2,8 +2,11 @@
 use mathlib.Core.List.{List, [], _∷_}
 use Prim.Native.Nat.{ℕ}
 use lib.Ieee.{Float}
-use Rattle.distortion_table.specs.Job.{Answer, turn-of}
-use Rattle.distortion_table.specs.declared.Job.{Job}
+use Rattle.camera.specs.declared.Camera.{Camera}
+use Rattle.job.specs.Job.{nowhere}
+use Rattle.job.specs.declared.Job.{Job}
+use Rattle.distortion_table.specs.Answer.{Answer, turn-of}
+use Rattle.units.specs.Table.{State}
 
 -- what a caller holds between two calls
 pub record Held : Type 0 where
@@ -17,3 +20,14 @@ kept answer = record { job = answer .job; cells = answer .cells }
 unfoldable pub calls : List ℕ → Held → Held
 calls [] held = held
 calls (a ∷ rest) held = calls rest (kept (turn-of (held .job) (held .cells) a))
+
+-- what is held where a build of this camera and size has come to a state, and where it starts
+module _ (camera : Camera) (width height : ℕ) where
+  abbrev pub job-of : State → Job
+  job-of s = record { camera = camera; width = width; height = height; at = s .at }
+
+  abbrev pub held-of : State → Held
+  held-of s = record { job = job-of s; cells = s .cells }
+
+abbrev pub start : List Float → State
+start cells = record { at = record { done = 0; edges = nowhere; region = nowhere; updates = 0 }; cells = cells }

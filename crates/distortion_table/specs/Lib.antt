@@ -1,9 +1,4 @@
-pub mod Border
+pub mod Answer
 pub mod Calls
-pub mod Cells
-pub mod Edges
-pub mod Job
-pub mod Rows
-pub mod Sweep
-pub mod Table
-pub mod Turns
+pub mod Loops
+pub mod Parts

@@ -1,75 +1,17 @@
-// The cells of a table: each cell's point, its pixel as two f32, and runs of cells into the part of the table that is lent.
+// The cells of a table: runs of cells into the part of the table that is lent.
 ghost use mathlib.Core.Path.{_≡_};
-ghost use Prim.Native.Nat.{_+_, _-_, _*_, _^_, _≤_, _<_};
-ghost use lib.Ieee.Scale.{finite};
+ghost use Prim.Native.Nat.{_+_, _*_, _^_, _≤_, _<_};
 ghost use lib.ListN.{length};
-ghost use Rattle.camera.specs.Camera.{distort-judged};
-ghost use Rattle.distortion_table.specs.Cells.{narrow-pixel, cell-of, cell, filled, told-filled};
-ghost use Rattle.distortion_table.specs.Job.{Lent};
-ghost use Rattle.distortion_table.specs.Turns.{turn, met};
-use crate::Cell;
+ghost use Rattle.turns.specs.Turns.{turn, met};
+ghost use Rattle.distortion_table.specs.Loops.{filled, told-filled};
+ghost use Rattle.distortion_table.specs.Parts.{Lent};
 use crate::Filled;
 use crate::Place;
 use camera::Camera;
-use lens::Distorted;
+use cell::Cell;
 use lens::Judgement;
-use lens::Pixel;
-use lens::Point;
-use lens::Refusal;
 use region::Increments;
 use region::Region;
-
-// Whether an f32 is a number, and neither a NaN nor an infinity.
-fn is_finite32(x: f32) -> bool
-    ensures { λ r. ⌜ r ≡ finite x ⌝ }
-{
-    let infinity = f32::from_bits(0x7f80_0000);
-    if x < infinity { -infinity < x } else { false }
-}
-
-// A pixel as a cell: 12 if an f32 of it is infinite.
-fn narrow_pixel(pixel: Pixel) -> Cell
-    ensures { λ r. ⌜ r ≡ narrow-pixel pixel ⌝ }
-{
-    let a = narrow::narrow(pixel.0);
-    let b = narrow::narrow(pixel.1);
-    if is_finite32(a) {
-        if is_finite32(b) {
-            Cell::Holds(a, b)
-        } else {
-            Cell::Refused(Refusal::CellInfinite)
-        }
-    } else {
-        Cell::Refused(Refusal::CellInfinite)
-    }
-}
-
-// What a point that is finite gives its cell.
-fn cell_of(camera: Camera, point: Point) -> Cell
-    ensures { λ r. ⌜ r ≡ cell-of (distort-judged camera point) ⌝ }
-{
-    match camera::distort_judged(camera, point) {
-        Distorted::Refused(refusal) => Cell::Refused(refusal),
-        Distorted::At(pixel) => narrow_pixel(pixel),
-    }
-}
-
-// The cell at a place. Its point is judged before anything is made of it.
-fn cell_at(camera: Camera, region: Region, by: Increments, place: Place) -> Cell
-    ensures { λ r. ⌜ r ≡ cell camera region by (place .u) (place .v) ⌝ }
-{
-    let x = region.left + region::float(place.u) * by.0;
-    let y = region.top + region::float(place.v) * by.1;
-    if exact::is_finite(x) {
-        if exact::is_finite(y) {
-            cell_of(camera, Point(x, y))
-        } else {
-            Cell::Refused(Refusal::AnswerNotFinite)
-        }
-    } else {
-        Cell::Refused(Refusal::AnswerNotFinite)
-    }
-}
 
 // The place after a place, row by row.
 fn next_place(place: Place, width: usize) -> Place
@@ -105,7 +47,7 @@ fn fill(
     };
     let mut i = 0;
     while i < count {
-        match cell_at(camera, region, by, place) {
+        match cell::cell_at(camera, region, by, place.u, place.v) {
             Cell::Refused(refusal) => {
                 return Filled {
                     done: i,

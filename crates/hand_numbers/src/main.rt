@@ -1,8 +1,8 @@
 // The numbers of the rules (docs/RULES.md, 17) that are run and not proved, each with the words that stand there. The lookups read the table that the turns have built.
 use affine::AffineParams;
 use camera::Camera;
-use distortion_table::Job;
-use distortion_table::Started;
+use job::Job;
+use job::Started;
 use lens::Distorted;
 use lens::Point;
 use lens::Refusal;
@@ -99,7 +99,7 @@ fn build(job: Job) {
 
 fn start(words: &[u8], fx: f64, width: usize) {
     say(words);
-    match distortion_table::fresh(affine_with(fx), width, HEIGHT) {
+    match job::fresh(affine_with(fx), width, HEIGHT) {
         Started::Refused(refusal) => {
             say_refused(refusal);
         }
@@ -111,7 +111,7 @@ fn start(words: &[u8], fx: f64, width: usize) {
 
 fn main() {
     say(b"affine 1 1 0 0, 3 by 2, each number of the table 4640e400 before\n");
-    match distortion_table::fresh(affine_with(1.0), WIDTH, HEIGHT) {
+    match job::fresh(affine_with(1.0), WIDTH, HEIGHT) {
         Started::Refused(refusal) => {
             say_refused(refusal);
         }

@@ -1,20 +1,24 @@
 -- What a caller may rely on, of the definitions of specs/ and of the contracts of src/. Assumes nothing.
-use mathlib.Core.Path.{_≡_, refl, sym, ap, _∙_}
+use mathlib.Core.Path.{_≡_, refl, sym, ap, subst, _∙_}
 use mathlib.Core.Bool.{Bool, true, false, cond}
 use mathlib.Core.List.{List, [], _∷_, _++_}
-use Prim.Native.Nat.{ℕ, _^_, _<_}
+use Prim.Native.Nat.{ℕ, suc, _+_, _^_, _<_}
 use native.Mathlib.Nat.{zero-add}
+use native.Mathlib.Omega.{arith}
 use borrow.Author.Tests.{eq-eqb, eqb-true}
 use lib.Dec.{eqb}
 use lib.ListN.{length, take}
 use Rattle.exact.specs.Determined.{Determined}
 use Rattle.io.specs.Digits.{digits}
-use Rattle.hex.specs.Hex.{read, spelled, after}
+use Rattle.hex.specs.Hex.{pushed, read, spelled, after, Short}
+use Rattle.hex.specs.declared.Bits.{Bits}
 use Rattle.hex.specs.declared.Bits.the-variants.{Of, None}
+use Rattle.hex.proofs.Reading.{pushed-short}
 use Rattle.hex.proofs.Written.{none-of, read-digits, digits-read}
 use Rattle.hex.proofs.Word.{after-other}
 use Rattle.hex.proofs.spelled.Reads as spelled-contract
 use Rattle.hex.proofs.after.Reads as after-contract
+use Rattle.hex.proofs.field.Reads as field-contract
 
 -- ---- reading and writing
 
@@ -32,6 +36,24 @@ pub spelled-written : (text : List ℕ) (n : ℕ) → spelled text ≡ Of n → 
 unfolding spelled
 spelled-written text n e = sixteen text n (eqb (length text) 16) refl e
 
+read-short : (text : List ℕ) (k j : ℕ) (bits : Bits) → j ≡ length text + k → Short k bits → Short j (read bits text)
+unfolding read
+read-short [] k j bits e h =
+    let i : k ≡ j = omega arith in
+    subst (λ (i : ℕ). Short i bits) i h
+read-short (b ∷ text) k j bits e h = read-short text (suc k) j (pushed bits b) (omega arith) (pushed-short k bits b h)
+
+of-sixteen : (text : List ℕ) (n : ℕ) (t : Bool) → eqb (length text) 16 ≡ t → cond t (read (Of 0) text) None ≡ Of n → n < 2 ^ 64
+of-sixteen text n true e f =
+    let l = eqb-true (length text) 16 e in
+    subst (Short 16) f (read-short text 0 16 (Of 0) (omega arith) (omega arith))
+of-sixteen text n false e f = absurd (none-of f)
+
+-- A number that is read is a u64.
+pub spelled-short : (text : List ℕ) (n : ℕ) → spelled text ≡ Of n → n < 2 ^ 64
+unfolding spelled
+spelled-short text n e = of-sixteen text n (eqb (length text) 16) refl e
+
 -- Where a line starts with the word, the number is what the rest of it spells.
 pub after-rest : (word rest : List ℕ) → after word (word ++ rest) ≡ spelled rest
 unfolding after
@@ -44,9 +66,12 @@ after-none word line ne = sym (after-other word line ne)
 
 -- ---- each contract permits one answer
 
--- Any two answers to one call that the contract of `spelled` permits are equal; and so for `after`.
+-- Any two answers to one call that the contract of `spelled` permits are equal; and so for `after` and `field`.
 pub spelled-determined : Determined spelled-contract.Post
 spelled-determined κ a s s' r r' p q = p ∙ sym q
 
 pub after-determined : Determined after-contract.Post
 after-determined κ a s s' r r' p q = p ∙ sym q
+
+pub field-determined : Determined field-contract.Post
+field-determined κ a s s' r r' p q = p ∙ sym q

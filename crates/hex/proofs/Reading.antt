@@ -32,7 +32,7 @@ one-more k n d true e h = omega (arith, ltb-true d 16 e, pow-suc 16 k)
 one-more k n d false e h = tt
 
 -- a byte makes a number at most one digit longer
-pushed-short : (k : ℕ) (bits : Bits) (b : ℕ) → Short k bits → Short (suc k) (pushed bits b)
+pub pushed-short : (k : ℕ) (bits : Bits) (b : ℕ) → Short k bits → Short (suc k) (pushed bits b)
 unfolding pushed
 pushed-short k None b h = tt
 pushed-short k (Of n) b h = one-more k n (digit b) (ltb (digit b) 16) refl h

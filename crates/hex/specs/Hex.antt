@@ -1,9 +1,9 @@
 -- What a text of hexadecimal digits spells. Definitions only.
-use mathlib.Core.Bool.{cond}
+use mathlib.Core.Bool.{Bool, true, false, cond}
 use mathlib.Core.List.{List, [], _∷_}
 use Prim.Native.Nat.{ℕ, _+_, _*_, _-_, _^_, _<_}
 use lib.Dec.{eqb, ltb}
-use lib.ListN.{length}
+use lib.ListN.{length, take, drop}
 use Rattle.hex.specs.declared.Bits.{Bits}
 use Rattle.hex.specs.declared.Bits.the-variants.{Of, None}
 
@@ -30,6 +30,25 @@ unfoldable pub after : List ℕ → List ℕ → Bits
 after [] line = spelled line
 after (w ∷ word) [] = None
 after (w ∷ word) (b ∷ line) = cond (eqb w b) (after word line) None
+
+-- what may follow the digits of a field: a tab (9) and more, or a newline (10) and no more
+unfoldable pub ends : List ℕ → Bool
+ends [] = false
+ends (b ∷ []) = eqb b 10
+ends (b ∷ c ∷ rest) = eqb b 9
+
+-- field k of a line of numbers, each of 16 digits and the byte after them
+unfoldable pub field : List ℕ → ℕ → Bits
+field line k = cond (ends (drop (k * 17 + 16) line)) (spelled (take 16 (drop (k * 17) line))) None
+
+-- whether there is a number, and which: 0 for none
+abbrev pub is-bits : Bits → Bool
+is-bits (Of bits) = true
+is-bits None = false
+
+abbrev pub bits-of : Bits → ℕ
+bits-of (Of bits) = bits
+bits-of None = 0
 
 -- a number of at most k digits, or none
 abbrev pub Short : ℕ → Bits → Type 0

@@ -1,6 +1,9 @@
 // Reads a number as our texts spell it: 16 hexadecimal digits in lower case, as of an f64's bit pattern.
 ghost use mathlib.Core.Path.{_≡_};
-ghost use Rattle.hex.specs.Hex.{Short, digit, pushed, spelled, after};
+ghost use Rattle.hex.specs.Hex.{Short, digit, pushed, spelled, after, ends, field};
+
+// A field of a line of numbers: 16 digits and the byte after them.
+const FIELD: usize = 17;
 
 // What a text spells: a number, or none.
 pub enum Bits {
@@ -59,6 +62,34 @@ pub fn after(word: &[u8], line: &[u8]) -> Bits
     if n <= line.len() {
         if check::same(&line[..n], word) {
             return spelled(&line[n..]);
+        }
+    }
+    Bits::None
+}
+
+// Whether what follows a field's digits ends it: a tab and more, or a newline and no more.
+fn ends(rest: &[u8]) -> bool
+    ensures { λ r. ⌜ r ≡ ends (now (rest .entry)) ⌝ }
+{
+    if rest.len() == 0 {
+        return false;
+    }
+    if rest.len() == 1 {
+        rest[0] == b'\n'
+    } else {
+        rest[0] == b'\t'
+    }
+}
+
+// The number in field k of a line, if the line has so many.
+pub fn field(line: &[u8], k: usize) -> Bits
+    ensures { λ r. ⌜ r ≡ field (now (line .entry)) k ⌝ }
+{
+    if k < line.len() / FIELD {
+        let start = k * FIELD;
+        let stop = start + 16;
+        if ends(&line[stop..]) {
+            return spelled(&line[start..stop]);
         }
     }
     Bits::None

@@ -33,6 +33,8 @@ use Rattle.lens.proofs.two_rows.Reads as two-rows-contract
 use Rattle.lens.proofs.two_columns.Reads as two-columns-contract
 use Rattle.lens.proofs.squared_radius.Reads as squared-radius-contract
 use Rattle.lens.proofs.all_finite.Reads as all-finite-contract
+use Rattle.lens.proofs.both_finite.Reads as both-finite-contract
+use Rattle.lens.proofs.finite_pixel.Reads as finite-pixel-contract
 
 -- ---- refusals
 
@@ -141,7 +143,10 @@ module _ (top bottom : List Float) where
 
 -- ---- each contract permits one answer
 
--- Any two answers to one call that the contract of `eps` permits are equal; and so for the six other functions.
+-- Any two answers to one call that the contract of `finite_pixel` permits are equal; and so for the eight other functions.
+pub finite-pixel-determined : Determined finite-pixel-contract.Post
+finite-pixel-determined κ a s s' r r' p q = told-pixel-one-to-one r r' (p ∙ sym q)
+
 pub eps-determined : Determined eps-contract.Post
 eps-determined κ a s s' r r' p q = p ∙ sym q
 
@@ -162,3 +167,6 @@ squared-radius-determined κ a s s' r r' p q = p ∙ sym q
 
 pub all-finite-determined : Determined all-finite-contract.Post
 all-finite-determined κ a s s' r r' p q = p ∙ sym q
+
+pub both-finite-determined : Determined both-finite-contract.Post
+both-finite-determined κ a s s' r r' p q = p ∙ sym q

@@ -1,70 +1,35 @@
 -- What is written of numbers, of lines and of a listing is read back. Assumes nothing.
-use mathlib.Core.Path.{_≡_, refl, sym, ap, ap₂, _∙_}
+use mathlib.Core.Path.{_≡_, refl, ap, _∙_}
 use mathlib.Core.Bool.{Bool, true, false, cond}
 use mathlib.Core.List.{List, [], _∷_, _++_, append-assoc}
-use mathlib.Core.Option.{Option, none, some}
-use Prim.Native.Nat.{ℕ, zero, suc, _+_, _-_, _*_, _/_, _%_, _^_, _≤_, _<_}
-use native.Mathlib.Nat.{pow-suc, pow-zero, mod-lt, div-lt-iff-lt-mul, div-add-mod'}
+use Prim.Native.Nat.{ℕ, zero, suc, _+_, _/_, _%_, _<_}
 use native.Mathlib.Omega.{arith}
-use borrow.Author.Tests.{lt-ltb, le-ltb, ltb-true, ltb-false, eq-eqb, ne-eqb, eqb-true}
-use lib.Dec.{T, eqb, ltb}
+use borrow.Author.Tests.{ne-eqb}
+use lib.Dec.{T, ltb}
 use lib.Ieee.{Float, binary32, binary64, fits, toBits, ofBits}
 use lib.Ieee.Bits.{ofBits-toBits, toBits-lt}
 use Rattle.io.specs.Digits.{glyph, digits}
+use Rattle.decimal.specs.Decimal.{places, decimal}
+use Rattle.decimal.proofs.Digits.{decimal-worth}
+use Rattle.hex.specs.Hex.{read, bits-of}
+use Rattle.hex.specs.declared.Bits.{Bits}
+use Rattle.hex.specs.declared.Bits.the-variants.{Of}
+use Rattle.hex.proofs.Written.{read-digits}
 use Rattle.region.specs.declared.Region.{Region}
-use Rattle.listing.specs.Listing.{places, decimal, hex, single, double, line, word-table, word-region, word-cell, table-line, region-line, cell-line}
-use Rattle.listing.specs.Read.{digit, value, onto, fields, lines, same, Header, header-of, region-of, Cell, cell-of}
+use Rattle.listing.specs.Listing.{hex, single, double, line, word-table, word-region, word-cell, table-line, region-line, cell-line}
+use Rattle.listing.specs.Read.{onto, fields, lines, header-of, region-of, cell-of}
 
 -- ---- a number
 
-glyph-read : (d : ℕ) (t : Bool) → ltb d 10 ≡ t → d < 16 → digit (cond t (48 + d) (87 + d)) ≡ d
-glyph-read d true e h = simp (lt-ltb (48 + d) 58 (omega (arith, ltb-true d 10 e))) (omega arith)
-glyph-read d false e h = simp (le-ltb (87 + d) 58 (omega arith)) (omega arith)
-
-digit-glyph : (d : ℕ) → d < 16 → digit (glyph d) ≡ d
-digit-glyph d h = glyph-read d (ltb d 10) refl h
-
-value-append : (base n : ℕ) (s t : List ℕ) → value base n (s ++ t) ≡ value base (value base n s) t
-unfolding value
-value-append base n [] t = refl
-value-append base n (b ∷ s) t = value-append base (n * base + digit b) s t
-
-value-digits : (base k n : ℕ) → 0 < base → base ≤ 16 → n < base ^ k → value base 0 (digits base k n) ≡ n
-unfolding value
-value-digits base zero n p m h = omega (arith, pow-zero base)
-value-digits base (suc k) n p m h =
-    let q : n / base < base ^ k = div-lt-iff-lt-mul {k = base} {x = n} {y = base ^ k} p .1 (omega (arith, pow-suc base k)) in
-    let d : n % base < 16 = omega (arith, mod-lt n p) in
-    value-append base 0 (digits base k (n / base)) (glyph (n % base) ∷ [])
-    ∙ ap₂ (λ (x y : ℕ). x * base + y) (value-digits base k (n / base) p m q) (digit-glyph (n % base) d)
-    ∙ div-add-mod' n base
-
-by-digit : (most n : ℕ) (t : Bool) → ltb n 10 ≡ t → n / 10 < 10 ^ places most (n / 10) → n < 10 ^ cond t 1 (suc (places most (n / 10)))
-by-digit most n true e h = ltb-true n 10 e
-by-digit most n false e h = omega (arith, pow-suc 10 (places most (n / 10)))
-
-places-hold : (most n : ℕ) → n ≤ most → n < 10 ^ places most n
-unfolding places
-places-hold zero n h = omega arith
-places-hold (suc most) n h =
-    let d : n / 10 ≤ most = omega arith in
-    by-digit most n (ltb n 10) refl (places-hold most (n / 10) d)
-
-pub decimal-back : (n : ℕ) → value 10 0 (decimal n) ≡ n
-unfolding decimal
-decimal-back n = value-digits 10 (places n n) n (omega arith) (omega arith) (places-hold n n (omega arith))
-
-pub single-back : (x : Float) → T (fits binary32 x) → ofBits binary32 (value 16 0 (single x)) ≡ x
+pub single-back : (x : Float) → T (fits binary32 x) → ofBits binary32 (bits-of (read (Of 0) (single x))) ≡ x
 unfolding hex
 single-back x h =
-    ap (ofBits binary32) (value-digits 16 8 (toBits binary32 x) (omega arith) (omega arith) (toBits-lt binary32 x h))
-    ∙ ofBits-toBits binary32 x h
+    ap (λ (b : Bits). ofBits binary32 (bits-of b)) (read-digits 8 (toBits binary32 x) (toBits-lt binary32 x h)) ∙ ofBits-toBits binary32 x h
 
-pub double-back : (x : Float) → T (fits binary64 x) → ofBits binary64 (value 16 0 (double x)) ≡ x
+pub double-back : (x : Float) → T (fits binary64 x) → ofBits binary64 (bits-of (read (Of 0) (double x))) ≡ x
 unfolding hex
 double-back x h =
-    ap (ofBits binary64) (value-digits 16 16 (toBits binary64 x) (omega arith) (omega arith) (toBits-lt binary64 x h))
-    ∙ ofBits-toBits binary64 x h
+    ap (λ (b : Bits). ofBits binary64 (bits-of b)) (read-digits 16 (toBits binary64 x) (toBits-lt binary64 x h)) ∙ ofBits-toBits binary64 x h
 
 -- ---- words and fields hold no tab and no line end
 
@@ -160,7 +125,7 @@ module _ (width height updates : ℕ) where
   unfolding table-line header-of
   header-back =
       ap header-of (fields-line word-table (decimal width ∷ decimal height ∷ decimal updates ∷ []) table-plain plains-of-table)
-      ∙ simp (decimal-back width, decimal-back height, decimal-back updates)
+      ∙ simp (decimal-worth width, decimal-worth height, decimal-worth updates)
 
   pub table-cut : (rest : List ℕ) → lines (table-line width height updates ++ rest) ≡ table-line width height updates ∷ lines rest
   unfolding table-line
@@ -194,15 +159,8 @@ module _ (u v : ℕ) (a b : Float) where
   unfolding cell-line cell-of
   cell-back h i =
       ap cell-of (fields-line word-cell (decimal u ∷ decimal v ∷ single a ∷ single b ∷ []) cell-plain plains-of-cell)
-      ∙ simp (decimal-back u, decimal-back v, single-back a h, single-back b i)
+      ∙ simp (decimal-worth u, decimal-worth v, single-back a h, single-back b i)
 
   pub cell-cut : (rest : List ℕ) → lines (cell-line u v a b ++ rest) ≡ cell-line u v a b ∷ lines rest
   unfolding cell-line
   cell-cut rest = lines-line word-cell (decimal u ∷ decimal v ∷ single a ∷ single b ∷ []) rest cell-plain plains-of-cell
-
--- ---- the same text
-
-pub same-refl : (s : List ℕ) → same s s ≡ true
-unfolding same
-same-refl [] = refl
-same-refl (a ∷ s) = simp (eq-eqb a a refl) (same-refl s)

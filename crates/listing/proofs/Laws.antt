@@ -1,24 +1,25 @@
 -- What a caller may rely on, of the definitions of specs/ and of the contracts of src/. Assumes nothing.
-use mathlib.Core.Path.{_≡_, refl, sym, ap, ap₂, _∙_, subst}
-use mathlib.Core.Bool.{Bool, true, false, cond, true≢false}
+use mathlib.Core.Path.{_≡_, refl, sym, ap, _∙_}
+use mathlib.Core.Bool.{Bool, true, false, cond}
 use mathlib.Core.List.{List, [], _∷_, _++_}
 use mathlib.Core.Option.{Option, none, some, Option·some-injective, Option·none-ne-some}
-use Prim.Native.Nat.{ℕ, zero, suc, _+_, _*_, _≤_, _<_}
-use native.Mathlib.Nat.{mul-comm}
+use Prim.Native.Nat.{ℕ, _+_, _*_, _≤_, _<_}
 use native.Mathlib.Omega.{arith}
-use borrow.Author.Tests.{eqb-true}
 use denote.Ref.{now}
-use lib.Dec.{T, eqb}
+use lib.Dec.{T}
 use lib.Ieee.{Float, nan, binary32, binary64, fits}
 use lib.ListN.{length, take, drop, getD}
-use lib.Seq.{drop-at, take-at, length-take-le, take-append-le, take-all, take-take}
+use Rattle.exact.specs.Determined.{DeterminedWith}
+use Rattle.decimal.specs.Decimal.{places, decimal}
+use Rattle.decimal.specs.Text.{same}
+use Rattle.decimal.proofs.Bytes.{same-self, same-true}
 use Rattle.region.specs.declared.Region.{Region}
-use Rattle.listing.specs.Listing.{places, decimal, hex, line, table-line, region-line, cell-line, refused-line, cell-lines, listing-lines, joined, listing}
-use Rattle.listing.specs.Placed.{Written, written, with-text, placed, placed-all}
-use Rattle.listing.specs.Read.{fields, lines, same, if-same, Header, header-of, region-of, Cell, cell-of, Listed, listed-of, numbers, read-table, read-region, read-cell, read-listing}
+use Rattle.listing.specs.Listing.{hex, line, table-line, region-line, cell-line, refused-line, cell-lines, listing-lines, listing}
+use Rattle.listing.specs.Placed.{Written, written, placed, placed-all}
+use Rattle.listing.specs.Read.{lines, if-same, Header, Cell, Listed, listed-of, numbers, read-table, read-region, read-cell, read-listing}
 use Rattle.listing.proofs.Putting.{not-placed, is-placed}
 use Rattle.listing.proofs.Whole.{front-is, back-is, all-placed}
-use Rattle.listing.proofs.Back.{header-back, region-back, cell-back, same-refl}
+use Rattle.listing.proofs.Back.{header-back, region-back, cell-back}
 use Rattle.listing.proofs.Grid.{AllFit, numbers-back, listing-cut, count, line-at, before-end}
 use Rattle.listing.proofs.put.Reads as put-contract
 use Rattle.listing.proofs.table_line.Reads as table-line-contract
@@ -30,41 +31,35 @@ use Rattle.listing.proofs.write_listing.Reads as write-listing-contract
 
 -- ---- each contract permits one answer, and one buffer
 
--- Any two answers that a contract permits to one call are equal, and so are any two buffers at the return: `buffer` says where among the arguments
--- at the return it is. (This is `Determined` of the crate exact, with the buffer beside the answer.)
-abbrev Determined : {K : Type 0} {A R S : K → Type 0} → ((κ : K) → A κ → R κ → S κ → Type 0) → ((κ : K) → S κ → List ℕ) → Type 0
-Determined {K} {A} {R} {S} post buffer =
-    (κ : K) (a : A κ) (s s' : S κ) (r r' : R κ) → post κ a r s → post κ a r' s' → (r ≡ r') × (buffer κ s ≡ buffer κ s')
-
 both : {o o' : List ℕ} {r r' : ℕ} → written o r ≡ written o' r' → (r ≡ r') × (o ≡ o')
 both e = (ap (λ (w : Written). w .at) e, ap (λ (w : Written). w .out) e)
 
--- Of `put`,
-pub put-determined : Determined put-contract.Post (λ κ s. now (s .0))
+-- Any two answers that the contract of `put` permits to one call are equal, and so are any two buffers at the return;
+pub put-determined : DeterminedWith put-contract.Post (λ κ s. now (s .0))
 put-determined κ a s s' r r' p q = both (p ∙ sym q)
 
--- of `table_line`,
-pub table-line-determined : Determined table-line-contract.Post (λ κ s. now (s .0))
+-- and so for `table_line`,
+pub table-line-determined : DeterminedWith table-line-contract.Post (λ κ s. now (s .0))
 table-line-determined κ a s s' r r' p q = both (p ∙ sym q)
 
--- of `region_line`,
-pub region-line-determined : Determined region-line-contract.Post (λ κ s. now (s .0))
+-- `region_line`,
+pub region-line-determined : DeterminedWith region-line-contract.Post (λ κ s. now (s .0))
 region-line-determined κ a s s' r r' p q = both (p ∙ sym q)
 
--- of `cell_line`,
-pub cell-line-determined : Determined cell-line-contract.Post (λ κ s. now (s .0))
+-- `cell_line`,
+pub cell-line-determined : DeterminedWith cell-line-contract.Post (λ κ s. now (s .0))
 cell-line-determined κ a s s' r r' p q = both (p ∙ sym q)
 
--- of `refused_line`,
-pub refused-line-determined : Determined refused-line-contract.Post (λ κ s. now (s .0))
+-- `refused_line`,
+pub refused-line-determined : DeterminedWith refused-line-contract.Post (λ κ s. now (s .0))
 refused-line-determined κ a s s' r r' p q = both (p ∙ sym q)
 
--- of `cells`
-pub cells-determined : Determined cells-contract.Post (λ κ s. now (s .0))
+-- `cells`
+pub cells-determined : DeterminedWith cells-contract.Post (λ κ s. now (s .0))
 cells-determined κ a s s' r r' p q = both (p ∙ sym q)
 
--- and of `write_listing`.
-pub write-listing-determined : Determined write-listing-contract.Post (λ κ s. now (s .0))
+-- and `write_listing`.
+pub write-listing-determined : DeterminedWith write-listing-contract.Post (λ κ s. now (s .0))
 write-listing-determined κ a s s' r r' p q = both (p ∙ sym q)
 
 -- ---- a text in a buffer
@@ -119,7 +114,7 @@ module _ (width height : ℕ) (table : List Float) (long : length table ≡ 2 * 
 
 read-again : {A : Type 0} (text text' : List ℕ) (x y : A) → x ≡ y → text' ≡ text → if-same text text' x ≡ some y
 read-again text text' x y e f =
-    ap (λ (t : List ℕ). cond (same text t) (some x) none) f ∙ ap (λ (b : Bool). cond b (some x) none) (same-refl text) ∙ ap some e
+    ap (λ (t : List ℕ). cond (same text t) (some x) none) f ∙ ap (λ (b : Bool). cond b (some x) none) (same-self text) ∙ ap some e
 
 -- From a table's line its width, height and updates come back.
 pub table-read : (width height updates : ℕ) → read-table (table-line width height updates) ≡ some (record { width = width; height = height; updates = updates })
@@ -186,22 +181,11 @@ listing-read width height updates region table wide long f h i j k =
     let e = listed-back width height updates region table wide long f h i j k in
     read-again _ _ _ _ e (ap (λ (l : Listed). listing (l .header .width) (l .header .height) (l .header .updates) (l .region) (l .table)) e)
 
-by-first : (a b : ℕ) (s t : List ℕ) (c : Bool) → eqb a b ≡ c → (same s t ≡ true → s ≡ t) → cond c (same s t) false ≡ true → a ∷ s ≡ b ∷ t
-by-first a b s t true f more g = ap₂ (λ (x : ℕ) (l : List ℕ). x ∷ l) (eqb-true a b f) (more g)
-by-first a b s t false f more g = absurd (true≢false (sym g))
-
-same-eq : (s t : List ℕ) → same s t ≡ true → s ≡ t
-unfolding same
-same-eq [] [] e = refl
-same-eq [] (b ∷ t) e = absurd (true≢false (sym e))
-same-eq (a ∷ s) [] e = absurd (true≢false (sym e))
-same-eq (a ∷ s) (b ∷ t) e = by-first a b s t (eqb a b) refl (same-eq s t) e
-
 only-same : {A : Type 0} (text text' : List ℕ) (x y : A) → if-same text text' x ≡ some y → (text ≡ text') × (x ≡ y)
 only-same {A} text text' x y e = by-test (same text text') refl e
   where
     by-test : (c : Bool) → same text text' ≡ c → cond c (some x) none ≡ some y → (text ≡ text') × (x ≡ y)
-    by-test true f g = (same-eq text text' f, Option·some-injective x y g)
+    by-test true f g = (same-true text text' f, Option·some-injective x y g)
     by-test false f g = absurd (Option·none-ne-some y g)
 
 -- Bytes that are read as a table's line are the line that is written of those numbers; no other bytes are read,

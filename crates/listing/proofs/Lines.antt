@@ -1,12 +1,13 @@
 -- A line that has grown by a word, fields and a line end is the definition's line. Assumes nothing.
-use mathlib.Core.Path.{_≡_, refl, sym, ap, _∙_}
+use mathlib.Core.Path.{_≡_, ap, _∙_}
 use mathlib.Core.List.{List, [], _∷_, _++_, append-assoc}
-use Prim.Native.Nat.{ℕ, suc, _+_, _≤_, _<_}
+use Prim.Native.Nat.{ℕ, _+_, _<_}
 use native.Mathlib.Omega.{arith}
 use lib.Ieee.{Float}
-use lib.ListN.{length, take, length-append}
+use lib.ListN.{length, take}
+use Rattle.decimal.specs.Decimal.{decimal}
 use Rattle.region.specs.declared.Region.{Region}
-use Rattle.listing.specs.Listing.{decimal, single, double, line, word-table, word-region, word-cell, word-refused, table-line, region-line, cell-line, refused-line}
+use Rattle.listing.specs.Listing.{single, double, line, word-table, word-region, word-cell, word-refused, table-line, region-line, cell-line, refused-line}
 use Rattle.listing.specs.Placed.{Grown}
 
 on : {l l' s t : List ℕ} {n n' : ℕ} → take n l ≡ t → Grown l n s l' n' → take n' l' ≡ t ++ s

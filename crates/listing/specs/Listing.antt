@@ -1,22 +1,15 @@
 -- The listing of a table, as bytes (docs/RULES.md, 16): its lines, and all of it. Definitions only.
 use mathlib.Core.Bool.{cond}
 use mathlib.Core.List.{List, [], _∷_, _++_}
-use Prim.Native.Nat.{ℕ, zero, suc, _+_, _/_}
+use Prim.Native.Nat.{ℕ, _+_}
 use lib.Dec.{eqb, ltb}
 use lib.Ieee.{Float, binary32, binary64, toBits}
 use Rattle.io.specs.Digits.{digits}
+use Rattle.decimal.specs.Decimal.{decimal}
+use Rattle.decimal.specs.Text.{tab, newline}
 use Rattle.region.specs.declared.Region.{Region}
 
 -- ---- numbers
-
--- how many decimal digits n has, counting no further than one more than most
-unfoldable pub places : ℕ → ℕ → ℕ
-places zero n = 1
-places (suc most) n = cond (ltb n 10) 1 (suc (places most (n / 10)))
-
--- a number in decimal: as many digits as it has, and it has no more than n + 1
-unfoldable pub decimal : ℕ → List ℕ
-decimal n = digits 10 (places n n) n
 
 -- a number as so many hexadecimal digits, in lower case
 unfoldable pub hex : ℕ → ℕ → List ℕ
@@ -31,10 +24,10 @@ double x = hex 16 (toBits binary64 x)
 
 -- ---- a line
 
--- a word and the fields that follow it, with a tab (9) before each, and the line's end (10)
+-- a word and the fields that follow it, with a tab before each, and the line's end
 unfoldable pub line : List ℕ → List (List ℕ) → List ℕ
-line word [] = word ++ (10 ∷ [])
-line word (field ∷ fields) = word ++ (9 ∷ line field fields)
+line word [] = word ++ (newline ∷ [])
+line word (field ∷ fields) = word ++ (tab ∷ line field fields)
 
 abbrev pub word-table : List ℕ
 word-table = 116 ∷ 97 ∷ 98 ∷ 108 ∷ 101 ∷ []

@@ -1,24 +1,19 @@
 -- Reading a listing and its lines. Each of the four readings answers the numbers whose text the bytes are, and none for any other bytes. Definitions only.
-use mathlib.Core.Bool.{Bool, true, false, cond}
+use mathlib.Core.Bool.{cond}
 use mathlib.Core.List.{List, [], _∷_}
 use mathlib.Core.Option.{Option, none, some}
-use Prim.Native.Nat.{ℕ, _+_, _*_, _-_}
-use lib.Dec.{eqb, ltb}
+use Prim.Native.Nat.{ℕ}
+use lib.Dec.{eqb}
 use lib.Ieee.{Float, binary32, binary64, ofBits}
 use lib.ListN.{getD, drop}
+use Rattle.decimal.specs.Decimal.{worth}
+use Rattle.decimal.specs.Text.{tab, newline, same}
+use Rattle.hex.specs.Hex.{read, bits-of}
+use Rattle.hex.specs.declared.Bits.the-variants.{Of}
 use Rattle.region.specs.declared.Region.{Region}
 use Rattle.listing.specs.Listing.{table-line, region-line, cell-line, listing}
 
 -- ---- pieces
-
--- the value of a digit, `0` to `9` and `a` to `f`
-abbrev pub digit : ℕ → ℕ
-digit b = cond (ltb b 58) (b - 48) (b - 87)
-
--- the digits so far, worth n, with those of a text after them
-unfoldable pub value : ℕ → ℕ → List ℕ → ℕ
-value base n [] = n
-value base n (b ∷ text) = value base (n * base + digit b) text
 
 -- a byte ahead of the first of some texts
 abbrev pub onto : ℕ → List (List ℕ) → List (List ℕ)
@@ -28,18 +23,12 @@ onto b (text ∷ texts) = (b ∷ text) ∷ texts
 -- the word and the fields of a line: what stands between its tabs, up to its end
 unfoldable pub fields : List ℕ → List (List ℕ)
 fields [] = [] ∷ []
-fields (b ∷ text) = cond (eqb b 10) ([] ∷ []) (cond (eqb b 9) ([] ∷ fields text) (onto b (fields text)))
+fields (b ∷ text) = cond (eqb b newline) ([] ∷ []) (cond (eqb b tab) ([] ∷ fields text) (onto b (fields text)))
 
 -- the lines of a text, each with its end
 unfoldable pub lines : List ℕ → List (List ℕ)
 lines [] = []
-lines (b ∷ text) = cond (eqb b 10) ((10 ∷ []) ∷ lines text) (onto b (lines text))
-
-unfoldable pub same : List ℕ → List ℕ → Bool
-same [] [] = true
-same [] (b ∷ t) = false
-same (a ∷ s) [] = false
-same (a ∷ s) (b ∷ t) = cond (eqb a b) (same s t) false
+lines (b ∷ text) = cond (eqb b newline) ((newline ∷ []) ∷ lines text) (onto b (lines text))
 
 -- what is read, if the text is the one that is written of it
 abbrev pub if-same : {A : Type 0} → List ℕ → List ℕ → A → Option A
@@ -47,13 +36,13 @@ if-same text written read = cond (same text written) (some read) none
 
 -- field k of a line, in decimal, as an f32's and as an f64's bits
 abbrev pub number-at : List (List ℕ) → ℕ → ℕ
-number-at fields k = value 10 0 (getD fields k [])
+number-at fields k = worth 0 (getD fields k [])
 
 abbrev pub single-at : List (List ℕ) → ℕ → Float
-single-at fields k = ofBits binary32 (value 16 0 (getD fields k []))
+single-at fields k = ofBits binary32 (bits-of (read (Of 0) (getD fields k [])))
 
 abbrev pub double-at : List (List ℕ) → ℕ → Float
-double-at fields k = ofBits binary64 (value 16 0 (getD fields k []))
+double-at fields k = ofBits binary64 (bits-of (read (Of 0) (getD fields k [])))
 
 -- ---- lines
 

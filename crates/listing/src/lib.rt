@@ -1,11 +1,12 @@
 // The lines of a table's listing, and all of it, written into a buffer that the caller lends.
 ghost use mathlib.Core.Path.{_≡_};
-ghost use mathlib.Core.List.{[], _∷_};
+ghost use mathlib.Core.List.{_∷_};
 ghost use Prim.Native.Nat.{_+_, _≤_, _<_, _^_};
 ghost use lib.Ieee.{binary32, binary64, toBits};
 ghost use lib.ListN.{length};
+ghost use Rattle.decimal.specs.Decimal.{decimal};
 ghost use Rattle.lens.specs.Refusal.{number};
-ghost use Rattle.listing.specs.Listing.{decimal, hex, table-line, region-line, cell-line, refused-line, across, down, cell-lines, listing-lines};
+ghost use Rattle.listing.specs.Listing.{hex, table-line, region-line, cell-line, refused-line, across, down, cell-lines, listing-lines};
 ghost use Rattle.listing.specs.Placed.{written, with-text, placed, placed-all, Grown};
 use lens::Refusal;
 use region::Region;

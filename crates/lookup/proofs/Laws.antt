@@ -120,7 +120,7 @@ module _ (table : List Float) (region : Region) (width height : ℕ) (point : Po
       (flat (by .0) || flat (by .1))
       (finite (by .0) && finite (by .1))
       (outside i width || outside j height)
-      (all-finite (pixel .0 ∷ pixel .1 ∷ []))
+      (finite (pixel .0) && finite (pixel .1))
       pixel
 
   -- The number told is 9 exactly if neither 4, 6 and 7 nor the increments' 8 and 11 refuse the call, and the index across or the one down is below 0 or above the last.
@@ -136,7 +136,7 @@ module _ (table : List Float) (region : Region) (width height : ℕ) (point : Po
       (flat (by .0) || flat (by .1))
       (finite (by .0) && finite (by .1))
       (outside i width || outside j height)
-      (all-finite (pixel .0 ∷ pixel .1 ∷ [])))
+      (finite (pixel .0) && finite (pixel .1)))
 
   -- its parts, for a call that isn't refused ahead of the indices
   judged : before ≡ 0 → (given (length table) region width height point ≡ call.Taken) × (wrong (increments region width height) ≡ call.Taken)
@@ -165,7 +165,7 @@ module _ (table : List Float) (region : Region) (width height : ℕ) (point : Po
   -- a call that nothing refuses
   answers :
       given (length table) region width height point ≡ call.Taken → wrong (increments region width height) ≡ call.Taken → outside i width ≡ false → outside j height ≡ false
-      → all-finite (pixel-at table width (spot i width) (spot j height) .0 ∷ pixel-at table width (spot i width) (spot j height) .1 ∷ []) ≡ true
+      → (finite (pixel-at table width (spot i width) (spot j height) .0) && finite (pixel-at table width (spot i width) (spot j height) .1)) ≡ true
       → lookup table region width height point ≡ At (pixel-at table width (spot i width) (spot j height))
   unfolding spread looked-up
   answers g w o p a = rw (g, w, o, p, a) refl

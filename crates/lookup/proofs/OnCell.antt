@@ -144,11 +144,10 @@ sure false e = false≢true e
 pub first-of : (x : Float) (rest : List Float) → all-finite (x ∷ rest) ≡ true → T (finite x)
 first-of x rest h = sure (finite x) (first-finite x rest h)
 
-pub both-finite : (x y : Float) → T (finite x) → T (finite y) → all-finite (x ∷ y ∷ []) ≡ true
-unfolding all-finite
+pub both-finite : (x y : Float) → T (finite x) → T (finite y) → (finite x && finite y) ≡ true
 both-finite x y p q = go (finite x) (finite y) p q
   where
-    go : (a b : Bool) → T a → T b → (a && (b && true)) ≡ true
+    go : (a b : Bool) → T a → T b → (a && b) ≡ true
     go true true p q = refl
 
 -- ---- the cell comes back

@@ -9,6 +9,7 @@ use borrow.Author.Tests.{eqb-true}
 use lib.Dec.{eqb}
 use lib.Ieee.{Float}
 use lib.Ieee.Scale.{finite}
+use Rattle.lens.specs.Distorted.{finite-pixel}
 use Rattle.lens.specs.Finite.{all-finite}
 use Rattle.lens.specs.Judgement.{decided}
 use Rattle.lens.specs.declared.Distorted.{Distorted}
@@ -23,7 +24,7 @@ use Rattle.region.specs.declared.Increments.{Increments}
 use Rattle.region.specs.declared.Region.{Region}
 use Rattle.region.proofs.Size.{is-sized}
 use Rattle.lookup.specs.Asked.{Number, Inside, Whole, Reaches, Taken}
-use Rattle.lookup.specs.Lookup.{index, outside, spot, whole-part, finite-pixel, pixel-at, looked-up, spread, given}
+use Rattle.lookup.specs.Lookup.{index, outside, spot, whole-part, pixel-at, looked-up, spread, given}
 use Rattle.lookup.proofs.Among.{cut, steps, index-number}
 
 -- ---- 4, 6 and 7, by what the tests say

@@ -7,15 +7,16 @@ use lib.Ieee.{Float, nan, lt, toUnsigned}
 use lib.ListN.{length, getD}
 use Rattle.exact.specs.F64.{_⊕_, _⊖_, _⊗_, _⊘_}
 use Rattle.lens.specs.Constants.{zeros}
+use Rattle.lens.specs.Distorted.{finite-pixel}
 use Rattle.lens.specs.Finite.{all-finite}
 use Rattle.lens.specs.Judgement.{decided}
 use Rattle.lens.specs.declared.Distorted.{Distorted}
-use Rattle.lens.specs.declared.Distorted.the-variants.{At, Refused}
+use Rattle.lens.specs.declared.Distorted.the-variants.{Refused}
 use Rattle.lens.specs.declared.Judgement.{Judgement}
 use Rattle.lens.specs.declared.Judgement.the-variants as call
 use Rattle.lens.specs.declared.Pixel.{Pixel}
 use Rattle.lens.specs.declared.Point.{Point}
-use Rattle.lens.specs.declared.Refusal.the-variants.{NotFinite, WrongSize, WrongLength, OutsideTable, AnswerNotFinite}
+use Rattle.lens.specs.declared.Refusal.the-variants.{NotFinite, WrongSize, WrongLength, OutsideTable}
 use Rattle.region.specs.Region.{four, increments, wrong}
 use Rattle.region.specs.Size.{float, sized}
 use Rattle.region.specs.declared.Region.{Region}
@@ -80,9 +81,6 @@ number-at table width k across down =
 
 abbrev pub pixel-at : List Float → ℕ → Spot → Spot → Pixel
 pixel-at table width across down = record { 0 = number-at table width 0 across down; 1 = number-at table width 1 across down }
-
-abbrev pub finite-pixel : Pixel → Distorted
-finite-pixel pixel = cond (all-finite (pixel .0 ∷ pixel .1 ∷ [])) (At pixel) (Refused AnswerNotFinite)
 
 -- ---- the refusals around it
 

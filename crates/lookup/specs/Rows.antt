@@ -31,4 +31,4 @@ lookup-rows table region width height point =
     let pixel = pixel-at table width (spot i width) (spot j height) in
     ahead (length table) region width height point
     ++ (9 when outside i width || outside j height)
-    ∷ (11 when not (all-finite (pixel .0 ∷ pixel .1 ∷ []))) ∷ []
+    ∷ (11 when not (finite (pixel .0) && finite (pixel .1))) ∷ []

@@ -5,7 +5,7 @@ ghost use lib.Dec.{eqb};
 ghost use lib.ListN.{length};
 ghost use Rattle.lens.specs.Distorted.{told-pixel};
 ghost use Rattle.region.specs.Size.{Sized};
-ghost use Rattle.lookup.specs.Lookup.{index, outside, beside, spot, between, blended, cell, number-at, pixel-at, finite-pixel, looked-up, spread, given, lookup};
+ghost use Rattle.lookup.specs.Lookup.{index, outside, beside, spot, between, blended, cell, number-at, pixel-at, looked-up, spread, given, lookup};
 ghost use Rattle.lookup.specs.Asked.{Number, Inside, Reaches, Whole, Taken};
 use lens::Distorted;
 use lens::Judgement;
@@ -109,16 +109,6 @@ fn pixel_at(table: &[f32], width: usize, across: Spot, down: Spot) -> Pixel
     )
 }
 
-// 11 for a pixel that isn't finite.
-fn finite_pixel(pixel: Pixel) -> Distorted
-    ensures { λ r. ⌜ r ≡ finite-pixel pixel ⌝ }
-{
-    if lens::all_finite(&[pixel.0, pixel.1]) {
-        return Distorted::At(pixel);
-    }
-    Distorted::Refused(Refusal::AnswerNotFinite)
-}
-
 // 9 for an index outside; else the pixel, or 11.
 fn looked_up(table: &[f32], width: usize, height: usize, i: f64, j: f64) -> Distorted
     requires { ⌜ Whole (length (now table)) width height × Number i × Number j ⌝ }
@@ -130,7 +120,7 @@ fn looked_up(table: &[f32], width: usize, height: usize, i: f64, j: f64) -> Dist
     if outside(j, height) {
         return Distorted::Refused(Refusal::OutsideTable);
     }
-    finite_pixel(pixel_at(table, width, spot_of(i, width), spot_of(j, height)))
+    lens::finite_pixel(pixel_at(table, width, spot_of(i, width), spot_of(j, height)))
 }
 
 // 8 or 11 for the increments, which are worked out once; then by the indices.

@@ -17,7 +17,7 @@ use denote.Ref.{now}
 use denote.Triple.Clauses.{AtExit}
 use denote.Triple.Entry.{Args, Res}
 use borrow.Author.Tests.{eq-eqb, ne-eqb}
-use Rattle.exact.specs.Determined.{Determined}
+use Rattle.exact.specs.Determined.{DeterminedWith}
 use Rattle.lens.specs.Constants.{zeros}
 use Rattle.lens.specs.Finite.{all-finite}
 use Rattle.lens.specs.Refusal.{number}
@@ -49,13 +49,9 @@ pub post-is :
     → observe-all-contract.clauses 𝓤 H A mem run κ a .ensures tt r s ≡ fact 𝓤 (Post κ a r s)
 post-is 𝓤 H A mem run κ a r s = refl
 
--- Any two numbers that the contract permits to one call are equal.
-pub observe-all-determined : Determined Post
-observe-all-determined κ a s s' r r' p q = ap (λ (l : Listed). l .number) (p ∙ sym q)
-
--- And so are any two lists that it permits at the return.
-pub observe-all-list-determined : (κ : Lfts 1) (a : Args observe-all-contract.signature κ) (s s' : AtExit observe-all-contract.ended κ) (r r' : Res observe-all-contract.signature κ) → Post κ a r s → Post κ a r' s' → now (s .1 .0) ≡ now (s' .1 .0)
-observe-all-list-determined κ a s s' r r' p q = ap (λ (l : Listed). l .list) (p ∙ sym q)
+-- Any two numbers that the contract permits to one call are equal, and so are any two lists that it permits at the return.
+pub observe-all-determined : DeterminedWith Post (λ κ s. now (s .1 .0))
+observe-all-determined κ a s s' r r' p q = (ap (λ (l : Listed). l .number) (p ∙ sym q), ap (λ (l : Listed). l .list) (p ∙ sym q))
 
 -- ---- the list
 

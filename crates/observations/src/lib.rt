@@ -1,7 +1,5 @@
 // A list of observations, undistorted by one camera. The camera is judged once, and then each record by itself: a refused record does not stop the next.
 ghost use mathlib.Core.Path.{_≡_};
-ghost use mathlib.Core.Bool.{_&&_};
-ghost use lib.Ieee.Scale.{finite};
 ghost use Rattle.lens.specs.Undistorted.{told};
 ghost use Rattle.observations.specs.Observations.{refusal-of, rounds, beside, found, seen, listed, observe-all};
 use camera::Camera;
@@ -41,22 +39,11 @@ fn rounds(number: u8, length: usize) -> usize
     if number == 0 { length } else { 0 }
 }
 
-// Whether both numbers of a pixel are finite.
-fn finite_pixel(pixel: Pixel) -> bool
-    ensures { λ r. ⌜ r ≡ (finite (pixel .0) && finite (pixel .1)) ⌝ }
-{
-    if exact::is_finite(pixel.0) {
-        exact::is_finite(pixel.1)
-    } else {
-        false
-    }
-}
-
 // The point of a pixel, for a camera that is not refused: its parameters are not judged again.
 fn found(camera: Camera, pixel: Pixel) -> Undistorted
     ensures { λ r. ⌜ told r ≡ told (found camera pixel) ⌝ }
 {
-    if finite_pixel(pixel) {
+    if lens::both_finite(pixel.0, pixel.1) {
         camera::undistort_judged(camera, pixel)
     } else {
         Undistorted::Refused(Refusal::NotFinite)

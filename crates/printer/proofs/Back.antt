@@ -26,16 +26,16 @@ use Rattle.narrow.proofs.Laws.{narrow-fits}
 use Rattle.camera.specs.Camera.{undistort-judged, distort-judged}
 use Rattle.camera.specs.declared.Camera.{Camera}
 use Rattle.listing.proofs.Grid.{AllFit}
-use Rattle.distortion_table.specs.Border.{samples, all-units, border-at}
-use Rattle.distortion_table.specs.Cells.{cell-point, cell-of, cell}
-use Rattle.distortion_table.specs.Edges.{mid, doubled}
-use Rattle.distortion_table.specs.Sweep.{sampled, closed, after-sample, swept}
-use Rattle.distortion_table.specs.Table.{State, beside, put-in, cell-unit, next}
-use Rattle.distortion_table.specs.Turns.{Next, over, refuses, does, turn}
-use Rattle.distortion_table.specs.declared.Cell.{Cell}
-use Rattle.distortion_table.specs.declared.Cell.the-variants as cells
-use Rattle.distortion_table.specs.declared.Progress.{Progress}
-use Rattle.distortion_table.proofs.Turns.{keeps}
+use Rattle.border.specs.Border.{samples, all-units, border-at}
+use Rattle.cell.specs.Cell.{cell-point, cell-of, cell}
+use Rattle.border.specs.Edges.{mid, doubled}
+use Rattle.units.specs.Sweep.{sampled, closed, after-sample, swept}
+use Rattle.units.specs.Table.{State, beside, put-in, cell-unit, next}
+use Rattle.turns.specs.Turns.{Next, over, refuses, does, turn}
+use Rattle.cell.specs.declared.Cell.{Cell}
+use Rattle.cell.specs.declared.Cell.the-variants as cells
+use Rattle.job.specs.declared.Progress.{Progress}
+use Rattle.turns.proofs.Laws.{keeps}
 
 abbrev FourFit : Region → Type 0
 FourFit r = T (fits binary64 (r .left)) × T (fits binary64 (r .top)) × T (fits binary64 (r .right)) × T (fits binary64 (r .bottom))

@@ -2,8 +2,8 @@
 use mathlib.Core.Path.{_≡_, refl, sym, ap, _∙_, subst}
 use mathlib.Core.Bool.{Bool, true, false, cond}
 use mathlib.Core.List.{List, [], _∷_, _++_}
-use Prim.Native.Nat.{ℕ, _+_, _*_, _≤_, _<_}
-use native.Mathlib.Nat.{mul-le-mul-right}
+use Prim.Native.Nat.{ℕ, _+_, _*_, _≤_, _<_, min}
+use native.Mathlib.Nat.{mul-le-mul-right, min-le-right}
 use native.Mathlib.Omega.{arith}
 use borrow.Author.Tests.{ltb-false}
 use lib.Dec.{ltb}
@@ -22,16 +22,17 @@ use Rattle.camera_file.specs.Asked.{parsed}
 use Rattle.camera_file.specs.declared.Parsed.{Parsed}
 use Rattle.camera_file.specs.declared.Parsed.the-variants as file
 use Rattle.listing.specs.Listing.{table-line, region-line, refused-line, cell-lines, listing-lines, joined}
-use Rattle.distortion_table.specs.Border.{samples}
-use Rattle.distortion_table.specs.Job.{Answer, answer, fresh, whole-table, enough}
-use Rattle.distortion_table.specs.Table.{State, next}
-use Rattle.distortion_table.specs.Turns.{Said, finished, refused, running, turn, least}
-use Rattle.distortion_table.specs.declared.Job.{Job}
-use Rattle.distortion_table.specs.declared.Started.{Started}
-use Rattle.distortion_table.specs.declared.Started.the-variants as begun
-use Rattle.distortion_table.proofs.Calls.{Takes, start, start-good, fresh-takes, answer-is}
-use Rattle.distortion_table.proofs.Reaching.{Good, turn-keeps}
-use Rattle.distortion_table.proofs.Smaller.{least-most}
+use Rattle.border.specs.Border.{samples}
+use Rattle.distortion_table.specs.Answer.{Answer, answer, whole-table, enough}
+use Rattle.job.specs.Job.{fresh}
+use Rattle.units.specs.Table.{State, next}
+use Rattle.turns.specs.Turns.{Said, finished, refused, running, turn}
+use Rattle.job.specs.declared.Job.{Job}
+use Rattle.job.specs.declared.Started.{Started}
+use Rattle.job.specs.declared.Started.the-variants as begun
+use Rattle.distortion_table.specs.Calls.{start}
+use Rattle.distortion_table.proofs.Calls.{Takes, start-good, fresh-takes, answer-is}
+use Rattle.units.proofs.Reaching.{Good, turn-keeps}
 use Rattle.printer.specs.Printed.{refusal-lines, shown-as, shown, most-cells, blank, sized-lines, started, table-lines, file-lines, printed-lines, printed, most-printed}
 use Rattle.printer.proofs.Numbers.{Told, table-told}
 use Rattle.printer.proofs.Short.{refused-short, table-short, region-long, cells-short}
@@ -90,14 +91,14 @@ module _ (camera : Camera) (width height : ℕ) (s : Sized width height) where
       let long = blank-long (width * height) h in
       let takes = fresh-takes camera width height job e .0 in
       let good = start-good camera width height cells long in
-      let s' = start camera width height cells in
+      let s' = start cells in
       let after = turn-keeps camera width height enough s' good in
       let t = turn (next camera width height) enough s' in
       subst (λ (a : Answer). Short (shown a)) (sym (answer-is camera width height takes enough s' good))
       (shown-short (answer camera width height t) refl refl (few _ (t .state .at .done) (after .record-of .updates)) (omega (arith, after .long)) (table-told camera width height enough s'))
     where
-      few : (updates done : ℕ) → updates ≤ limit camera * least done (samples width height) → updates < 10000000
-      few updates done h = omega (arith, h, mul-le-mul-right (least done (samples width height)) (limit-most camera), least-most done (samples width height), s .not-wider, s .not-higher)
+      few : (updates done : ℕ) → updates ≤ limit camera * min done (samples width height) → updates < 10000000
+      few updates done h = omega (arith, h, mul-le-mul-right (min done (samples width height)) (limit-most camera), min-le-right done (samples width height), s .not-wider, s .not-higher)
 
   pub sized-short : (job : Job) → fresh camera width height ≡ begun.With job → Short (sized-lines camera width height)
   unfolding sized-lines

@@ -21,14 +21,16 @@ use Rattle.listing.specs.Listing.{refused-line, listing, joined}
 use Rattle.listing.specs.Placed.{Written}
 use Rattle.listing.specs.Read.{Listed, read-listing}
 use Rattle.listing.proofs.Laws.{listing-read}
-use Rattle.distortion_table.specs.Job.{Answer, answer, fresh, whole-table, enough}
-use Rattle.distortion_table.specs.Table.{State, next}
-use Rattle.distortion_table.specs.Turns.{Said, finished, refused, Turn, turn}
-use Rattle.distortion_table.specs.declared.Job.{Job}
-use Rattle.distortion_table.specs.declared.Started.{Started}
-use Rattle.distortion_table.specs.declared.Started.the-variants as begun
-use Rattle.distortion_table.proofs.Calls.{Takes, start, start-good, fresh-takes, answer-is}
-use Rattle.distortion_table.proofs.Reaching.{Good, turn-keeps}
+use Rattle.distortion_table.specs.Answer.{Answer, answer, whole-table, enough}
+use Rattle.job.specs.Job.{fresh}
+use Rattle.units.specs.Table.{State, next}
+use Rattle.turns.specs.Turns.{Said, finished, refused, Turn, turn}
+use Rattle.job.specs.declared.Job.{Job}
+use Rattle.job.specs.declared.Started.{Started}
+use Rattle.job.specs.declared.Started.the-variants as begun
+use Rattle.distortion_table.specs.Calls.{start}
+use Rattle.distortion_table.proofs.Calls.{Takes, start-good, fresh-takes, answer-is}
+use Rattle.units.proofs.Reaching.{Good, turn-keeps}
 use Rattle.printer.specs.Printed.{refusal-lines, shown-as, most-cells, blank, sized-lines, started, table-lines, file-lines, printed-lines, printed, most-printed}
 use Rattle.printer.proofs.Back.{Fit, blank-fit, turn-fits}
 use Rattle.printer.proofs.Fits.{blank-long, printed-short}
@@ -51,7 +53,7 @@ module _ (input : List ℕ) (camera : Camera) (width height : ℕ) (asks : parse
   built = whole-table camera width height (blank (width * height))
 
   abbrev first-state : State
-  first-state = start camera width height (blank (width * height))
+  first-state = start (blank (width * height))
 
   takes : Takes camera width height
   takes = fresh-takes camera width height job begin .0

@@ -15,15 +15,15 @@ use Rattle.lens.proofs.Laws.{number-within}
 use Rattle.region.specs.Region.{increments, wrong}
 use Rattle.camera.specs.Camera.{undistort-judged}
 use Rattle.camera.specs.declared.Camera.{Camera}
-use Rattle.distortion_table.specs.Border.{samples, all-units, border-at}
-use Rattle.distortion_table.specs.Cells.{cell}
-use Rattle.distortion_table.specs.Edges.{doubled}
-use Rattle.distortion_table.specs.Sweep.{sampled, closed, after-sample, swept}
-use Rattle.distortion_table.specs.Table.{State, beside, put-in, cell-unit, next}
-use Rattle.distortion_table.specs.Turns.{Next, over, refuses, does, Said, finished, refused, running, unspent, spent, Turn, turn}
-use Rattle.distortion_table.specs.declared.Cell.{Cell}
-use Rattle.distortion_table.specs.declared.Cell.the-variants as cells
-use Rattle.distortion_table.specs.declared.Progress.{Progress}
+use Rattle.border.specs.Border.{samples, all-units, border-at}
+use Rattle.cell.specs.Cell.{cell}
+use Rattle.border.specs.Edges.{doubled}
+use Rattle.units.specs.Sweep.{sampled, closed, after-sample, swept}
+use Rattle.units.specs.Table.{State, beside, put-in, cell-unit, next}
+use Rattle.turns.specs.Turns.{Next, over, refuses, does, Said, finished, refused, running, ended, spent, Turn, turn}
+use Rattle.cell.specs.declared.Cell.{Cell}
+use Rattle.cell.specs.declared.Cell.the-variants as cells
+use Rattle.job.specs.declared.Progress.{Progress}
 
 -- the number that a unit refuses with, and that a turn says; 0 for none
 abbrev of-unit : {S : Type 0} → Next S → ℕ
@@ -43,7 +43,7 @@ abbrev pub Told : Said → Type 0
 Told said = said-number said ≤ 14
 
 module _ {S : Type 0} (step : S → Next S) (known : (s : S) → Known (step s)) where
-  at-end : (n : Next S) → Told (unspent n)
+  at-end : (n : Next S) → Told (ended n false)
   at-end over = omega arith
   at-end (refuses r) = omega arith
   at-end (does s) = omega arith

@@ -9,13 +9,11 @@ use borrow.Author.Tests.{lt-ltb, ltb-true, eqb-false}
 use lib.Dec.{eqb, ltb}
 use lib.Ieee.{Float}
 use lib.ListN.{length, length-append}
-use Rattle.io.specs.Digits.{digits}
 use Rattle.region.specs.declared.Region.{Region}
-use Rattle.listing.specs.Listing.{places, decimal, hex, line, table-line, region-line, cell-line, refused-line, across, down, cell-lines, joined}
-
-digits-length : (base k n : ℕ) → length (digits base k n) ≡ k
-digits-length base zero n = refl
-digits-length base (suc k) n = simp (length-append, digits-length base k (n / base)) (omega arith)
+use Rattle.decimal.specs.Decimal.{places, decimal}
+use Rattle.decimal.proofs.Digits.{length-digits}
+use Rattle.listing.specs.Listing.{line, table-line, region-line, cell-line, refused-line, across, down, cell-lines, joined}
+use Rattle.listing.proofs.Numbers.{hex-length}
 
 -- a number below ten to the k + 1 has no more than k + 1 digits
 places-most : (k most n : ℕ) → n < 10 ^ suc k → places most n ≤ suc k
@@ -32,11 +30,7 @@ places-most (suc k) (suc most) n h =
 
 decimal-short : (k n : ℕ) → n < 10 ^ suc k → length (decimal n) ≤ suc k
 unfolding decimal
-decimal-short k n h = omega (arith, digits-length 10 (places n n) n, places-most k n n h)
-
-hex-long : (k n : ℕ) → length (hex k n) ≡ k
-unfolding hex
-hex-long k n = digits-length 16 k n
+decimal-short k n h = omega (arith, length-digits 10 (places n n) n, places-most k n n h)
 
 -- ---- lines
 
@@ -58,11 +52,11 @@ table-short width height updates h i j = simp (field-more, field-last) (omega (a
 
 pub region-long : (r : Region) → length (region-line r) ≡ 75
 unfolding region-line
-region-long r = simp (field-more, field-last, hex-long) refl
+region-long r = simp (field-more, field-last, hex-length) refl
 
 cell-short : (u v : ℕ) (a b : Float) → u < 10 ^ 4 → v < 10 ^ 4 → length (cell-line u v a b) ≤ 33
 unfolding cell-line
-cell-short u v a b h i = simp (field-more, field-last, hex-long) (omega (arith, decimal-short 3 u h, decimal-short 3 v i))
+cell-short u v a b h i = simp (field-more, field-last, hex-length) (omega (arith, decimal-short 3 u h, decimal-short 3 v i))
 
 -- ---- cells
 

@@ -11,10 +11,11 @@ use Rattle.camera.specs.declared.Camera.{Camera}
 use Rattle.camera_file.specs.Asked.{parsed}
 use Rattle.camera_file.specs.declared.Parsed.{Parsed}
 use Rattle.camera_file.specs.declared.Parsed.the-variants as file
-use Rattle.distortion_table.specs.Job.{Answer, fresh, whole-table}
-use Rattle.distortion_table.specs.Turns.{Said, finished, refused, running}
-use Rattle.distortion_table.specs.declared.Started.{Started}
-use Rattle.distortion_table.specs.declared.Started.the-variants as begun
+use Rattle.distortion_table.specs.Answer.{Answer, whole-table}
+use Rattle.job.specs.Job.{fresh}
+use Rattle.turns.specs.Turns.{Said, finished, refused, running}
+use Rattle.job.specs.declared.Started.{Started}
+use Rattle.job.specs.declared.Started.the-variants as begun
 use Rattle.listing.specs.Listing.{refused-line, listing-lines, joined}
 use Rattle.listing.specs.Placed.{Written, written, with-text}
 

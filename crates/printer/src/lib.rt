@@ -6,15 +6,15 @@ ghost use lib.ListN.{length, take};
 ghost use Rattle.lens.specs.Refusal.{number};
 ghost use Rattle.region.specs.Size.{Sized};
 ghost use Rattle.io.specs.Counts.{Counts};
-ghost use Rattle.distortion_table.specs.Job.{told-turned, whole-table};
+ghost use Rattle.distortion_table.specs.Answer.{told-turned, whole-table};
 ghost use Rattle.listing.specs.Listing.{refused-line};
 ghost use Rattle.listing.specs.Placed.{written, placed-all};
 ghost use Rattle.printer.specs.Printed.{shown, sized-lines, table-lines, printed-lines, print};
 use camera::Camera;
 use camera_file::Parsed;
-use distortion_table::Started;
 use distortion_table::Status;
 use distortion_table::Turned;
+use job::Started;
 use lens::Refusal;
 
 // The most cells of a table that is printed, and the numbers these hold.
@@ -96,7 +96,7 @@ fn print_sized(out: &mut [u8], camera: Camera, width: usize, height: usize) -> u
 fn print_table(out: &mut [u8], camera: Camera, width: usize, height: usize) -> usize
     ensures { λ r. ⌜ written (now (out .exit)) r ≡ placed-all (written (now (out .entry)) 0) (table-lines camera width height) ⌝ }
 {
-    match distortion_table::fresh(camera, width, height) {
+    match job::fresh(camera, width, height) {
         Started::Refused(refusal) => refuse(out, refusal),
         Started::With(_) => print_sized(out, camera, width, height),
     }

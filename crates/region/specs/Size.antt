@@ -5,15 +5,25 @@ use lib.Dec.{leb}
 use lib.IntN.{pos}
 use lib.Ieee.{Float, binary64, ofInt}
 
--- 2 to 4,096 both ways: as a test, and as what it says
+-- a width or a height: 2 to 4,096
+abbrev pub least : ℕ
+least = 2
+
+abbrev pub most : ℕ
+most = 4096
+
+abbrev pub within : ℕ → Bool
+within n = leb least n && leb n most
+
+-- both ways: as a test, and as what it says
 abbrev pub sized : ℕ → ℕ → Bool
-sized width height = (leb 2 width && leb width 4096) && (leb 2 height && leb height 4096)
+sized width height = within width && within height
 
 pub record Sized (width height : ℕ) : Type 0 where
-  pub wide : 2 ≤ width
-  pub high : 2 ≤ height
-  pub not-wider : width ≤ 4096
-  pub not-higher : height ≤ 4096
+  pub wide : least ≤ width
+  pub high : least ≤ height
+  pub not-wider : width ≤ most
+  pub not-higher : height ≤ most
 
 -- a whole number as an f64
 unfoldable pub float : ℕ → Float

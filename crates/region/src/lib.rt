@@ -1,12 +1,10 @@
 // The box that a table covers on the z=1 plane, its size in cells and how far apart their points lie: what building a table and reading one share.
 ghost use mathlib.Core.Path.{_≡_};
-ghost use mathlib.Core.Bool.{_&&_};
 ghost use Prim.Native.Nat.{_-_};
-ghost use lib.Dec.{leb};
 ghost use Rattle.lens.specs.Finite.{all-finite};
 ghost use Rattle.lens.specs.Judgement.{verdict};
 ghost use Rattle.region.specs.Region.{four, increments, flat, wrong};
-ghost use Rattle.region.specs.Size.{float, sized};
+ghost use Rattle.region.specs.Size.{float, within, sized};
 use lens::Judgement;
 use lens::Refusal;
 
@@ -35,7 +33,7 @@ pub fn float(n: usize) -> f64
 
 // Whether a width or a height is taken.
 fn within(n: usize) -> bool
-    ensures { λ r. ⌜ r ≡ (leb 2 n && leb n 4096) ⌝ }
+    ensures { λ r. ⌜ r ≡ within n ⌝ }
 {
     LEAST <= n && n <= MOST
 }

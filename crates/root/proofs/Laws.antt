@@ -1,26 +1,33 @@
 -- What a customer may hold of `root`, stated over its definition. A unit is the smallest f64, 2 ^ -1074. Assumes nothing.
 use mathlib.Core.Path.{_≡_, refl, sym, ap, _∙_, subst}
 use mathlib.Core.Logic.{_⊎_, inl, inr}
-use mathlib.Core.Bool.{Bool, true, false, true≢false}
-use Prim.Native.Nat.{ℕ, suc, _+_, _-_, _*_, _/_, _^_, _≤_, _<_, zero-le}
-use native.Mathlib.Nat.{le-trans, le-of-eq, lt-of-lt-of-le, lt-irrefl, not-le-of-lt, lt-of-not-le, eq-or-lt-of-le, mul-le-mul-right, mul-lt-mul-of-pos-right, mul-assoc, mul-right-comm, mul-pos, one-mul, eq-zero-or-pos, zero-mul, lt-of-mul-lt-mul-right, le-antisymm, le-of-suc-le-suc, lt-of-le-of-lt, le-refl, le-of-lt, mul-le-mul}
+use mathlib.Core.Bool.{Bool, true, false, _&&_, true≢false}
+use Prim.Native.Nat.{ℕ, zero, suc, _+_, _-_, _*_, _/_, _^_, _≤_, _<_, zero-le}
+use native.Mathlib.Nat.{le-trans, le-of-eq, lt-of-lt-of-le, lt-irrefl, not-le-of-lt, lt-of-not-le, eq-or-lt-of-le, mul-le-mul-right, mul-lt-mul-of-pos-right, mul-assoc, mul-right-comm, mul-pos, one-mul, eq-zero-or-pos, zero-mul, lt-of-mul-lt-mul-right, le-antisymm, le-of-suc-le-suc, lt-of-le-of-lt, le-refl, le-of-lt, mul-le-mul, zero-lt-suc}
 use native.Mathlib.Omega.{arith}
-use lib.Dec.{T, lit≤}
+use lib.Dec.{T, lt→ltb, lit≤}
 use lib.IntN.{ℤ}
 use lib.Pow.{pow-add, pow-pos, pow-mono, pow-lt, shl-lt}
-use lib.Ieee.{Float, nan, inf, fin, binary64, down, size, round, ofBits, fits}
+use lib.Ieee.{Float, nan, inf, fin, binary64, down, size, round, le, ofBits, fits}
 use lib.Ieee.Digits.{size-le}
 use lib.Ieee.Fits.{round-fits}
 use lib.Ieee.Exact.{HasValue, round-exact}
+use lib.Ieee.Positive.{value-pos}
 use Rattle.exact.specs.F64.{f64}
 use Rattle.exact.proofs.Pattern.{in-units, in-range, same-units, rescaled, unique}
+use Rattle.root.specs.Limit.{Normal, units}
 use Rattle.root.specs.Root.{largest, reaches, last, nearestRoot, root}
 use lib.Ieee.Bits.{ofBits-fits}
+use Rattle.root.proofs.AtMost.{normal-value, units-pos, nan-first, inf-first, zero-first, from-zero, from-below, from-above, decided}
 use Rattle.root.proofs.Step.{binomial}
 use Rattle.root.proofs.Whole.{root-of}
 use Rattle.root.proofs.Middle.{nearest, no-nearer, largest-up-to}
 use Rattle.exact.specs.Determined.{Determined}
 use Rattle.root.proofs.root.Reads as root-contract
+
+-- ---- from units to 2 ^ -2148
+finer : (x : Float) (u : ℕ) → HasValue x false u (2 ^ 1074) → HasValue x false (u * 2 ^ 1074) (2 ^ 2148)
+finer x u v = rescaled x false u (2 ^ 1074) (u * 2 ^ 1074) (2 ^ 2148) (pow-pos 1074) (ap (λ (z : ℕ). u * z) (pow-add 2 1074 1074) ∙ sym (mul-assoc u (2 ^ 1074) (2 ^ 1074))) v
 
 -- ---- a finite f64 above zero, counted in 2 ^ -2148: at least 2 ^ 1074, and below 2 ^ 3172
 at-least : (x : Float) (n : ℕ) → T (fits binary64 x) → 0 < n → HasValue x false n (2 ^ 2148) → 2 ^ 105 ≤ n
@@ -29,13 +36,10 @@ at-least (inf t) n f p h = absurd h
 at-least (fin t m e) n f p h =
     let I = in-units binary64 t m e f in
     let d = I .digits * 2 ^ I .zeros in
-    let v : HasValue (fin t m e) false (d * 2 ^ 1074) (2 ^ 2148) = rescaled (fin t m e) false d (2 ^ 1074) (d * 2 ^ 1074) (2 ^ 2148) (pow-pos 1074) (grow d) (subst (λ (s : Bool). HasValue (fin t m e) s d (2 ^ 1074)) (h .0) (I .value)) in
+    let v : HasValue (fin t m e) false (d * 2 ^ 1074) (2 ^ 2148) = finer (fin t m e) d (subst (λ (s : Bool). HasValue (fin t m e) s d (2 ^ 1074)) (h .0) (I .value)) in
     let same : n ≡ d * 2 ^ 1074 = same-units (fin t m e) false n (d * 2 ^ 1074) (2 ^ 2148) (pow-pos 2148) h v in
     le-trans (le-trans (pow-mono {i = 105} {j = 1074} (lit≤ tt)) (le-trans (le-of-eq (sym (one-mul (2 ^ 1074)))) (mul-le-mul-right (2 ^ 1074) (positive d (subst (λ (z : ℕ). 0 < z) same p))))) (le-of-eq (sym same))
   where
-    grow : (d : ℕ) → d * 2 ^ 2148 ≡ d * 2 ^ 1074 * 2 ^ 1074
-    grow d = ap (λ (z : ℕ). d * z) (pow-add 2 1074 1074) ∙ sym (mul-assoc d (2 ^ 1074) (2 ^ 1074))
-
     positive : (d : ℕ) → 0 < d * 2 ^ 1074 → 1 ≤ d
     positive d h = elim (eq-zero-or-pos d) [ inl z ↦ absurd (lt-irrefl 0 (subst (λ (y : ℕ). 0 < y) (ap (λ (y : ℕ). y * 2 ^ 1074) z ∙ zero-mul (2 ^ 1074)) h)) | inr q ↦ q ]
 
@@ -131,6 +135,44 @@ root-exact x y u f g p h w =
 pub root-special : (root nan ≡ nan) × (root (inf false) ≡ inf false) × (root (inf true) ≡ nan) × ((s : Bool) (e : ℤ) → root (fin s 0 e) ≡ fin s 0 e) × ((m : ℕ) (e : ℤ) → root (fin true (suc m) e) ≡ nan)
 unfolding root
 root-special = (refl, refl, refl, λ s e. refl, λ m e. refl)
+
+-- To compare a root with a limit is to compare x itself with one f64. Let e be the limit's pattern and b that f64's. A root rounds past the limit where it is past the middle between the
+-- limit and the next f64, which is half the sum of their units. If the square of the middle lies between b and the next f64, then for every x, NaN, infinities, zeros and negatives
+-- included: the root of x is at most the limit exactly if x is at least zero and at most b.
+pub root-at-most : (e b : ℕ) → Normal e → Normal b
+    → 4 * (units b * 2 ^ 1074) < (units e + units (suc e)) * (units e + units (suc e))
+    → (units e + units (suc e)) * (units e + units (suc e)) < 4 * (units (suc b) * 2 ^ 1074)
+    → (x : Float) → T (fits binary64 x) → le (root x) (f64 e) ≡ (le (f64 0) x && le x (f64 b))
+root-at-most e b E B lo hi x f = go x f (normal-value e E) (normal-value b B)
+  where
+    -- no root: x is not at least zero
+    neither : (x : Float) → root x ≡ nan → le (f64 0) x ≡ false → le (root x) (f64 e) ≡ (le (f64 0) x && le x (f64 b))
+    neither x n h = ap (λ (y : Float). le y (f64 e)) n ∙ nan-first (f64 e) ∙ sym (ap (λ (t : Bool). t && le x (f64 b)) h)
+
+    from : (x : Float) → le (f64 0) x ≡ true → le (root x) (f64 e) ≡ le x (f64 b) → le (root x) (f64 e) ≡ (le (f64 0) x && le x (f64 b))
+    from x h p = p ∙ sym (ap (λ (t : Bool). t && le x (f64 b)) h)
+
+    go : (x : Float) → T (fits binary64 x) → HasValue (f64 e) false (units e) (2 ^ 1074) → HasValue (f64 b) false (units b) (2 ^ 1074)
+        → le (root x) (f64 e) ≡ (le (f64 0) x && le x (f64 b))
+    go nan f v w = neither nan (root-special .0) (unfold le ofBits in refl)
+    go (inf true) f v w = neither (inf true) (root-special .2) (unfold le ofBits in refl)
+    go (inf false) f v w =
+        from (inf false) (unfold le ofBits in refl)
+        (ap (λ (y : Float). le y (f64 e)) (root-special .1) ∙ inf-first (f64 e) (units e) (2 ^ 1074) v ∙ sym (inf-first (f64 b) (units b) (2 ^ 1074) w))
+    go (fin s zero d) f v w =
+        from (fin s zero d) (from-zero s d)
+        (ap (λ (y : Float). le y (f64 e)) (root-special .3 s d) ∙ zero-first s d (f64 e) (units e) (2 ^ 1074) (units-pos e) v ∙ sym (zero-first s d (f64 b) (units b) (2 ^ 1074) (units-pos b) w))
+    go (fin true (suc m) d) f v w = neither (fin true (suc m) d) (root-special .4 m d) (from-below m d)
+    go (fin false (suc m) d) f v w =
+        let x = fin false (suc m) d in
+        let I = in-units binary64 false (suc m) d f in
+        let u = I .digits * 2 ^ I .zeros in
+        let n = u * 2 ^ 1074 in
+        let h : HasValue x false n (2 ^ 2148) = finer x u (I .value) in
+        let p : 0 < n = value-pos x n (2 ^ 2148) (lt→ltb 0 (suc m) (zero-lt-suc m)) (pow-pos 2148) h in
+        let r = root-units x n f p h in
+        from x (from-above m d)
+        (decided e b u (r .0) x (root x) E B lo hi f (root-held x n p h) (I .value) (r .1) (λ y w g v. root-nearest x y n (r .0) w f g p h (r .1) v))
 
 -- Any two answers to one call that the contract of `root` permits are equal.
 pub root-determined : Determined root-contract.Post

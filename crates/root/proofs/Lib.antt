@@ -4,4 +4,5 @@ pub mod Nearest
 pub mod Whole
 pub mod Signs
 pub mod Middle
+pub mod AtMost
 pub mod Laws

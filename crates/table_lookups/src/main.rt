@@ -15,7 +15,6 @@ use libc::STDIN_FILENO;
 use libc::STDOUT_FILENO;
 use region::Region;
 ghost use mathlib.Core.Path.{_≡_};
-ghost use Prim.Native.Nat.{_+_, _<_};
 ghost use lib.ListN.{length};
 
 // The fields of a line, and its bytes: a field has 16 digits, and a tab or the line's end after them.
@@ -369,29 +368,12 @@ struct Question {
     numbers: [u64; FIELDS],
 }
 
-// The number whose digits start at index `at`, if the byte `end` stands after them.
-fn field(line: &[u8], at: usize, end: u8) -> Bits
-    requires { ⌜ at + 16 < length (now line) ⌝ }
-{
-    let stop = at + 16;
-    if line[stop] == end {
-        hex::spelled(&line[at..stop])
-    } else {
-        Bits::None
-    }
-}
-
-// What stands after field i.
-fn end_of(i: usize) -> u8 {
-    if i < FIELDS - 1 { b'\t' } else { b'\n' }
-}
-
 // What a line asks.
 fn asked(line: &[u8; LINE]) -> Question {
     let mut numbers: [u64; FIELDS] = [0; FIELDS];
     let mut i = 0;
     while i < FIELDS {
-        let Bits::Of(n) = field(line, i * 17, end_of(i)) else {
+        let Bits::Of(n) = hex::field(line, i) else {
             return Question {
                 good: false,
                 numbers,

@@ -4,12 +4,12 @@
 use affine::AffineParams;
 use brown_conrady::BrownConradyParams;
 use camera::Camera;
-use distortion_table::Job;
-use distortion_table::Progress;
-use distortion_table::Started;
 use distortion_table::Status;
 use distortion_table::Turned;
 use enhanced_unified::EnhancedUnifiedParams;
+use job::Job;
+use job::Progress;
+use job::Started;
 use kannala_brandt::KannalaBrandtParams;
 use lens::Refusal;
 use libc::STDOUT_FILENO;
@@ -600,7 +600,7 @@ fn refuse_job(words: &[u8], camera: Camera, width: usize, height: usize, cells: 
     say(b"\n");
     say(words);
     say(b"\n");
-    match distortion_table::fresh(camera, width, height) {
+    match job::fresh(camera, width, height) {
         Started::Refused(refusal) => {
             say_refused(refusal);
             say(b"\n");
@@ -1109,7 +1109,7 @@ fn order_of_units() {
 
 fn start(words: &[u8], fx: f64, fy: f64, width: usize, height: usize) {
     say(words);
-    match distortion_table::fresh(affine_with(fx, fy), width, height) {
+    match job::fresh(affine_with(fx, fy), width, height) {
         Started::Refused(refusal) => {
             say_refused(refusal);
             say(b"\n");
@@ -1165,7 +1165,7 @@ fn fourth_part() {
 }
 
 fn main() {
-    match distortion_table::fresh(plain(), WIDTH, HEIGHT) {
+    match job::fresh(plain(), WIDTH, HEIGHT) {
         Started::Refused(refusal) => {
             say_refused(refusal);
         }

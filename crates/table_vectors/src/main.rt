@@ -12,11 +12,11 @@
 use affine::AffineParams;
 use brown_conrady::BrownConradyParams;
 use camera::Camera;
-use distortion_table::Job;
-use distortion_table::Started;
 use distortion_table::Status;
 use enhanced_unified::EnhancedUnifiedParams;
 use hex::Bits;
+use job::Job;
+use job::Started;
 use kannala_brandt::KannalaBrandtParams;
 use lens::Refusal;
 use libc::STDIN_FILENO;
@@ -59,29 +59,12 @@ struct Stepped {
     job: Job,
 }
 
-// The number whose digits start at index `at`, if the byte `end` stands after them.
-fn field(line: &[u8], at: usize, end: u8) -> Bits
-    requires { ⌜ at + 16 < length (now line) ⌝ }
-{
-    let stop = at + 16;
-    if line[stop] == end {
-        hex::spelled(&line[at..stop])
-    } else {
-        Bits::None
-    }
-}
-
-// What stands after field i.
-fn end_of(i: usize) -> u8 {
-    if i < FIELDS - 1 { b'\t' } else { b'\n' }
-}
-
 // What a line asks.
 fn asked(line: &[u8; LINE]) -> Question {
     let mut numbers: [u64; FIELDS] = [0; FIELDS];
     let mut i = 0;
     while i < FIELDS {
-        let Bits::Of(n) = field(line, i * 17, end_of(i)) else {
+        let Bits::Of(n) = hex::field(line, i) else {
             return Question {
                 good: false,
                 numbers,
@@ -90,8 +73,9 @@ fn asked(line: &[u8; LINE]) -> Question {
         numbers[i] = n;
         i += 1;
     }
+    let model = numbers[0];
     Question {
-        good: numbers[0] < 4,
+        good: model < 4,
         numbers,
     }
 }
@@ -367,7 +351,7 @@ fn answer_question(q: &[u64; FIELDS]) {
     let width = q[1] as usize;
     let height = q[2] as usize;
     let allowance = q[3] as usize;
-    match distortion_table::fresh(camera_asked(q), width, height) {
+    match job::fresh(camera_asked(q), width, height) {
         Started::Refused(refusal) => {
             say_refusal(refusal);
             say_end();

@@ -1,5 +1,7 @@
 -- `camera::distort_judged` meets its contract. Assumes nothing.
-use mathlib.Core.Path.{refl}
+use mathlib.Core.Path.{ap, _∙_}
+use Rattle.lens.specs.Distorted.{told-pixel, finite-pixel}
+use Rattle.lens.specs.declared.Pixel.{Pixel}
 use borrow.Author.Needs.{needs}
 use Rattle.camera.proofs.distort_judged.Statement.{statement}
 use Rattle.camera.proofs.distort_judged.Tie as tie
@@ -11,7 +13,7 @@ finite-pixel-requires : tie.Need-finite-pixel-requires
 finite-pixel-requires c κs = search needs
 
 returns : tie.Need-returns
-returns c = rw (c .finite-pixel .ensures, c .before .pixel-of .ensures) refl
+returns c = c .finite-pixel .ensures ∙ ap (λ (pixel : Pixel). told-pixel (finite-pixel pixel)) (c .before .pixel-of .ensures)
 
 pub distort-judged-spec : {M : Type 1} → statement M
 distort-judged-spec = tie.close (tie.spec pixel-of-requires finite-pixel-requires returns)

@@ -1,6 +1,6 @@
 -- `camera_file::asked` meets its contract. Assumes nothing.
 use denote.Ref.{now}
-use Rattle.camera_file.proofs.Params.{asked-unknown, asked-right, asked-wrong}
+use Rattle.camera_file.proofs.Models.{asked-unknown, asked-right, asked-wrong}
 use borrow.Author.Needs.{needs}
 use Rattle.camera_file.proofs.asked.Statement.{statement}
 use Rattle.camera_file.proofs.asked.Tie as tie

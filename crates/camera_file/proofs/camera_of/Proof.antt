@@ -3,8 +3,8 @@ use mathlib.Core.Path.{_≡_, sym, ap, _∙_}
 use mathlib.Core.List.{List}
 use Prim.Native.Nat.{ℕ}
 use denote.Ref.{now}
-use Rattle.camera_file.specs.Reading.{params-of}
-use Rattle.camera_file.specs.Asked.{count, camera-of}
+use Rattle.params_line.specs.Params.{params-of}
+use Rattle.camera_file.specs.Asked.{camera-of}
 use Rattle.camera_file.specs.declared.Model.{Model}
 use borrow.Author.Needs.{needs}
 use Rattle.camera_file.proofs.camera_of.Statement.{statement}
@@ -17,25 +17,25 @@ enum-told : tie.Need-enum-told
 enum-told c = search needs
 
 affine-of-requires : tie.Need-affine-of-requires
-affine-of-requires c κs = c .before .before .before .pre ∙ ap count (c .enum-told .given .1)
+affine-of-requires c κs = search needs
 
 enum-told-2 : tie.Need-enum-told-2
 enum-told-2 c = search needs
 
 enhanced-unified-of-requires : tie.Need-enhanced-unified-of-requires
-enhanced-unified-of-requires c κs = c .before .before .before .pre ∙ ap count (c .enum-told2 .given .1)
+enhanced-unified-of-requires c κs = search needs
 
 enum-told-3 : tie.Need-enum-told-3
 enum-told-3 c = search needs
 
 kannala-brandt-of-requires : tie.Need-kannala-brandt-of-requires
-kannala-brandt-of-requires c κs = c .before .before .before .pre ∙ ap count (c .enum-told3 .given .1)
+kannala-brandt-of-requires c κs = search needs
 
 enum-told-4 : tie.Need-enum-told-4
 enum-told-4 c = search needs
 
 brown-conrady-of-requires : tie.Need-brown-conrady-of-requires
-brown-conrady-of-requires c κs = c .before .before .before .pre ∙ ap count (c .enum-told4 .given .1)
+brown-conrady-of-requires c κs = search needs
 
 returns : tie.Need-returns
 returns c = c .affine-of .ensures ∙ other-model (now (c .before .before .before .before .args .line)) (c .before .enum-told .given .1)

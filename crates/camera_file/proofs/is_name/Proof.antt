@@ -4,11 +4,11 @@ use borrow.Author.Needs.{needs}
 use Rattle.camera_file.proofs.is_name.Statement.{statement}
 use Rattle.camera_file.proofs.is_name.Tie as tie
 
-all-of-requires : tie.Need-all-of-requires
-all-of-requires c κs = search needs
+all-letters-requires : tie.Need-all-letters-requires
+all-letters-requires c κs = search needs
 
 returns : tie.Need-returns
-returns c = name-letters _ _ (c .before .before .if1 .taken) (c .before .if2 .taken) (c .all-of .ensures)
+returns c = name-letters _ _ (c .before .before .if1 .taken) (c .before .if2 .taken) (c .all-letters .ensures)
 
 returns-2 : tie.Need-returns-2
 returns-2 c = name-long _ (c .before .if1 .taken) (c .if2 .left)
@@ -17,4 +17,4 @@ returns-3 : tie.Need-returns-3
 returns-3 c = name-empty _ (c .if1 .left)
 
 pub is-name-spec : {M : Type 1} → statement M
-is-name-spec = tie.close (tie.spec all-of-requires returns returns-2 returns-3)
+is-name-spec = tie.close (tie.spec all-letters-requires returns returns-2 returns-3)

@@ -1,7 +1,7 @@
 -- `camera_file::model_of` meets its contract: each name is compared in turn. Assumes nothing.
 use mathlib.Core.Path.{sym, _∙_}
-use Rattle.camera_file.proofs.Bytes.{matched}
-use Rattle.camera_file.proofs.Params.{is-affine, is-eucm, is-kb, is-bc, is-none}
+use Rattle.decimal.proofs.Bytes.{matched}
+use Rattle.camera_file.proofs.Models.{is-affine, is-eucm, is-kb, is-bc, is-none}
 use borrow.Author.Needs.{needs}
 use Rattle.camera_file.proofs.model_of.Statement.{statement}
 use Rattle.camera_file.proofs.model_of.Tie as tie

@@ -1,11 +1,12 @@
 -- `camera_file::parse` meets its contract: what the first field and the rest give is what the text asks for. Assumes nothing.
-use mathlib.Core.Path.{sym, ap, _∙_}
+use mathlib.Core.Path.{ap, _∙_}
 use native.Mathlib.Omega.{arith}
 use denote.Ref.{now}
 use lib.ListN.{length-take}
-use Rattle.camera_file.specs.Text.{tab}
+use Rattle.decimal.specs.Text.{tab}
 use Rattle.camera_file.specs.Asked.{told-file}
-use Rattle.camera_file.proofs.Bytes.{place-within, matched}
+use Rattle.decimal.proofs.Bytes.{matched}
+use Rattle.camera_file.proofs.Bytes.{place-within}
 use Rattle.camera_file.proofs.Stages.{not-file, too-long, other-word, whole}
 use borrow.Author.Needs.{needs}
 use Rattle.camera_file.proofs.parse.Statement.{statement}

@@ -1,33 +1,30 @@
 -- `distortion_table::cells` meets its contract. Assumes nothing.
 use mathlib.Core.Path.{sym, ap, _∙_, subst}
 use Prim.Native.Nat.{ℕ, _+_, _-_, _*_, _<_}
+use native.Mathlib.Nat.{min-le-right}
 use native.Mathlib.Omega.{arith}
-use Rattle.distortion_table.specs.Border.{samples}
-use Rattle.distortion_table.specs.Job.{Lent, Answer, answer, told-status, moved, reached}
-use Rattle.distortion_table.specs.Table.{State, next}
-use Rattle.region.specs.declared.Increments.{Increments}
-use Rattle.lens.specs.Refusal.{number}
-use Rattle.distortion_table.specs.Turns.{refused, turn}
-use Rattle.distortion_table.proofs.Phases.{at-border-spent, filled-most, cells-refused, cells-on}
-use Rattle.region.proofs.Size.{bounded}
-use Rattle.distortion_table.proofs.Smaller.{least-most}
 use borrow.Author.Needs.{needs}
+use Rattle.lens.specs.Refusal.{number}
+use Rattle.region.specs.declared.Increments.{Increments}
+use Rattle.region.proofs.Size.{bounded}
+use Rattle.turns.specs.Turns.{refused, Turn, turn}
+use Rattle.border.specs.Border.{samples}
+use Rattle.distortion_table.specs.Answer.{told-status}
+use Rattle.distortion_table.specs.Parts.{Lent, moved, reached}
+use Rattle.units.specs.Table.{State, next}
+use Rattle.distortion_table.proofs.Phases.{at-border-spent, filled-most, cells-refused, cells-on}
 use Rattle.distortion_table.proofs.cells.Statement.{statement}
 use Rattle.distortion_table.proofs.cells.Tie as tie
 
 samples-requires : tie.Need-samples-requires
 samples-requires c κs = search needs
 
-handed-requires : tie.Need-handed-requires
-handed-requires c κs = search needs
-
 returns : tie.Need-returns
 returns c =
-    let a = c .before .before .before .before .before .args in
+    let a = c .before .before .before .before .args in
     let s : State = record { at = a .at; cells = a .table .now } in
-    let under : a .at .done < samples (a .width) (a .height) = omega (arith, c .before .before .before .samples .ensures, c .before .if1 .taken) in
-    rw (c .handed .ensures)
-    (sym (ap (answer (a .camera) (a .width) (a .height)) (ap (λ (n : ℕ). turn (next (a .camera) (a .width) (a .height)) n s) (c .before .before .before .before .before .pre .spent under) ∙ at-border-spent (a .camera) (a .width) (a .height) s under)))
+    let under : a .at .done < samples (a .width) (a .height) = omega (arith, c .before .before .samples .ensures, c .if1 .taken) in
+    sym (ap (λ (n : ℕ). turn (next (a .camera) (a .width) (a .height)) n s) (c .before .before .before .before .pre .spent under) ∙ at-border-spent (a .camera) (a .width) (a .height) s under)
 
 mul-least : tie.Need-mul-least
 mul-least c = search needs
@@ -47,7 +44,7 @@ lend-requires c κs =
     let p = c .before .before .before .before .before .before .before .before .before .pre in
     let n = c .before .before .before .before .before .before .before .samples .ensures in
     let q = c .before .before .least .ensures in
-    let m = least-most (a .left) (a .width * a .height - (a .at .done - c .before .before .before .before .before .before .before .samples .result)) in
+    let m = min-le-right (a .left) (a .width * a .height - (a .at .done - c .before .before .before .before .before .before .before .samples .result)) in
     (omega (arith, p .size .wide), omega (arith, n, q, m, bounded (a .width) (a .height) (p .size), p .not-past), omega (arith, n, q, m, p .places, p .not-past))
 
 add-moved : tie.Need-add-moved
@@ -55,23 +52,20 @@ add-moved c =
     let a = c .before .before .before .before .before .before .before .before .before .before .before .before .before .args in
     let p = c .before .before .before .before .before .before .before .before .before .before .before .before .before .pre in
     let n = c .before .before .before .before .before .before .before .before .before .before .before .samples .ensures in
-    omega (arith, n, p .not-past, bounded (a .width) (a .height) (p .size), p .size .not-wider, p .size .not-higher, least-most (a .left) (a .width * a .height - (a .at .done - c .before .before .before .before .before .before .before .before .before .before .before .samples .result)), c .before .before .before .before .before .before .least .ensures, filled-most (a .camera) (a .width) (a .height) (a .at) (a .table .now) (a .left) (a .at .done - c .before .before .before .before .before .before .before .before .before .before .before .samples .result) (c .before .before .before .before .before .before .least .result) (omega (arith, n, c .before .before .before .before .before .before .before .before .before .if1 .left)) (c .before .before .before .before .before .before .least .ensures) (omega (arith, n, p .not-past)) (p .places) (c .before .before .before .lend .result) (c .before .before .before .lend .last .0) (subst (λ (by : Increments). Lent (a .camera) (a .at .region) by (a .width) (a .at .done - c .before .before .before .before .before .before .before .before .before .before .before .samples .result) (c .before .before .before .before .before .before .least .result) (a .table .now) (c .before .before .before .lend .result) (c .before .before .before .lend .last .0)) (c .before .before .before .before .before .increments-of .ensures) (c .before .before .before .lend .ensures)))
+    omega (arith, n, p .not-past, bounded (a .width) (a .height) (p .size), p .size .not-wider, p .size .not-higher, min-le-right (a .left) (a .width * a .height - (a .at .done - c .before .before .before .before .before .before .before .before .before .before .before .samples .result)), c .before .before .before .before .before .before .least .ensures, filled-most (a .camera) (a .width) (a .height) (a .at) (a .table .now) (a .left) (a .at .done - c .before .before .before .before .before .before .before .before .before .before .before .samples .result) (c .before .before .before .before .before .before .least .result) (omega (arith, n, c .before .before .before .before .before .before .before .before .before .if1 .left)) (c .before .before .before .before .before .before .least .ensures) (omega (arith, n, p .not-past)) (p .places) (c .before .before .before .lend .result) (c .before .before .before .lend .last .0) (subst (λ (by : Increments). Lent (a .camera) (a .at .region) by (a .width) (a .at .done - c .before .before .before .before .before .before .before .before .before .before .before .samples .result) (c .before .before .before .before .before .before .least .result) (a .table .now) (c .before .before .before .lend .result) (c .before .before .before .lend .last .0)) (c .before .before .before .before .before .increments-of .ensures) (c .before .before .before .lend .ensures)))
 
 add-moved-2 : tie.Need-add-moved-2
 add-moved-2 c =
     let a = c .before .before .before .before .before .before .before .before .before .before .before .before .before .args in
     let p = c .before .before .before .before .before .before .before .before .before .before .before .before .before .pre in
     let n = c .before .before .before .before .before .before .before .before .before .before .before .samples .ensures in
-    omega (arith, n, p .not-past, bounded (a .width) (a .height) (p .size), p .size .not-wider, p .size .not-higher, least-most (a .left) (a .width * a .height - (a .at .done - c .before .before .before .before .before .before .before .before .before .before .before .samples .result)), c .before .before .before .before .before .before .least .ensures, filled-most (a .camera) (a .width) (a .height) (a .at) (a .table .now) (a .left) (a .at .done - c .before .before .before .before .before .before .before .before .before .before .before .samples .result) (c .before .before .before .before .before .before .least .result) (omega (arith, n, c .before .before .before .before .before .before .before .before .before .if1 .left)) (c .before .before .before .before .before .before .least .ensures) (omega (arith, n, p .not-past)) (p .places) (c .before .before .before .lend .result) (c .before .before .before .lend .last .0) (subst (λ (by : Increments). Lent (a .camera) (a .at .region) by (a .width) (a .at .done - c .before .before .before .before .before .before .before .before .before .before .before .samples .result) (c .before .before .before .before .before .before .least .result) (a .table .now) (c .before .before .before .lend .result) (c .before .before .before .lend .last .0)) (c .before .before .before .before .before .increments-of .ensures) (c .before .before .before .lend .ensures)))
+    omega (arith, n, p .not-past, bounded (a .width) (a .height) (p .size), p .size .not-wider, p .size .not-higher, min-le-right (a .left) (a .width * a .height - (a .at .done - c .before .before .before .before .before .before .before .before .before .before .before .samples .result)), c .before .before .before .before .before .before .least .ensures, filled-most (a .camera) (a .width) (a .height) (a .at) (a .table .now) (a .left) (a .at .done - c .before .before .before .before .before .before .before .before .before .before .before .samples .result) (c .before .before .before .before .before .before .least .result) (omega (arith, n, c .before .before .before .before .before .before .before .before .before .if1 .left)) (c .before .before .before .before .before .before .least .ensures) (omega (arith, n, p .not-past)) (p .places) (c .before .before .before .lend .result) (c .before .before .before .lend .last .0) (subst (λ (by : Increments). Lent (a .camera) (a .at .region) by (a .width) (a .at .done - c .before .before .before .before .before .before .before .before .before .before .before .samples .result) (c .before .before .before .before .before .before .least .result) (a .table .now) (c .before .before .before .lend .result) (c .before .before .before .lend .last .0)) (c .before .before .before .before .before .increments-of .ensures) (c .before .before .before .lend .ensures)))
 
 moved-requires : tie.Need-moved-requires
 moved-requires c κs = search needs
 
 enum-known-refusal : tie.Need-enum-known-refusal
 enum-known-refusal c = search needs
-
-handed-requires-2 : tie.Need-handed-requires-2
-handed-requires-2 c κs = search needs
 
 enum-told : tie.Need-enum-told
 enum-told c = search needs
@@ -91,39 +85,35 @@ add-reached c =
 reached-requires : tie.Need-reached-requires
 reached-requires c κs = search needs
 
-handed-requires-3 : tie.Need-handed-requires-3
-handed-requires-3 c κs = search needs
-
 same-length : tie.Need-same-length
 same-length c = search needs
 
 returns-2 : tie.Need-returns-2
 returns-2 c =
-    let a = c .before .before .before .before .before .before .before .before .before .before .before .before .before .before .before .before .before .before .args in let p = c .before .before .before .before .before .before .before .before .before .before .before .before .before .before .before .before .before .before .pre in
-    let n = c .before .before .before .before .before .before .before .before .before .before .before .before .before .before .before .before .samples .ensures in let f = c .before .before .before .before .before .before .before .before .lend .result in
-    let mk : ℕ → Answer = λ k. record { said = refused (number (c .before .before .refusal .given .0 .0)); job = record { camera = a .camera; width = a .width; height = a .height; at = moved (a .at) (k + (a .at .done - c .before .before .before .before .before .before .before .before .before .before .before .before .before .before .before .before .samples .result + f .done)) }; cells = c .before .before .before .before .before .before .before .before .lend .last .0 } in
-    rw (c .handed2 .ensures, c .before .before .before .before .moved .ensures)
-    (ap mk n ∙ sym (ap (answer (a .camera) (a .width) (a .height)) (cells-refused (a .camera) (a .width) (a .height) (a .at) (a .table .now) (a .left) (a .at .done - c .before .before .before .before .before .before .before .before .before .before .before .before .before .before .before .before .samples .result) (c .before .before .before .before .before .before .before .before .before .before .before .least .result) (omega (arith, n, c .before .before .before .before .before .before .before .before .before .before .before .before .before .before .if1 .left)) (c .before .before .before .before .before .before .before .before .before .before .before .least .ensures) (omega (arith, n, p .not-past)) (p .places) (c .before .before .before .before .before .before .before .before .lend .result) (c .before .before .before .before .before .before .before .before .lend .last .0) (subst (λ (by : Increments). Lent (a .camera) (a .at .region) by (a .width) (a .at .done - c .before .before .before .before .before .before .before .before .before .before .before .before .before .before .before .before .samples .result) (c .before .before .before .before .before .before .before .before .before .before .before .least .result) (a .table .now) (c .before .before .before .before .before .before .before .before .lend .result) (c .before .before .before .before .before .before .before .before .lend .last .0)) (c .before .before .before .before .before .before .before .before .before .before .increments-of .ensures) (c .before .before .before .before .before .before .before .before .lend .ensures)) _ (c .before .before .refusal .given .1))))
+    let a = c .before .before .before .before .before .before .before .before .before .before .before .before .before .before .before .before .before .args in let p = c .before .before .before .before .before .before .before .before .before .before .before .before .before .before .before .before .before .pre in
+    let n = c .before .before .before .before .before .before .before .before .before .before .before .before .before .before .before .samples .ensures in let f = c .before .before .before .before .before .before .before .lend .result in
+    let mk : ℕ → Turn State = λ k. record { said = refused (number (c .before .refusal .given .0 .0)); state = record { at = moved (a .at) (k + (a .at .done - c .before .before .before .before .before .before .before .before .before .before .before .before .before .before .before .samples .result + f .done)); cells = c .before .before .before .before .before .before .before .lend .last .0 } } in
+    rw (c .before .before .before .moved .ensures)
+    (ap mk n ∙ sym (cells-refused (a .camera) (a .width) (a .height) (a .at) (a .table .now) (a .left) (a .at .done - c .before .before .before .before .before .before .before .before .before .before .before .before .before .before .before .samples .result) (c .before .before .before .before .before .before .before .before .before .before .least .result) (omega (arith, n, c .before .before .before .before .before .before .before .before .before .before .before .before .before .if1 .left)) (c .before .before .before .before .before .before .before .before .before .before .least .ensures) (omega (arith, n, p .not-past)) (p .places) (c .before .before .before .before .before .before .before .lend .result) (c .before .before .before .before .before .before .before .lend .last .0) (subst (λ (by : Increments). Lent (a .camera) (a .at .region) by (a .width) (a .at .done - c .before .before .before .before .before .before .before .before .before .before .before .before .before .before .before .samples .result) (c .before .before .before .before .before .before .before .before .before .before .least .result) (a .table .now) (c .before .before .before .before .before .before .before .lend .result) (c .before .before .before .before .before .before .before .lend .last .0)) (c .before .before .before .before .before .before .before .before .before .increments-of .ensures) (c .before .before .before .before .before .before .before .lend .ensures)) _ (c .before .refusal .given .1)))
 
 same-length-2 : tie.Need-same-length-2
 same-length-2 c = search needs
 
 returns-3 : tie.Need-returns-3
 returns-3 c =
-    let a = c .before .before .before .before .before .before .before .before .before .before .before .before .before .before .before .before .before .before .args in
-    let p = c .before .before .before .before .before .before .before .before .before .before .before .before .before .before .before .before .before .before .pre in
-    let n = c .before .before .before .before .before .before .before .before .before .before .before .before .before .before .before .before .samples .ensures in
-    let f = c .before .before .before .before .before .before .before .before .lend .result in
-    let mk : ℕ → Answer = λ k. record { said = told-status (reached (k + (a .at .done - c .before .before .before .before .before .before .before .before .before .before .before .before .before .before .before .before .samples .result + f .done)) (k + a .width * a .height)); job = record { camera = a .camera; width = a .width; height = a .height; at = moved (a .at) (k + (a .at .done - c .before .before .before .before .before .before .before .before .before .before .before .before .before .before .before .before .samples .result + f .done)) }; cells = c .before .before .before .before .before .before .before .before .lend .last .0 } in
-    rw (c .handed3 .ensures, c .before .reached .ensures, c .before .before .before .before .moved .ensures)
-    (ap mk n ∙ sym (ap (answer (a .camera) (a .width) (a .height)) (cells-on (a .camera) (a .width) (a .height) (a .at) (a .table .now) (a .left) (a .at .done - c .before .before .before .before .before .before .before .before .before .before .before .before .before .before .before .before .samples .result) (c .before .before .before .before .before .before .before .before .before .before .before .least .result) (omega (arith, n, c .before .before .before .before .before .before .before .before .before .before .before .before .before .before .if1 .left)) (c .before .before .before .before .before .before .before .before .before .before .before .least .ensures) (omega (arith, n, p .not-past)) (p .places) (c .before .before .before .before .before .before .before .before .lend .result) (c .before .before .before .before .before .before .before .before .lend .last .0) (subst (λ (by : Increments). Lent (a .camera) (a .at .region) by (a .width) (a .at .done - c .before .before .before .before .before .before .before .before .before .before .before .before .before .before .before .before .samples .result) (c .before .before .before .before .before .before .before .before .before .before .before .least .result) (a .table .now) (c .before .before .before .before .before .before .before .before .lend .result) (c .before .before .before .before .before .before .before .before .lend .last .0)) (c .before .before .before .before .before .before .before .before .before .before .increments-of .ensures) (c .before .before .before .before .before .before .before .before .lend .ensures)) (c .before .before .enum-told .given .1))))
+    let a = c .before .before .before .before .before .before .before .before .before .before .before .before .before .before .before .before .before .args in
+    let p = c .before .before .before .before .before .before .before .before .before .before .before .before .before .before .before .before .before .pre in
+    let n = c .before .before .before .before .before .before .before .before .before .before .before .before .before .before .before .samples .ensures in
+    let f = c .before .before .before .before .before .before .before .lend .result in
+    let mk : ℕ → Turn State = λ k. record { said = told-status (reached (k + (a .at .done - c .before .before .before .before .before .before .before .before .before .before .before .before .before .before .before .samples .result + f .done)) (k + a .width * a .height)); state = record { at = moved (a .at) (k + (a .at .done - c .before .before .before .before .before .before .before .before .before .before .before .before .before .before .before .samples .result + f .done)); cells = c .before .before .before .before .before .before .before .lend .last .0 } } in
+    rw (c .reached .ensures, c .before .before .before .moved .ensures)
+    (ap mk n ∙ sym (cells-on (a .camera) (a .width) (a .height) (a .at) (a .table .now) (a .left) (a .at .done - c .before .before .before .before .before .before .before .before .before .before .before .before .before .before .before .samples .result) (c .before .before .before .before .before .before .before .before .before .before .least .result) (omega (arith, n, c .before .before .before .before .before .before .before .before .before .before .before .before .before .if1 .left)) (c .before .before .before .before .before .before .before .before .before .before .least .ensures) (omega (arith, n, p .not-past)) (p .places) (c .before .before .before .before .before .before .before .lend .result) (c .before .before .before .before .before .before .before .lend .last .0) (subst (λ (by : Increments). Lent (a .camera) (a .at .region) by (a .width) (a .at .done - c .before .before .before .before .before .before .before .before .before .before .before .before .before .before .before .samples .result) (c .before .before .before .before .before .before .before .before .before .before .least .result) (a .table .now) (c .before .before .before .before .before .before .before .lend .result) (c .before .before .before .before .before .before .before .lend .last .0)) (c .before .before .before .before .before .before .before .before .before .increments-of .ensures) (c .before .before .before .before .before .before .before .lend .ensures)) (c .before .enum-told .given .1)))
 
 pub cells-spec : {M : Type 1} → statement M
 cells-spec =
     tie.close
     (tie.spec
     samples-requires
-    handed-requires
     returns
     mul-least
     sub-least
@@ -134,12 +124,10 @@ cells-spec =
     add-moved-2
     moved-requires
     enum-known-refusal
-    handed-requires-2
     enum-told
     mul-reached
     add-reached
     reached-requires
-    handed-requires-3
     same-length
     returns-2
     same-length-2

@@ -1,8 +1,8 @@
 -- `distortion_table::distort_table` meets its contract. Assumes nothing.
 use mathlib.Core.Path.{ap, _∙_}
-use Rattle.distortion_table.specs.Job.{turn-of, enough}
-use Rattle.distortion_table.specs.declared.Job.{Job}
 use borrow.Author.Needs.{needs}
+use Rattle.job.specs.declared.Job.{Job}
+use Rattle.distortion_table.specs.Answer.{turn-of, enough}
 use Rattle.distortion_table.proofs.distort_table.Statement.{statement}
 use Rattle.distortion_table.proofs.distort_table.Tie as tie
 

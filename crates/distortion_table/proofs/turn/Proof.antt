@@ -1,38 +1,51 @@
 -- `distortion_table::turn` meets its contract. Assumes nothing.
-use mathlib.Core.Path.{refl, sym, _∙_}
+use mathlib.Core.Path.{_≡_, sym, ap, _∙_}
+use mathlib.Core.List.{List}
+use Prim.Native.Nat.{ℕ}
 use borrow.Author.Needs.{needs}
+use lib.Ieee.{Float}
+use lib.ListN.{length}
+use Rattle.lens.specs.Judgement.{verdict, decided}
+use Rattle.lens.specs.Refusal.{number}
+use Rattle.lens.specs.declared.Judgement.{Judgement}
+use Rattle.lens.proofs.Laws.{verdict-one-to-one}
+use Rattle.turns.specs.Turns.{refused, turn}
+use Rattle.job.specs.Job.{admitted}
+use Rattle.job.specs.declared.Job.{Job}
+use Rattle.units.specs.Table.{next}
+use Rattle.distortion_table.specs.Answer.{answer, turn-of}
 use Rattle.distortion_table.proofs.turn.Statement.{statement}
 use Rattle.distortion_table.proofs.turn.Tie as tie
 
-admitted-requires : tie.Need-admitted-requires
-admitted-requires c κs = search needs
-
-enum-known-refusal : tie.Need-enum-known-refusal
-enum-known-refusal c = search needs
-
-enum-told : tie.Need-enum-told
-enum-told c = search needs
+-- by what the judging says
+judged-so :
+    (job : Job) (cells : List Float) (allowance : ℕ) {r j : Judgement} → r ≡ j → verdict r ≡ verdict (admitted job (length cells))
+    → decided j (λ r. record { said = refused (number r); job = job; cells = cells }) (answer (job .camera) (job .width) (job .height) (turn (next (job .camera) (job .width) (job .height)) allowance record { at = job .at; cells = cells })) ≡ turn-of job cells allowance
+judged-so job cells allowance {r} e h =
+    ap (λ (j : Judgement). decided j (λ r. record { said = refused (number r); job = job; cells = cells }) (answer (job .camera) (job .width) (job .height) (turn (next (job .camera) (job .width) (job .height)) allowance record { at = job .at; cells = cells })))
+    (sym e ∙ verdict-one-to-one r (admitted job (length cells)) h)
 
 work-requires : tie.Need-work-requires
-work-requires c κs = sym (c .before .before .before .admitted .ensures) ∙ c .before .enum-told .given .1
+work-requires c κs = sym (verdict-one-to-one _ _ (c .before .before .before .admitted .ensures)) ∙ c .before .enum-told .given .1
 
 returns : tie.Need-returns
-returns c = rw (← c .before .before .before .admitted .ensures, c .before .refusal .given .1) refl
-
-same-length : tie.Need-same-length
-same-length c = search needs
+returns c = let a = c .before .before .before .before .before .args in judged-so (a .job) (a .table .now) (a .allowance) (c .before .refusal .given .1) (c .before .before .before .admitted .ensures)
 
 returns-2 : tie.Need-returns-2
-returns-2 c = rw (← c .before .before .before .before .before .before .admitted .ensures, c .before .before .before .before .enum-told .given .1) (c .before .before .work .ensures)
+returns-2 c =
+    let a = c .before .before .before .before .before .before .before .before .before .args in
+    rw (c .handed .ensures)
+    (ap (answer (a .job .camera) (a .job .width) (a .job .height)) (c .before .before .before .work .ensures) ∙ judged-so (a .job) (a .table .now) (a .allowance) (c .before .before .before .before .before .enum-told .given .1) (c .before .before .before .before .before .before .before .admitted .ensures))
 
 pub turn-spec : {M : Type 1} → statement M
 turn-spec =
     tie.close
     (tie.spec
-    admitted-requires
-    enum-known-refusal
-    enum-told
+    (λ c κs. search needs)
+    (λ c. search needs)
+    (λ c. search needs)
     work-requires
+    (λ c κs. search needs)
     returns
-    same-length
+    (λ c. search needs)
     returns-2)

@@ -2,7 +2,7 @@
 use mathlib.Core.Path.{_∙_}
 use borrow.Author.Needs.{needs}
 use native.Mathlib.Omega.{arith}
-use Rattle.listing.proofs.Numbers.{decimal-is, decimal-short}
+use Rattle.decimal.proofs.Digits.{decimal-is, fewest-short}
 use Rattle.listing.proofs.Putting.{field-grown}
 use Rattle.listing.proofs.grow_decimal.Statement.{statement}
 use Rattle.listing.proofs.grow_decimal.Tie as tie
@@ -31,7 +31,7 @@ returns c =
     (c .before .before .before .grow .ensures)
     (c .put .kept .0)
     (c .before .before .before .before .before .before .before .before .pre)
-    (decimal-short _ _ (omega arith) (c .before .before .before .before .before .before .decimal .ensures .1 .0))
+    (fewest-short _ _ 20 (omega arith) (omega arith) (c .before .before .before .before .before .before .decimal .ensures .1 .0))
     (c .before .before .before .before .before .before .decimal .ensures .1 .1 ∙ decimal-is _ _ (c .before .before .before .before .before .before .decimal .ensures .1 .0))
     (c .put .ensures)
 

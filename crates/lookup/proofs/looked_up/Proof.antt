@@ -1,8 +1,11 @@
 -- `lookup::looked_up` meets its contract. Assumes nothing.
-use mathlib.Core.Path.{refl, sym, ap, _∙_}
-use Rattle.lookup.specs.Lookup.{finite-pixel}
-use Rattle.lookup.proofs.Steps.{looked-up-so, inside-wide, inside-high, reaches}
+use mathlib.Core.Path.{refl, sym, ap, ap₂, _∙_}
 use borrow.Author.Needs.{needs}
+use denote.Ref.{now}
+use Rattle.lens.specs.Distorted.{finite-pixel}
+use Rattle.lens.proofs.Laws.{told-pixel-one-to-one}
+use Rattle.lookup.specs.Lookup.{pixel-at}
+use Rattle.lookup.proofs.Steps.{looked-up-so, inside-wide, inside-high, reaches}
 use Rattle.lookup.proofs.looked_up.Statement.{statement}
 use Rattle.lookup.proofs.looked_up.Tie as tie
 
@@ -35,10 +38,13 @@ pixel-at-requires c κs =
 
 returns-3 : tie.Need-returns-3
 returns-3 c =
+    let a = c .before .before .before .before .before .before .before .before .before .args in
+    let at = c .before .pixel-at .result in
     looked-up-so _ _ _ _ _
     (sym (c .before .before .before .before .before .before .if1 .left) ∙ c .before .before .before .before .before .before .before .outside .ensures)
     (sym (c .before .before .before .before .if2 .left) ∙ c .before .before .before .before .before .outside2 .ensures)
-    (c .finite-pixel .ensures ∙ ap finite-pixel (rw (c .before .pixel-at .ensures, c .before .before .spot-of2 .ensures, c .before .before .before .spot-of .ensures) refl))
+    (told-pixel-one-to-one (c .finite-pixel .result) (finite-pixel at) (c .finite-pixel .ensures)
+    ∙ ap finite-pixel (c .before .pixel-at .ensures ∙ ap₂ (pixel-at (now (a .table)) (a .width)) (c .before .before .before .spot-of .ensures) (c .before .before .spot-of2 .ensures)))
 
 pub looked-up-spec : {M : Type 1} → statement M
 looked-up-spec =

@@ -2,7 +2,7 @@
 use mathlib.Core.Path.{sym, ap, _∙_}
 use native.Mathlib.Omega.{arith}
 use lib.Seq.{length-take-le}
-use Rattle.distortion_table.specs.Job.{Answer}
+use Rattle.distortion_table.specs.Answer.{Answer}
 use Rattle.listing.specs.Placed.{written, placed-all}
 use Rattle.printer.specs.Printed.{shown}
 use borrow.Author.Needs.{needs}

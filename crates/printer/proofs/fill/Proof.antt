@@ -3,7 +3,7 @@ use mathlib.Core.Path.{_≡_, sym, ap, _∙_}
 use native.Mathlib.Omega.{arith}
 use lib.ListN.{length, drop, length-append, length-drop}
 use lib.Seq.{length-take-le, take-at}
-use Rattle.distortion_table.specs.Job.{told-turned}
+use Rattle.distortion_table.specs.Answer.{told-turned}
 use borrow.Author.Needs.{needs}
 use Rattle.printer.proofs.fill.Statement.{statement}
 use Rattle.printer.proofs.fill.Tie as tie

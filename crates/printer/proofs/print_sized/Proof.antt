@@ -10,7 +10,7 @@ use Rattle.lens.specs.Refusal.{number}
 use Rattle.lens.specs.declared.Refusal.the-variants.{WrongSize}
 use Rattle.region.proofs.Size.{bounded}
 use Rattle.camera.specs.declared.Camera.{Camera}
-use Rattle.distortion_table.specs.Job.{whole-table}
+use Rattle.distortion_table.specs.Answer.{whole-table}
 use Rattle.listing.specs.Placed.{Written, written, placed-all}
 use Rattle.printer.specs.Printed.{refusal-lines, shown, most-cells, blank, sized-lines}
 use borrow.Author.Needs.{needs}

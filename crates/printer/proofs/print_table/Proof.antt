@@ -1,10 +1,10 @@
 -- `printer::print_table` meets its contract. Assumes nothing.
 use mathlib.Core.Path.{_≡_, sym, ap, _∙_}
 use Rattle.region.proofs.Size.{is-sized}
-use Rattle.distortion_table.specs.Job.{fresh}
-use Rattle.distortion_table.specs.declared.Started.{Started}
+use Rattle.job.specs.Job.{fresh}
+use Rattle.job.specs.declared.Started.{Started}
 use Rattle.distortion_table.proofs.Calls.{fresh-takes}
-use Rattle.distortion_table.proofs.Laws.{started-one-to-one}
+use Rattle.job.proofs.Laws.{started-one-to-one}
 use Rattle.listing.specs.Placed.{written, placed-all}
 use Rattle.printer.specs.Printed.{sized-lines, started, table-lines}
 use borrow.Author.Needs.{needs}

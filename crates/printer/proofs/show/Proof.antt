@@ -2,7 +2,7 @@
 use mathlib.Core.Path.{refl, sym, ap, _∙_}
 use mathlib.Core.List.{List}
 use Prim.Native.Nat.{ℕ}
-use Rattle.distortion_table.specs.Job.{told-status, told-turned}
+use Rattle.distortion_table.specs.Answer.{told-status, told-turned}
 use Rattle.distortion_table.specs.declared.Status.{Status}
 use Rattle.listing.specs.Placed.{written, placed-all}
 use Rattle.printer.specs.Printed.{shown-as}

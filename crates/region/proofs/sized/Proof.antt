@@ -2,14 +2,13 @@
 use mathlib.Core.Path.{_≡_, refl, sym, _∙_}
 use mathlib.Core.Bool.{Bool, _&&_}
 use Prim.Native.Nat.{ℕ}
-use lib.Dec.{leb}
-use Rattle.region.specs.Size.{sized}
+use Rattle.region.specs.Size.{within, sized}
 use borrow.Author.Needs.{needs}
 use Rattle.region.proofs.sized.Statement.{statement}
 use Rattle.region.proofs.sized.Tie as tie
 
 -- by what the two tests say
-so : (width height : ℕ) {a b : Bool} → a ≡ (leb 2 width && leb width 4096) → b ≡ (leb 2 height && leb height 4096) → (a && b) ≡ sized width height
+so : (width height : ℕ) {a b : Bool} → a ≡ within width → b ≡ within height → (a && b) ≡ sized width height
 so width height e f = rw (e, f) refl
 
 returns : tie.Need-returns

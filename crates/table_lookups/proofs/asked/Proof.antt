@@ -1,5 +1,4 @@
--- `table_lookups::asked` is safe and ends: field i starts at 17 * i, and the last field's end is the line's last byte.
--- The measure is the number of fields that are left. Assumes nothing.
+-- `table_lookups::asked` is safe and ends. The measure is the number of fields that are left. Assumes nothing.
 use Prim.Native.Nat.{_≤_, _-_}
 use borrow.Author.Needs.{needs}
 use Rattle.table_lookups.proofs.asked.Statement.{statement}
@@ -13,12 +12,6 @@ abbrev μ-loop : tie.MeasureT-loop
 
 loop-holds : tie.Need-loop-holds Inv-loop μ-loop
 loop-holds c = search needs
-
-mul-field : tie.Need-mul-field Inv-loop μ-loop
-mul-field c = search needs
-
-end-of-requires : tie.Need-end-of-requires Inv-loop μ-loop
-end-of-requires c κs = search needs
 
 field-requires : tie.Need-field-requires Inv-loop μ-loop
 field-requires c κs = search needs
@@ -60,8 +53,6 @@ asked-spec =
     Inv-loop
     μ-loop
     loop-holds
-    mul-field
-    end-of-requires
     field-requires
     enum-known-n
     enum-told

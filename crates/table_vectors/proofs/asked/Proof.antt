@@ -1,5 +1,4 @@
--- `table_vectors::asked` is safe and ends: field i starts at 17 * i, and the last field's end is the line's last byte.
--- The measure is the number of fields that are left. Assumes nothing.
+-- `table_vectors::asked` is safe and ends. The measure is the number of fields that are left. Assumes nothing.
 use Prim.Native.Nat.{_≤_, _-_}
 use borrow.Author.Needs.{needs}
 use Rattle.table_vectors.proofs.asked.Statement.{statement}
@@ -13,12 +12,6 @@ abbrev μ-loop : tie.MeasureT-loop
 
 loop-holds : tie.Need-loop-holds Inv-loop μ-loop
 loop-holds c = search needs
-
-mul-field : tie.Need-mul-field Inv-loop μ-loop
-mul-field c = search needs
-
-end-of-requires : tie.Need-end-of-requires Inv-loop μ-loop
-end-of-requires c κs = search needs
 
 field-requires : tie.Need-field-requires Inv-loop μ-loop
 field-requires c κs = search needs
@@ -47,8 +40,8 @@ loop-less c = search needs
 loop-again : tie.Need-loop-again Inv-loop μ-loop
 loop-again c = search needs
 
-array-read-t16 : tie.Need-array-read-t16 Inv-loop μ-loop
-array-read-t16 c = search needs
+array-read-model : tie.Need-array-read-model Inv-loop μ-loop
+array-read-model c = search needs
 
 returns-2 : tie.Need-returns-2 Inv-loop μ-loop
 returns-2 c = search needs
@@ -60,8 +53,6 @@ asked-spec =
     Inv-loop
     μ-loop
     loop-holds
-    mul-field
-    end-of-requires
     field-requires
     enum-known-n
     enum-told
@@ -71,5 +62,5 @@ asked-spec =
     add-i
     loop-less
     loop-again
-    array-read-t16
+    array-read-model
     returns-2)

@@ -7,15 +7,17 @@ use native.Mathlib.Omega.{arith}
 use borrow.Author.Needs.{needs}
 use lib.Ieee.{Float}
 use lib.ListN.{length, set, length-set}
-use Rattle.camera.specs.declared.Camera.{Camera}
-use Rattle.distortion_table.specs.Cells.{Filling, put, cell, filled}
-use Rattle.distortion_table.specs.declared.Cell.{Cell}
 use Rattle.region.specs.declared.Increments.{Increments}
-use Rattle.distortion_table.specs.declared.Place.{Place}
 use Rattle.region.specs.declared.Region.{Region}
-use Rattle.distortion_table.specs.Turns.{turn, met}
+use Rattle.camera.specs.declared.Camera.{Camera}
+use Rattle.turns.specs.Turns.{turn, met}
+use Rattle.turns.proofs.Laws.{met-none, met-refused, met-done}
+use Rattle.cell.specs.Cell.{cell}
+use Rattle.cell.specs.declared.Cell.{Cell}
+use Rattle.cell.proofs.Laws.{told-one-to-one}
+use Rattle.distortion_table.specs.Loops.{Filling, put, filled}
+use Rattle.distortion_table.specs.declared.Place.{Place}
 use Rattle.distortion_table.proofs.Places.{column, row}
-use Rattle.distortion_table.proofs.Turns.{met-none, met-refused, met-done}
 use Rattle.distortion_table.proofs.filler.fill.Statement.{statement}
 use Rattle.distortion_table.proofs.filler.fill.Tie as tie
 
@@ -65,7 +67,7 @@ returns : tie.Need-returns Inv-loop μ-loop
 returns c =
     let a = c .before .before .before .before .before .before .before .args in
     let l = c .before .before .before .before .before .loop in
-    let e = at-cell (a .camera) (a .region) (a .by) (a .width) (a .first) (l .i) (l .rest) (l .place) _ (l .inv .1) (l .inv .2) (sym (c .before .refusal .given .1) ∙ c .before .before .before .cell-at .ensures) in
+    let e = at-cell (a .camera) (a .region) (a .by) (a .width) (a .first) (l .i) (l .rest) (l .place) _ (l .inv .1) (l .inv .2) (sym (c .before .refusal .given .1) ∙ told-one-to-one _ _ (c .before .before .before .cell-at .ensures)) in
     sym (met-refused (filled (a .camera) (a .region) (a .by) (a .width) (a .first)) (a .count - l .i) (at (l .i) (l .rest)) (omega arith) _ e) ∙ l .inv .4
 
 enum-known-a : tie.Need-enum-known-a Inv-loop μ-loop
@@ -105,7 +107,7 @@ loop-again : tie.Need-loop-again Inv-loop μ-loop
 loop-again c =
     let a = c .before .before .before .before .before .before .before .before .args in
     let l = c .before .before .before .before .before .before .loop in
-    let e = at-cell (a .camera) (a .region) (a .by) (a .width) (a .first) (l .i) (l .rest) (l .place) _ (l .inv .1) (l .inv .2) (sym (c .before .before .a .given .1) ∙ c .before .before .before .before .cell-at .ensures) in
+    let e = at-cell (a .camera) (a .region) (a .by) (a .width) (a .first) (l .i) (l .rest) (l .place) _ (l .inv .1) (l .inv .2) (sym (c .before .before .a .given .1) ∙ told-one-to-one _ _ (c .before .before .before .before .cell-at .ensures)) in
     let n : a .count - l .i - 1 ≡ a .count - (l .i + 1) = omega arith in
     let t : Filling = at (l .i + 1) (set (set (l .rest) (2 * l .i) (c .before .before .a .given .0 .0)) (2 * l .i + 1) (c .before .before .a .given .0 .1 .0)) in (
       omega arith,

@@ -6,10 +6,10 @@ use native.Mathlib.Omega.{arith}
 use borrow.Rule.Slice.PartMut.{take-put}
 use lib.Ieee.{Float}
 use lib.ListN.{length}
-use Rattle.distortion_table.specs.Cells.{filled, told-filled}
-use Rattle.distortion_table.specs.Turns.{turn, met}
-use Rattle.distortion_table.proofs.Parts.{lent, put-back}
 use borrow.Author.Needs.{needs}
+use Rattle.turns.specs.Turns.{turn, met}
+use Rattle.distortion_table.specs.Loops.{filled, told-filled}
+use Rattle.distortion_table.proofs.Parts.{lent, put-back}
 use Rattle.distortion_table.proofs.filler.lend.Statement.{statement}
 use Rattle.distortion_table.proofs.filler.lend.Tie as tie
 

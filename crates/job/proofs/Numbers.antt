@@ -1,0 +1,85 @@
+-- What a record is refused by: the first row that holds. Assumes nothing.
+use mathlib.Core.Path.{_≡_, refl}
+use mathlib.Core.Bool.{Bool, true, false, not, cond, _&&_, _||_}
+use mathlib.Core.List.{[], _∷_}
+use Prim.Native.Nat.{ℕ, _*_, min}
+use borrow.Author.Tests.{ltb-false, le-leb, lt-leb, ltb-true}
+use lib.Dec.{leb, ltb, eqb}
+use lib.Ieee.Scale.{finite}
+use Rattle.lens.specs.Finite.{all-finite}
+use Rattle.lens.specs.Judgement.{verdict}
+use Rattle.lens.specs.Rows.{_when_, first}
+use Rattle.lens.specs.declared.Judgement.the-variants.{Taken, Refused}
+use Rattle.lens.specs.declared.Refusal.the-variants.{NotFinite, ZeroFocalLength, WrongSize, WrongLength, IncrementNotPositive, AnswerNotFinite, ImpossibleRecord}
+use Rattle.region.specs.Region.{four, increments, flat, wrong}
+use Rattle.region.specs.Size.{sized}
+use Rattle.region.specs.declared.Increments.{Increments}
+use Rattle.camera.specs.Camera.{parameters, zero-focal, limit}
+use Rattle.camera.specs.declared.Camera.{Camera}
+use Rattle.border.specs.Border.{samples, all-units}
+use Rattle.job.specs.Job.{fresh-job, fresh, told-started, begun-number, fine, possible, admitted}
+use Rattle.job.specs.Rows.{fresh-rows, unfit, no-build, turn-rows}
+use Rattle.job.specs.declared.Job.{Job}
+use Rattle.job.specs.declared.Progress.{Progress}
+use Rattle.job.specs.declared.Started.the-variants as begun
+
+-- ---- the rows of a fresh record
+
+pub fresh-number : (camera : Camera) (width height : ℕ) → begun-number (told-started (fresh camera width height)) ≡ first (fresh-rows camera width height)
+unfolding fresh
+fresh-number camera width height = go (all-finite (parameters camera)) (zero-focal camera) (sized width height)
+  where
+    go : (g z s : Bool)
+        → begun-number (told-started (cond g (cond z (begun.Refused ZeroFocalLength) (cond s (begun.With (fresh-job camera width height)) (begun.Refused WrongSize))) (begun.Refused NotFinite)))
+        ≡ first ((4 when not g) ∷ (5 when z) ∷ (6 when not s) ∷ [])
+    go false z s = refl
+    go true true s = refl
+    go true false true = refl
+    go true false false = refl
+
+-- ---- the rows of a record
+
+leb-not : (a b : ℕ) → leb a b ≡ not (ltb b a)
+leb-not a b = go (ltb b a) refl
+  where
+    go : (x : Bool) → ltb b a ≡ x → leb a b ≡ not x
+    go true e = lt-leb a b (ltb-true b a e)
+    go false e = le-leb a b (ltb-false b a e)
+
+fine-not : (by : Increments) → fine (wrong by) ≡ not (unfit by)
+unfolding wrong
+fine-not by = go (flat (by .0) || flat (by .1)) (finite (by .0) && finite (by .1))
+  where
+    go : (f p : Bool) → fine (cond f (Refused IncrementNotPositive) (cond p Taken (Refused AnswerNotFinite))) ≡ not (f || not p)
+    go true p = refl
+    go false true = refl
+    go false false = refl
+
+possible-not : (camera : Camera) (width height : ℕ) (at : Progress) → possible camera width height at ≡ not (no-build camera width height at)
+unfolding possible
+possible-not camera width height at =
+    rw (leb-not (at .done) (all-units width height), leb-not (at .updates) (limit camera * min (at .done) (samples width height)), leb-not (samples width height) (at .done), fine-not (increments (at .region) width height))
+    (go (ltb (all-units width height) (at .done)) (ltb (limit camera * min (at .done) (samples width height)) (at .updates)) (all-finite (four (at .edges))) (ltb (at .done) (samples width height)) (unfit (increments (at .region) width height)))
+  where
+    go : (a b c d e : Bool) → (not a && (not b && (c && (d || not e)))) ≡ not (a || (b || (not c || (not d && e))))
+    go true b c d e = refl
+    go false true c d e = refl
+    go false false false d e = refl
+    go false false true true e = refl
+    go false false true false e = refl
+
+pub admitted-number : (job : Job) (places : ℕ) → verdict (admitted job places) ≡ first (turn-rows job places)
+unfolding admitted
+admitted-number job places =
+    rw (possible-not (job .camera) (job .width) (job .height) (job .at))
+    (go (all-finite (parameters (job .camera)) && all-finite (four (job .at .region))) (zero-focal (job .camera)) (sized (job .width) (job .height)) (eqb places (2 * (job .width * job .height))) (no-build (job .camera) (job .width) (job .height) (job .at)))
+  where
+    go : (g z s e n : Bool)
+        → verdict (cond g (cond z (Refused ZeroFocalLength) (cond s (cond e (cond (not n) Taken (Refused ImpossibleRecord)) (Refused WrongLength)) (Refused WrongSize))) (Refused NotFinite))
+        ≡ first ((4 when not g) ∷ (5 when z) ∷ (6 when not s) ∷ (7 when not e) ∷ (13 when n) ∷ [])
+    go false z s e n = refl
+    go true true s e n = refl
+    go true false false e n = refl
+    go true false true false n = refl
+    go true false true true true = refl
+    go true false true true false = refl

@@ -1,0 +1,10 @@
+-- `lens_c::refused` meets its contract. Assumes nothing.
+use borrow.Author.Needs.{needs}
+use Rattle.lens_c.proofs.refused.Statement.{statement}
+use Rattle.lens_c.proofs.refused.Tie as tie
+
+returns : tie.Need-returns
+returns c = cc
+
+pub refused-spec : {M : Type 1} → statement M
+refused-spec = tie.close (tie.spec (λ c κs. search needs) (λ c. search needs) (λ c. search needs) (λ c κs. search needs) returns)

@@ -1,0 +1,3 @@
+pub mod Params
+pub mod Written
+pub mod Laws

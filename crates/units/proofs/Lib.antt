@@ -1,0 +1,5 @@
+pub mod AtBorder
+pub mod Counting
+pub mod Ends
+pub mod Reaching
+pub mod Written

@@ -1,0 +1,3 @@
+pub mod Owed
+pub mod Sweep
+pub mod Table

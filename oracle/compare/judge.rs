@@ -1,0 +1,159 @@
+// What the library owes on a question: document 01's refusals in their order, and else the Rust's answer, as bytes.
+use crate::lens;
+use rust_text::{ask, Angles, COUNTS};
+use std::cell::Cell;
+
+/// What the Rust does without saying so, told by the stand-in.
+#[derive(Clone, Copy)]
+pub struct Trace {
+    pub updates: u32,
+    pub flag: bool,
+    /// The tangent was refused its angle.
+    pub steep: bool,
+}
+
+const DIRECT: Trace = Trace { updates: 0, flag: true, steep: false };
+
+thread_local! {
+    static TRACE: Cell<Trace> = const { Cell::new(DIRECT) };
+}
+
+fn change(f: impl Fn(Trace) -> Trace) {
+    TRACE.with(|t| t.set(f(t.get())))
+}
+
+/// What happened since this was last called.
+pub fn trace() -> Trace {
+    TRACE.with(|t| t.replace(DIRECT))
+}
+
+/// Our arctangent and tangent put into the Rust, and its updates and tests noted.
+#[derive(Clone, Copy, Debug)]
+pub struct PutIn;
+
+impl Angles for PutIn {
+    fn arctangent(x: f64) -> f64 {
+        lens::arctangent(x)
+    }
+    fn tangent(theta: f64) -> f64 {
+        lens::tangent(theta).unwrap_or_else(|_| {
+            change(|t| Trace { steep: true, ..t });
+            f64::NAN
+        })
+    }
+    fn updated() {
+        change(|t| Trace { updates: t.updates + 1, ..t })
+    }
+    fn judged(truth: bool) {
+        change(|t| Trace { flag: truth, ..t })
+    }
+    fn selected(first: bool) {
+        if first {
+            change(|_| DIRECT)
+        }
+    }
+}
+
+/// One call. The first `params_length` bytes of `params` are handed over, and `answer_length` bytes are lent.
+#[derive(Clone, Copy)]
+pub struct Question {
+    pub model: u8,
+    pub operation: usize,
+    pub params: [f64; 12],
+    pub params_length: usize,
+    pub at: [f64; 2],
+    pub answer_length: usize,
+}
+
+/// At most this many bytes are handed over or lent.
+pub const MOST: usize = 304;
+
+impl Question {
+    /// A caller who keeps to the rules.
+    pub fn right(model: usize, operation: usize, params: [f64; 12], at: [f64; 2]) -> Question {
+        let params_length = 8 * COUNTS[model];
+        Question { model: model as u8, operation, params, params_length, at, answer_length: lens::LENGTHS[operation] }
+    }
+
+    pub fn ask_ours(&self) -> Given {
+        let mut params = [0; MOST];
+        for (place, x) in params.chunks_exact_mut(8).zip(self.params) {
+            place.copy_from_slice(&x.to_le_bytes());
+        }
+        let mut given = Given::untouched(0);
+        let lent = &mut given.bytes[..self.answer_length];
+        given.number = lens::call(self.operation, self.model, &params[..self.params_length], self.at, lent);
+        given
+    }
+
+    /// The refusals that need no answer of the Rust, the lowest first.
+    fn refused_at_once(&self) -> Option<u8> {
+        let model = self.model as usize;
+        if model > 3 {
+            return Some(1);
+        }
+        if self.operation == 3 && model == 3 {
+            return Some(2);
+        }
+        if self.params_length != 8 * COUNTS[model] {
+            return Some(3);
+        }
+        let params = &self.params[..COUNTS[model]];
+        if params.iter().chain(&self.at).any(|x| !x.is_finite()) {
+            return Some(4);
+        }
+        if params[0] == 0.0 || params[1] == 0.0 {
+            return Some(5);
+        }
+        if self.answer_length != lens::LENGTHS[self.operation] {
+            return Some(7);
+        }
+        None
+    }
+
+    pub fn owed(&self) -> Given {
+        if let Some(number) = self.refused_at_once() {
+            return Given::untouched(number);
+        }
+        trace();
+        let answer = ask::<PutIn>(self.model as usize, self.operation, &self.params, self.at);
+        let trace = trace();
+        if trace.steep {
+            return Given::untouched(10);
+        }
+        if answer.used().iter().any(|x| !x.is_finite()) {
+            return Given::untouched(11);
+        }
+        let mut given = Given::untouched(0);
+        for (place, x) in given.bytes[..lens::LENGTHS[self.operation]].chunks_exact_mut(8).zip(answer.numbers) {
+            place.copy_from_slice(&x.to_le_bytes());
+        }
+        match self.operation {
+            0 => {}
+            1 => {
+                given.bytes[16..20].copy_from_slice(&trace.updates.to_le_bytes());
+                given.bytes[20..24].copy_from_slice(&[trace.flag as u8, 0, 0, 0]);
+            }
+            _ => given.bytes[192..200].copy_from_slice(&(answer.columns as u64).to_le_bytes()),
+        }
+        given
+    }
+}
+
+/// A refusal's number, or 0, and all the bytes that could have been written.
+#[derive(Clone, Copy, PartialEq)]
+pub struct Given {
+    pub number: u8,
+    pub bytes: [u8; MOST],
+}
+
+impl Given {
+    fn untouched(number: u8) -> Given {
+        Given { number, bytes: [0xa5; MOST] }
+    }
+
+    /// Number i of the answer.
+    pub fn float(&self, i: usize) -> f64 {
+        f64::from_le_bytes(std::array::from_fn(|k| self.bytes[8 * i + k]))
+    }
+}
