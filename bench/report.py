@@ -1,26 +1,12 @@
 #!/usr/bin/env python3
-"""report.py COUNTER FOLDER COST.md [RUNNER...]: counts with COUNTER the loops of FOLDER/count and count_c, each with N and 2N calls so that
-start-up drops out, takes off the empty loop, and writes the table. RUNNER starts an x86-64 program on this machine."""
-import datetime, os, platform, re, subprocess, sys
+"""report.py COUNTER FOLDER COST.md [RUNNER...]: counts with COUNTER the loops of FOLDER/count and count_c, takes off the empty loop, and
+writes the page up to the part that report_head.py writes. RUNNER starts an x86-64 program on this machine."""
+import datetime, os, platform, subprocess
 
-counter, folder, page, runner = sys.argv[1], sys.argv[2], sys.argv[3], sys.argv[4:]
-MODELS = ["affine", "eucm", "kb", "bc"]
+from counting import MODELS, counter, each, folder, page, runner
+
 OPERATIONS = ["distort", "undistort", "dx_distort_x", "dx_distort_params"]
 UPDATES = {"kb": [2, 3, 4, 5, 20], "bc": [1, 2, 3, 4, 50]}
-
-
-def insns(program, *words):
-    done = subprocess.run([counter, f"{folder}/{program}", *map(str, words)], capture_output=True, text=True)
-    if done.returncode != 0:
-        sys.exit(f"{words}: {done.stderr}")
-    return int(re.search(r"insns: (\d+)", done.stderr).group(1))
-
-
-def each(n, *words):
-    """Instructions of one call, by a program and its words; the count stands where there is None."""
-    at = words.index(None)
-    once, twice = (insns(*words[:at], k * n, *words[at + 1:]) for k in (1, 2))
-    return (twice - once) / n
 
 
 def cases(model, operation, updates):

@@ -17,10 +17,11 @@ form is answered by `bad`, and the last line of stdout counts the lines of stdin
 
 How the answers are made. By tools/lens_models.py, from the text of the Rust.
 
-How the questions are made. By hand where a rule has an edge; by splitmix64 from fixed seeds for lenses
-as cameras have them and for wild ones; and by a search for questions that end in a given way, such as
-after so many updates. So every run writes the same bytes. A question that two kinds have is asked
-once, and counted for the first.
+How the questions are made. By hand where a rule has an edge, and by tools/refusal_edges.py for every
+refusal, with the last input that is answered and the first that isn't; by splitmix64 from fixed seeds
+for lenses as cameras have them and for wild ones; and by a search for questions that end in a given
+way, such as after so many updates. So every run writes the same bytes. A question that two kinds have
+is asked once, and counted for the first.
 """
 import math
 import pathlib
@@ -56,6 +57,7 @@ from lens_models import (
     tangent,
 )
 from make_leaf_vectors import INF, LARGEST, NANS, NORMAL, SIGN, Splitmix, value
+import refusal_edges
 
 CRATES = pathlib.Path(__file__).resolve().parent.parent / "crates"
 
@@ -419,6 +421,7 @@ def kinds():
     yield "refused 2", no_parameter_jacobian(Splitmix(11))
     yield "refused 4", not_finite(Splitmix(12))
     yield "refused 5", zero_focal(Splitmix(13))
+    yield "refusals at their edges", refusal_edges.questions()
     for model, name in enumerate(MODELS):
         rng = Splitmix(20 + model)
         operations = range(4 if model != BC else 3)

@@ -2,22 +2,24 @@
 """Makes crates/table_lookups/stdin and stdout: points looked up in lens tables, and what comes of each.
 
     python3 tools/make_table_lookups.py              writes both files, and says on stderr what they cover
+    python3 tools/make_table_lookups.py --listing    lists the questions made by hand for a person to read, a line each:
+                                                     the refusal it is about, what is special, x and y, what is owed
     python3 tools/make_table_lookups.py --self-test  tests this script, and writes nothing
 
-The first part of stdout is for a person to read: the program asks these questions by itself, and the script has them
-too, each with the words that its line begins with. The second part answers stdin, a question a line: 33 fields with
-tabs between, each 16 hexadecimal digits: width, height, the places of the table, and as bit patterns of f64s the
-region (lower x, y, upper x, y), the point (x, y), and 24 numbers, all of them f32s, of which the table has the first.
-So every line has 561 bytes with its end. An answer is 0, u and v, or the refusal's number. A line of another form, or
-with more than 24 places, is answered by `bad`, and the last line of stdout counts the lines of stdin.
+stdin has a question a line: 33 fields with tabs between, each 16 hexadecimal digits: width, height, the places of the
+table, and as bit patterns of f64s the region (lower x, y, upper x, y), the point (x, y), and 24 numbers, all of them
+f32s, of which the table has the first. So every line has 561 bytes with its end. An answer is 0, u and v, or the
+refusal's number. A line of another form, or with more than 24 places, is answered by `bad`, and the last line of
+stdout counts the lines of stdin.
 
 How the answers are made. From docs/RULES.md, 5.6, 12.4 and 14, by `lookup` below, in another way than the crate's:
 the whole part is found by counting the cells that the index has passed, and every sum, product and quotient is worked
 out as a fraction and rounded by `nearest` of make_leaf_vectors.py. No float of the platform takes part, until each
 number is compared with what Python's own f64 gives, and a difference stops the script.
 
-How the questions are made. By hand in the first part; in the second by splitmix64 from fixed seeds, of every kind and
-with every ending that `ENDINGS` names. So every run writes the same bytes.
+How the questions are made. First those made by hand: the table of the rules' example, at its edges and with every
+refusal, each with words that say what it is about. Then by splitmix64 from fixed seeds, of every kind and with every
+ending that `ENDINGS` names. So every run writes the same bytes.
 """
 import math
 import pathlib
@@ -29,7 +31,7 @@ from make_leaf_vectors import INF, LARGEST, NAN, SIGN, Splitmix, nearest, parts,
 from make_model_vectors import pattern
 
 FOLDER = pathlib.Path(__file__).resolve().parent.parent / "crates" / "table_lookups"
-PLACES = 24  # of a vector's table at most
+PLACES = 24  # of a table at most
 FIELDS = 9 + PLACES
 LEAST, MOST = 2, 4096
 DIGITS = frozenset("0123456789abcdef")
@@ -171,7 +173,7 @@ def lookup(table, region, w, h, x, y):
     return (0, pixel) if all(is_finite(z) for z in pixel) else (11, None)
 
 
-# ---- the first part
+# ---- the questions made by hand: each is its words and what is asked, with a heading before a section's first
 
 LISTED = [-2.0, -1.5, 1.0, -1.5, 4.0, -1.5, -2.0, 2.5, 1.0, 2.5, 4.0, 2.5]
 BOX = (-2.0, -1.5, 4.0, 2.5)
@@ -183,10 +185,14 @@ def bits(z):
 
 
 def line(words, table, region, w, h, x, y):
-    x, y = bits(x), bits(y)
-    number, pixel = lookup([bits(z) for z in table], [bits(z) for z in region], w, h, x, y)
+    return words, ([bits(z) for z in table], [bits(z) for z in region], w, h, bits(x), bits(y))
+
+
+def to_read(words, question):
+    """A question made by hand in the listing's form."""
+    number, pixel = lookup(*question)
     told = ["refused", str(number)] if number else ["answered", *(f"{z:016x}" for z in pixel)]
-    return "\t".join([words, f"{x:016x}", f"{y:016x}", *told])
+    return "\t".join([words, *(f"{z:016x}" for z in question[-2:]), *told])
 
 
 def listed(words, x, y):
@@ -346,20 +352,26 @@ def signs():
 SECTIONS = (by_hand, sides, rounded_sides, no_numbers, not_finite, sizes, lengths, flat_boxes, order, signs)
 
 
-def first_part():
-    found = ["Lookups in tables. A line: refusal, what is special, bits of x and of y, what came out."]
+def listing():
+    """The questions made by hand, for a person to read."""
+    found = ["Lookups in tables. A line: refusal, what is special, bits of x and of y, what is owed."]
     for section in SECTIONS:
-        lines = section()
-        for told in lines[1:]:
+        heading, *cases = section()
+        lines = [to_read(*case) for case in cases]
+        for told in lines:
             fields = told.split("\t")
             # a line named for a number is told it, but for the edges, where it is told beside an answer
             assert fields[0] not in ("6", "7", "8") or fields[-2:] == ["refused", fields[0]], told
             assert fields[0] not in ("none", "hand") or fields[4] == "answered", told
-        found += ["", *lines]
+        found += ["", heading, *lines]
     return found
 
 
-# ---- the vectors
+def made_by_hand():
+    return [("by hand", question_line(*question)) for section in SECTIONS for _, question in section()[1:]]
+
+
+# ---- the others
 
 
 def widened(pattern32):
@@ -538,7 +550,7 @@ def bad_lines():
 
 
 def questions():
-    found = []
+    found = made_by_hand()
     for seed, (kind, count) in enumerate(KINDS):
         rng = Splitmix(1000 + seed)
         found += [(kind.__name__, question_line(*kind(rng))) for _ in range(count)]
@@ -555,7 +567,7 @@ def make():
     endings = Counter((name, told.split("\t")[0]) for (name, _), told in zip(asked, answers))
     assert set(ENDINGS) == {int(n) for _, n in endings}, endings
     assert answers[len(asked) :] == ["bad"] * len(bad)
-    said = first_part() + ["", "The vectors: 0, u and v, or the refusal's number.", *answers, f"lines\t{len(lines)}"]
+    said = [*answers, f"lines\t{len(lines)}"]
     return "".join(lines), "\n".join(said) + "\n", endings
 
 
@@ -583,19 +595,21 @@ def test_by_hand():
 def self_test():
     test_arithmetic()
     test_by_hand()
-    assert make() == make()
+    assert listing() and make() == make()
     print("self-test: ok", file=sys.stderr)
 
 
 def main():
     if sys.argv[1:] == ["--self-test"]:
         return self_test()
+    if sys.argv[1:] == ["--listing"]:
+        return print("\n".join(listing()))
     asked, said, endings = make()
     (FOLDER / "stdin").write_text(asked)
     (FOLDER / "stdout").write_text(said)
-    for name, _ in KINDS:
-        told = ", ".join(f"{n}: {c}" for (k, n), c in sorted(endings.items(), key=lambda t: int(t[0][1])) if k == name.__name__)
-        print(f"{name.__name__:16} {told}", file=sys.stderr)
+    for name in ("by hand", *(kind.__name__ for kind, _ in KINDS)):
+        told = ", ".join(f"{n}: {c}" for (k, n), c in sorted(endings.items(), key=lambda t: int(t[0][1])) if k == name)
+        print(f"{name:16} {told}", file=sys.stderr)
 
 
 if __name__ == "__main__":

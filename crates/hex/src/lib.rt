@@ -1,6 +1,8 @@
 // Reads a number as our texts spell it: 16 hexadecimal digits in lower case, as of an f64's bit pattern.
 ghost use mathlib.Core.Path.{_≡_};
-ghost use Rattle.hex.specs.Hex.{Short, digit, pushed, spelled, after, ends, field};
+ghost use mathlib.Core.Bool.{cond, false};
+ghost use lib.ListN.{length};
+ghost use Rattle.hex.specs.Hex.{Short, digit, pushed, spelled, after, ends, field, is-bits, bits-of, fields, every-field};
 
 // A field of a line of numbers: 16 digits and the byte after them.
 const FIELD: usize = 17;
@@ -93,4 +95,40 @@ pub fn field(line: &[u8], k: usize) -> Bits
         }
     }
     Bits::None
+}
+
+// The number that is spelled, and 0 for none.
+fn bits_of(bits: Bits) -> u64
+    ensures { λ r. ⌜ r ≡ bits-of bits ⌝ }
+{
+    match bits {
+        Bits::Of(n) => n,
+        Bits::None => 0,
+    }
+}
+
+// Whether all fields so far are numbers, and one more.
+fn still(all: bool, bits: Bits) -> bool
+    ensures { λ r. ⌜ r ≡ cond (is-bits bits) all false ⌝ }
+{
+    match bits {
+        Bits::Of(_) => all,
+        Bits::None => false,
+    }
+}
+
+// Reads as many fields of a line as there are places, the first into the first: 0 where there is none. Answers whether all are there.
+pub fn fields(line: &[u8], numbers: &mut [u64]) -> bool
+    ensures is { λ r. ⌜ r ≡ every-field (now (line .entry)) 0 (length (now (numbers .entry))) ⌝ }
+    ensures puts { λ _. ⌜ now (numbers .exit) ≡ fields (now (line .entry)) 0 (length (now (numbers .entry))) ⌝ }
+{
+    let mut all = true;
+    let mut i = 0;
+    while i < numbers.len() {
+        let bits = field(line, i);
+        numbers[i] = bits_of(bits);
+        all = still(all, bits);
+        i += 1;
+    }
+    all
 }

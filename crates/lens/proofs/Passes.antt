@@ -44,3 +44,13 @@ passes-most {S} pass ended updates one (suc n) s = go (ended (pass s)) (passes-m
     go : (b : Bool) → updates (passes pass ended n (pass s)) ≤ updates (pass s) + n → updates (cond b (pass s) (passes pass ended n (pass s))) ≤ updates s + suc n
     go true h = omega (arith, one s)
     go false h = omega (arith, one s)
+
+-- What each pass keeps, the whole search keeps.
+pub passes-keep : {S : Type 0} (pass : S → S) (ended : S → Bool) (P : S → Type 0) → ((s : S) → P s → P (pass s)) → (n : ℕ) (s : S) → P s → P (passes pass ended n s)
+unfolding passes
+passes-keep pass ended P one zero s p = p
+passes-keep {S} pass ended P one (suc n) s p = go (ended (pass s)) (one s p) (passes-keep pass ended P one n (pass s) (one s p))
+  where
+    go : (b : Bool) → P (pass s) → P (passes pass ended n (pass s)) → P (cond b (pass s) (passes pass ended n (pass s)))
+    go true h k = h
+    go false h k = k

@@ -8,3 +8,4 @@ pub mod Undistorted
 pub mod Radius
 pub mod Passes
 pub mod Finite
+pub mod Fits

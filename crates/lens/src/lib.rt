@@ -155,7 +155,7 @@ pub fn two_rows(top: &[f64], bottom: &[f64]) -> Jacobian
     }
 }
 
-// The Jacobian of two columns, a b above c d. Stored one by one: every model's derivative by the point ends here, and the loop of `two_rows` costs three times as much.
+// The Jacobian of two columns, a b above c d. Stored one by one: every model's derivative by the point ends here, and the loop of `two_rows` over all places costs far more (docs/COST.md).
 pub fn two_columns(a: f64, b: f64, c: f64, d: f64) -> Jacobian
     ensures { λ r. ⌜ r ≡ twoRows (a ∷ b ∷ []) (c ∷ d ∷ []) ⌝ }
 {

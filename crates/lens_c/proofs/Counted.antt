@@ -1,37 +1,16 @@
--- What is asked for, case by case. Assumes nothing.
-use mathlib.Core.Path.{_≡_, ap, _∙_}
+-- Of which camera the parameter Jacobian is asked, case by case. Assumes nothing.
+use mathlib.Core.Path.{_≡_, ap}
 use mathlib.Core.Bool.{Bool, cond}
 use mathlib.Core.List.{List}
-use Prim.Native.Nat.{ℕ, _*_, _≤_, _<_}
-use borrow.Author.Tests.{le-leb, lt-leb, eq-eqb, ne-eqb}
-use lib.Dec.{eqb}
-use lib.ListN.{length}
-use Rattle.lens.specs.declared.Refusal.the-variants.{UnknownModel, NoParameterJacobian, WrongCount}
-use Rattle.lens_c.specs.Reading.{count, camera-of, read, read-for-params}
-use Rattle.lens_c.specs.declared.Asked.{Asked}
-use Rattle.lens_c.specs.declared.Asked.the-variants.{Of, Refused}
+use Prim.Native.Nat.{ℕ}
+use borrow.Author.Tests.{eq-eqb, ne-eqb}
+use Rattle.lens.specs.declared.Refusal.the-variants.{NoParameterJacobian}
+use Rattle.camera_bytes.specs.Reading.{read}
+use Rattle.camera_bytes.specs.declared.Asked.{Asked}
+use Rattle.camera_bytes.specs.declared.Asked.the-variants.{Refused}
+use Rattle.lens_c.specs.Reading.{read-for-params}
 
 module _ (model : ℕ) (p : List ℕ) where
-  abbrev counted : Bool → Asked
-  counted b = cond b (Of (camera-of model p)) (Refused WrongCount)
-
-  abbrev known : Bool → Asked → Asked
-  known b asked = cond b asked (Refused UnknownModel)
-
-  pub read-camera : model ≤ 3 → length p ≡ 8 * count model → read model p ≡ Of (camera-of model p)
-  unfolding read
-  read-camera h e =
-      ap (λ (b : Bool). known b (counted (eqb (length p) (8 * count model)))) (le-leb model 3 h) ∙ ap counted (eq-eqb (length p) (8 * count model) e)
-
-  pub read-miscounted : model ≤ 3 → (length p ≡ 8 * count model → ⊥) → read model p ≡ Refused WrongCount
-  unfolding read
-  read-miscounted h e =
-      ap (λ (b : Bool). known b (counted (eqb (length p) (8 * count model)))) (le-leb model 3 h) ∙ ap counted (ne-eqb (length p) (8 * count model) e)
-
-  pub read-unknown : 3 < model → read model p ≡ Refused UnknownModel
-  unfolding read
-  read-unknown h = ap (λ (b : Bool). known b (counted (eqb (length p) (8 * count model)))) (lt-leb model 3 h)
-
   abbrev unless-bc : Bool → Asked
   unless-bc b = cond b (Refused NoParameterJacobian) (read model p)
 

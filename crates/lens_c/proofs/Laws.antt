@@ -1,16 +1,16 @@
 -- What a caller may rely on, of the definitions of specs/ and of the contracts of src/. Assumes nothing.
 use mathlib.Core.Path.{_≡_, refl, sym, ap, _∙_}
-use mathlib.Core.Bool.{Bool, true, false, cond}
+use mathlib.Core.Bool.{Bool}
 use mathlib.Core.List.{List, [], _∷_, _++_, append-nil, append-assoc}
 use Prim.Native.Nat.{ℕ, _*_, _^_, _≤_, _<_}
 use native.Mathlib.Omega.{arith}
-use borrow.Author.Tests.{eq-eqb, ne-eqb, eqb-false, lt-ltb, le-ltb}
+use borrow.Author.Tests.{eq-eqb}
 use denote.Ref.{now}
-use lib.Dec.{T, eqb, ltb}
+use lib.Dec.{T, eqb}
 use lib.Ieee.{Float, binary64, fits}
 use lib.ListN.{length, getD, take, drop, length-append}
 use lib.Seq.{take-all, take-at, drop-at}
-use Rattle.exact.specs.Determined as exact
+use Rattle.exact.specs.Determined.{Determined, DeterminedWith}
 use Rattle.little_endian.specs.Bytes.{value, bytes, half, word, float, floats}
 use Rattle.little_endian.proofs.Laws.{length-bytes, length-floats, value-bytes, float-at}
 use Rattle.lens.specs.Distorted.{told-pixel}
@@ -24,13 +24,17 @@ use Rattle.lens.specs.declared.Undistorted.{Undistorted}
 use Rattle.lens.specs.declared.Undistorted.the-variants as points
 use Rattle.camera.specs.Camera.{distort, undistort, dx-distort-x, dx-distort-params}
 use Rattle.camera.specs.declared.Camera.{Camera}
-use Rattle.lens_c.specs.Given.{Given, given, code, answered}
-use Rattle.lens_c.specs.LensC.{pixel-bytes, flag-number, point-bytes, jacobian-bytes, give-jacobian, given-pixel, given-point, distorted, undistorted, slopes, parameter-slopes, lens-distort, lens-undistort, lens-dx-distort-x, lens-dx-distort-params, lens-tangent}
-use Rattle.lens_c.specs.Reading.{count, camera-of, read}
-use Rattle.lens_c.specs.declared.Asked.{Asked}
-use Rattle.lens_c.specs.declared.Asked.the-variants.{Of}
-use Rattle.lens_c.proofs.Counted.{read-camera, other-for-params}
-use Rattle.lens_c.proofs.Giving.{right-length}
+use Rattle.given.specs.Given.{Given, given, code}
+use Rattle.turn_bytes.proofs.Laws.{all-handed}
+use Rattle.given.proofs.Laws.{both, Untouched, refused-kept, filled}
+use Rattle.lens_c.specs.LensC.{pixel-bytes, flag-number, point-bytes, jacobian-bytes, give-pixel, give-jacobian, given-pixel, given-point, distorted, undistorted, slopes, parameter-slopes, lens-distort, lens-undistort, lens-dx-distort-x, lens-dx-distort-params, lens-tangent, lens-lookup}
+use Rattle.lookup.specs.Lookup.{lookup}
+use Rattle.job_bytes.specs.Bytes.{box-at}
+use Rattle.camera_bytes.specs.Reading.{count, camera-of, read}
+use Rattle.camera_bytes.specs.declared.Asked.{Asked}
+use Rattle.camera_bytes.specs.declared.Asked.the-variants.{Of}
+use Rattle.camera_bytes.proofs.Counted.{read-camera}
+use Rattle.lens_c.proofs.Counted.{other-for-params}
 use Rattle.lens_c.proofs.lens_distort.Reads as lens-distort-contract
 use Rattle.lens_c.proofs.lens_undistort.Reads as lens-undistort-contract
 use Rattle.lens_c.proofs.lens_dx_distort_x.Reads as lens-dx-distort-x-contract
@@ -38,25 +42,21 @@ use Rattle.lens_c.proofs.lens_dx_distort_params.Reads as lens-dx-distor
 use Rattle.lens_c.proofs.lens_root.Reads as lens-root-contract
 use Rattle.lens_c.proofs.lens_arctangent.Reads as lens-arctangent-contract
 use Rattle.lens_c.proofs.lens_tangent.Reads as lens-tangent-contract
+use Rattle.lens_c.proofs.lens_lookup.Reads as lens-lookup-contract
+use Rattle.lens_c.proofs.lens_observe.Reads as lens-observe-contract
+use Rattle.lens_c.proofs.lens_job_new.Reads as lens-job-new-contract
+use Rattle.lens_c.proofs.lens_turn.Reads as lens-turn-contract
 
 -- ---- each contract permits one answer, and one buffer
 
--- Any two numbers that a contract permits to one call are equal, and so are any two buffers at the return: `buffer` says where among the arguments
--- at the return it is. (This is `Determined` of the crate exact, with the buffer beside the answer.)
-abbrev Determined : {K : Type 0} {A R S : K → Type 0} → ((κ : K) → A κ → R κ → S κ → Type 0) → ((κ : K) → S κ → List ℕ) → Type 0
-Determined {K} {A} {R} {S} post buffer =
-    (κ : K) (a : A κ) (s s' : S κ) (r r' : R κ) → post κ a r s → post κ a r' s' → (r ≡ r') × (buffer κ s ≡ buffer κ s')
-
-both : {o o' : List ℕ} {r r' : ℕ} → given r o ≡ given r' o' → (r ≡ r') × (o ≡ o')
-both e = (ap (λ (g : Given). g .code) e, ap (λ (g : Given). g .answer) e)
-
--- Of the four lens operations and the tangent, the latter by the name that the crate arctan gives it.
+-- Any two numbers that a contract permits to one call are equal, and so are any two buffers at the return: of the four lens operations and the tangent, the latter by the
+-- name that the crate arctan gives it.
 pub determined :
-    Determined lens-distort-contract.Post (λ κ s. now (s .1 .1 .1 .1 .0))
-    × Determined lens-undistort-contract.Post (λ κ s. now (s .1 .1 .1 .1 .0))
-    × Determined lens-dx-distort-x-contract.Post (λ κ s. now (s .1 .1 .1 .1 .0))
-    × Determined lens-dx-distort-params-contract.Post (λ κ s. now (s .1 .1 .1 .1 .0))
-    × Determined lens-tangent-contract.Post (λ κ s. now (s .1 .0))
+    DeterminedWith lens-distort-contract.Post (λ κ s. now (s .1 .1 .1 .1 .0))
+    × DeterminedWith lens-undistort-contract.Post (λ κ s. now (s .1 .1 .1 .1 .0))
+    × DeterminedWith lens-dx-distort-x-contract.Post (λ κ s. now (s .1 .1 .1 .1 .0))
+    × DeterminedWith lens-dx-distort-params-contract.Post (λ κ s. now (s .1 .1 .1 .1 .0))
+    × DeterminedWith lens-tangent-contract.Post (λ κ s. now (s .1 .0))
 determined = (
   λ κ a s s' r r' p q. both (p ∙ sym q),
   λ κ a s s' r r' p q. both (p ∙ sym q),
@@ -65,61 +65,24 @@ determined = (
   λ κ a s s' r r' p q. both (p .0 ∙ sym (q .0)),
 )
 
+-- Of lookup, the list of observations, a fresh job and a turn.
+pub determined-for-tables :
+    DeterminedWith lens-lookup-contract.Post (λ κ s. now (s .1 .1 .1 .1 .1 .1 .0))
+    × DeterminedWith lens-observe-contract.Post (λ κ s. now (s .1 .1 .0))
+    × DeterminedWith lens-job-new-contract.Post (λ κ s. now (s .1 .1 .1 .1 .0))
+    × DeterminedWith {L = List ℕ × List Float × List ℕ} lens-turn-contract.Post (λ κ s. (now (s .0), now (s .1 .0), now (s .1 .1 .1 .0)))
+determined-for-tables = (
+  λ κ a s s' r r' p q. both (p ∙ sym q),
+  λ κ a s s' r r' p q. both (p ∙ sym q),
+  λ κ a s s' r r' p q. both (p ∙ sym q),
+  λ κ a s s' r r' p q. all-handed (p ∙ sym q),
+)
+
 -- Of root and arctangent.
-pub determined-numbers : exact.Determined lens-root-contract.Post × exact.Determined lens-arctangent-contract.Post
+pub determined-numbers : Determined lens-root-contract.Post × Determined lens-arctangent-contract.Post
 determined-numbers = (λ κ a s s' r r' p q. p ∙ sym q, λ κ a s s' r r' p q. p .0 ∙ sym (q .0))
 
 -- ---- the number and the buffer
-
--- The buffer as it was, unless the number is 0.
-abbrev Untouched : Given → List ℕ → Type 0
-Untouched g lent = (g .code ≡ 0 → ⊥) → g .answer ≡ lent
-
-lower : (own : ℕ) (right : Bool) → 0 < own → own < 7 → code own right ≡ own
-unfolding code
-lower own true h l = refl
-lower own false h l =
-    ap (λ (b : Bool). cond b 7 (cond (ltb own 7) own 7)) (ne-eqb own 0 (omega arith)) ∙ ap (λ (b : Bool). cond b own 7) (lt-ltb own 7 l)
-
-seven : (own : ℕ) (z : Bool) → eqb own 0 ≡ z → (0 < own → 7 ≤ own) → code own false ≡ 7
-unfolding code
-seven own true e o = ap (λ (b : Bool). cond b 7 (cond (ltb own 7) own 7)) e
-seven own false e o =
-    let above : 7 ≤ own = o (omega (arith, eqb-false own 0 e)) in
-    ap (λ (b : Bool). cond b 7 (cond (ltb own 7) own 7)) e ∙ ap (λ (b : Bool). cond b own 7) (le-ltb own 7 above)
-
-module _ (size own : ℕ) (new lent : List ℕ) where
-  refused-kept : Untouched (answered size own new lent) lent
-  unfolding answered
-  refused-kept n = ap (λ (b : Bool). cond b new lent) (ne-eqb (code own (eqb (length lent) size)) 0 n)
-
-  -- An operation that answers, before a buffer of its length: 0 and the answer's bytes, all of them.
-  pub filled : own ≡ 0 → length lent ≡ size → answered size own new lent ≡ given 0 new
-  unfolding answered code
-  filled e f =
-      let right : eqb (length lent) size ≡ true = eq-eqb (length lent) size f in
-      let told : code own (eqb (length lent) size) ≡ 0 = ap (code own) right ∙ e in
-      ap (λ (n : ℕ). given n (cond (eqb n 0) new lent)) told
-
-  -- 0 is told in no other case.
-  pub told-zero : answered size own new lent .code ≡ 0 → (own ≡ 0) × (length lent ≡ size)
-  unfolding answered code
-  told-zero e =
-      let f : length lent ≡ size = right-length own size lent e in
-      (sym (ap (code own) (eq-eqb (length lent) size f)) ∙ e, f)
-
-  -- Before a buffer of the right length the operation's own number is told; before another a refusal below 7, and else 7.
-  pub told-own : length lent ≡ size → answered size own new lent .code ≡ own
-  unfolding answered code
-  told-own f = ap (code own) (eq-eqb (length lent) size f)
-
-  pub told-lower : 0 < own → own < 7 → answered size own new lent .code ≡ own
-  unfolding answered
-  told-lower h l = lower own (eqb (length lent) size) h l
-
-  pub told-7 : (0 < own → 7 ≤ own) → (length lent ≡ size → ⊥) → answered size own new lent .code ≡ 7
-  unfolding answered
-  told-7 o f = ap (code own) (ne-eqb (length lent) size f) ∙ seven own (eqb own 0) refl o
 
 -- A refused call writes nothing: whatever is handed in, with every number but 0 the buffer comes back as it was.
 pub refused-untouched :
@@ -132,6 +95,24 @@ pub refused-untouched :
 unfolding lens-distort lens-undistort lens-dx-distort-x lens-dx-distort-params lens-tangent
 refused-untouched model params lent x y =
     (refused-kept 16 _ _ lent, refused-kept 24 _ _ lent, refused-kept 200 _ _ lent, refused-kept 200 _ _ lent, refused-kept 8 _ _ lent)
+
+-- Nor does a lookup that is refused. (The same of a list and of a fresh job: laws of observation_bytes and job_bytes.)
+pub lookup-untouched : (table : List Float) (region lent : List ℕ) (width height : ℕ) (x y : Float) → Untouched (lens-lookup table region width height x y lent) lent
+unfolding lens-lookup
+lookup-untouched table region lent width height x y = refused-kept 16 _ _ lent
+
+-- Where a table has a pixel at the point, 0 is returned, and 16 bytes are the pixel's.
+pub lookup-answered :
+    (table : List Float) (region lent : List ℕ) (width height : ℕ) (x y : Float) (pixel : Pixel) →
+    lookup table (box-at region 0) width height record { 0 = x; 1 = y } ≡ pixels.At pixel →
+    length region ≡ 32 →
+    length lent ≡ 16 →
+    lens-lookup table region width height x y lent ≡ given 0 (pixel-bytes pixel)
+unfolding lens-lookup code
+lookup-answered table region lent width height x y pixel e r f =
+    ap (λ (d : Distorted). give-pixel (code (told-pixel d .number) (eqb (length region) 32)) (told-pixel d .pixel) lent) e
+    ∙ ap (λ (b : Bool). give-pixel (code 0 b) pixel lent) (eq-eqb (length region) 32 r)
+    ∙ filled 16 0 (pixel-bytes pixel) lent refl f
 
 -- ---- from a camera to its answer in the buffer
 

@@ -2,7 +2,9 @@
 use mathlib.Core.Bool.{Bool, cond}
 use mathlib.Core.List.{List, [], _∷_, _++_}
 use Prim.Native.Nat.{ℕ}
+use lib.Dec.{eqb}
 use lib.Ieee.{Float}
+use lib.ListN.{length}
 use Rattle.little_endian.specs.Bytes.{bytes, floats}
 use Rattle.arctan.specs.Tangent.{tangent}
 use Rattle.arctan.specs.declared.Slope.{Slope}
@@ -22,10 +24,13 @@ use Rattle.lens.specs.declared.Undistorted.{Undistorted}
 use Rattle.lens.specs.declared.Undistorted.the-variants as points
 use Rattle.camera.specs.Camera.{distort, undistort, refused, dx-distort-x, dx-distort-params}
 use Rattle.camera.specs.declared.Differentiated.{Differentiated}
-use Rattle.lens_c.specs.Reading.{read, read-for-params}
-use Rattle.lens_c.specs.Given.{Given, answered}
-use Rattle.lens_c.specs.declared.Asked.{Asked}
-use Rattle.lens_c.specs.declared.Asked.the-variants.{Of, Refused}
+use Rattle.camera_bytes.specs.Reading.{read}
+use Rattle.lens_c.specs.Reading.{read-for-params}
+use Rattle.given.specs.Given.{Given, code, answered}
+use Rattle.lookup.specs.Lookup.{lookup}
+use Rattle.job_bytes.specs.Bytes.{box-at}
+use Rattle.camera_bytes.specs.declared.Asked.{Asked}
+use Rattle.camera_bytes.specs.declared.Asked.the-variants.{Of, Refused}
 
 -- ---- an answer's bytes
 
@@ -109,3 +114,9 @@ lens-dx-distort-params model params x y lent = give-jacobian (parameter-slopes (
 
 unfoldable pub lens-tangent : Float → List ℕ → Given
 lens-tangent theta lent = give-slope (slope-number (tangent theta)) (slope-value (tangent theta)) lent
+
+-- the region is of 32 bytes; 7 if it has another length, and the lowest refusal is told
+unfoldable pub lens-lookup : List Float → List ℕ → ℕ → ℕ → Float → Float → List ℕ → Given
+lens-lookup table region width height x y lent =
+    let t = told-pixel (lookup table (box-at region 0) width height record { 0 = x; 1 = y }) in
+    give-pixel (code (t .number) (eqb (length region) 32)) (t .pixel) lent

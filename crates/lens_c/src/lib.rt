@@ -1,4 +1,4 @@
-// The lens operations, root, arctangent and tangent for C: numbers and bytes in, a number out, the answer's bytes in a buffer that the caller lends. What is refused writes nothing.
+// The lens operations, root, arctangent and tangent, and a table's making and use, for C: numbers and bytes in, a number out, the answer's bytes in a buffer that the caller lends. What is refused writes nothing.
 ghost use mathlib.Core.Path.{_≡_};
 ghost use Rattle.root.specs.Root.{root};
 ghost use Rattle.arctan.specs.Arctangent.{arctangent};
@@ -8,143 +8,21 @@ ghost use Rattle.arctan.specs.Tangent.{tangent};
 ghost use Rattle.lens.specs.Distorted.{told-pixel};
 ghost use Rattle.lens.specs.Undistorted.{told};
 ghost use Rattle.camera.specs.Camera.{refused};
-ghost use Rattle.lens_c.specs.Given.{given, code};
-ghost use Rattle.lens_c.specs.LensC.{flag-number, give-pixel, give-point, give-jacobian, give-slope, distorted, undistorted, slopes, parameter-slopes, slope-number, slope-value, lens-distort, lens-undistort, lens-dx-distort-x, lens-dx-distort-params, lens-tangent};
-ghost use Rattle.lens_c.specs.Reading.{affine, enhanced-unified, kannala-brandt, brown-conrady, count, camera-of, read, read-for-params};
-use affine::AffineParams;
+ghost use Rattle.given.specs.Given.{given};
+ghost use Rattle.lens_c.specs.LensC.{flag-number, give-pixel, give-point, give-jacobian, give-slope, distorted, undistorted, slopes, parameter-slopes, slope-number, slope-value, lens-distort, lens-undistort, lens-dx-distort-x, lens-dx-distort-params, lens-tangent, lens-lookup};
+ghost use Rattle.job_bytes.specs.Bytes.{fresh-bytes};
+ghost use Rattle.observation_bytes.specs.Bytes.{observe-bytes};
+ghost use Rattle.turn_bytes.specs.Turn.{handed, turn-bytes};
+ghost use Rattle.lens_c.specs.Reading.{read-for-params};
 use arctan::Slope;
-use brown_conrady::BrownConradyParams;
-use camera::Camera;
 use camera::Differentiated;
-use enhanced_unified::EnhancedUnifiedParams;
-use kannala_brandt::KannalaBrandtParams;
+use camera_bytes::Asked;
 use lens::Distorted;
 use lens::Pixel;
 use lens::Point;
 use lens::Refusal;
 use lens::Settled;
 use lens::Undistorted;
-
-// What a caller asks of: the camera of a model's number and its parameters' bytes, or why there is none.
-enum Asked {
-    Of(Camera),
-    Refused(Refusal),
-}
-
-// Each of these four says where its model's parameters stand.
-fn affine_of(params: &[u8]) -> Camera
-    ensures { λ r. ⌜ r ≡ affine (now (params .entry)) ⌝ }
-{
-    Camera::Affine(AffineParams {
-        fx: little_endian::float(params, 0),
-        fy: little_endian::float(params, 8),
-        cx: little_endian::float(params, 16),
-        cy: little_endian::float(params, 24),
-    })
-}
-
-fn enhanced_unified_of(params: &[u8]) -> Camera
-    ensures { λ r. ⌜ r ≡ enhanced-unified (now (params .entry)) ⌝ }
-{
-    Camera::EnhancedUnified(EnhancedUnifiedParams {
-        fx: little_endian::float(params, 0),
-        fy: little_endian::float(params, 8),
-        cx: little_endian::float(params, 16),
-        cy: little_endian::float(params, 24),
-        alpha: little_endian::float(params, 32),
-        beta: little_endian::float(params, 40),
-    })
-}
-
-fn kannala_brandt_of(params: &[u8]) -> Camera
-    ensures { λ r. ⌜ r ≡ kannala-brandt (now (params .entry)) ⌝ }
-{
-    Camera::KannalaBrandt(KannalaBrandtParams {
-        fx: little_endian::float(params, 0),
-        fy: little_endian::float(params, 8),
-        cx: little_endian::float(params, 16),
-        cy: little_endian::float(params, 24),
-        k0: little_endian::float(params, 32),
-        k1: little_endian::float(params, 40),
-        k2: little_endian::float(params, 48),
-        k3: little_endian::float(params, 56),
-    })
-}
-
-fn brown_conrady_of(params: &[u8]) -> Camera
-    ensures { λ r. ⌜ r ≡ brown-conrady (now (params .entry)) ⌝ }
-{
-    Camera::BrownConrady(BrownConradyParams {
-        fx: little_endian::float(params, 0),
-        fy: little_endian::float(params, 8),
-        cx: little_endian::float(params, 16),
-        cy: little_endian::float(params, 24),
-        k1: little_endian::float(params, 32),
-        k2: little_endian::float(params, 40),
-        p1: little_endian::float(params, 48),
-        p2: little_endian::float(params, 56),
-        k3: little_endian::float(params, 64),
-        k4: little_endian::float(params, 72),
-        k5: little_endian::float(params, 80),
-        k6: little_endian::float(params, 88),
-    })
-}
-
-// How many parameters a model has, of the models 0 to 3.
-fn count(model: u8) -> u8
-    ensures { λ r. ⌜ r ≡ count model ⌝ }
-{
-    if model == 0 {
-        4
-    } else if model == 1 {
-        6
-    } else if model == 2 {
-        8
-    } else {
-        12
-    }
-}
-
-// The camera of a model, of the models 0 to 3.
-fn camera_of(model: u8, params: &[u8]) -> Camera
-    ensures { λ r. ⌜ r ≡ camera-of model (now (params .entry)) ⌝ }
-{
-    if model == 0 {
-        affine_of(params)
-    } else if model == 1 {
-        enhanced_unified_of(params)
-    } else if model == 2 {
-        kannala_brandt_of(params)
-    } else {
-        brown_conrady_of(params)
-    }
-}
-
-// 1, then 3, or the camera.
-fn read(model: u8, params: &[u8]) -> Asked
-    ensures { λ r. ⌜ r ≡ read model (now (params .entry)) ⌝ }
-{
-    if model <= 3 {
-        if params.len() == 8 * count(model) as usize {
-            return Asked::Of(camera_of(model, params));
-        }
-        return Asked::Refused(Refusal::WrongCount);
-    }
-    Asked::Refused(Refusal::UnknownModel)
-}
-
-// What a call is answered: the operation's own number, or 7 if the buffer is not of the answer's length, the lower of the two where both refuse.
-fn code(own: u8, right: bool) -> u8
-    ensures { λ r. ⌜ r ≡ code own right ⌝ }
-{
-    if right {
-        return own;
-    }
-    if own == 0 {
-        return 7;
-    }
-    if own < 7 { own } else { 7 }
-}
 
 // What distort tells: its number, and its pixel or zeros.
 struct ToldPixel {
@@ -178,7 +56,7 @@ fn distorted(asked: Asked, point: Point) -> Distorted
 fn give_pixel(told: ToldPixel, answer: &mut [u8]) -> u8
     ensures { λ r. ⌜ given r (now (answer .exit)) ≡ give-pixel (told .number) (told .pixel) (now (answer .entry)) ⌝ }
 {
-    let code = code(told.number, answer.len() == 16);
+    let code = given::code(told.number, answer.len() == 16);
     if code == 0 {
         let pixel = told.pixel;
         little_endian::put_floats(answer, 0, &[pixel.0, pixel.1]);
@@ -191,7 +69,7 @@ fn give_pixel(told: ToldPixel, answer: &mut [u8]) -> u8
 pub extern "C" fn lens_distort(model: u8, params: &[u8], x: f64, y: f64, answer: &mut [u8]) -> u8
     ensures { λ r. ⌜ given r (now (answer .exit)) ≡ lens-distort model (now (params .entry)) x y (now (answer .entry)) ⌝ }
 {
-    let told = told_pixel(distorted(read(model, params), Point(x, y)));
+    let told = told_pixel(distorted(camera_bytes::read(model, params), Point(x, y)));
     give_pixel(told, answer)
 }
 
@@ -241,7 +119,7 @@ fn flag_number(flag: bool) -> u64
 fn give_point(told: ToldPoint, answer: &mut [u8]) -> u8
     ensures { λ r. ⌜ given r (now (answer .exit)) ≡ give-point (told .number) (told .settled) (now (answer .entry)) ⌝ }
 {
-    let code = code(told.number, answer.len() == 24);
+    let code = given::code(told.number, answer.len() == 24);
     if code == 0 {
         let settled = told.settled;
         let point = settled.point;
@@ -257,7 +135,7 @@ fn give_point(told: ToldPoint, answer: &mut [u8]) -> u8
 pub extern "C" fn lens_undistort(model: u8, params: &[u8], u: f64, v: f64, answer: &mut [u8]) -> u8
     ensures { λ r. ⌜ given r (now (answer .exit)) ≡ lens-undistort model (now (params .entry)) u v (now (answer .entry)) ⌝ }
 {
-    let told = told_point(undistorted(read(model, params), Pixel(u, v)));
+    let told = told_point(undistorted(camera_bytes::read(model, params), Pixel(u, v)));
     give_point(told, answer)
 }
 
@@ -293,7 +171,7 @@ fn parameter_slopes(asked: Asked, point: Point) -> Differentiated
 fn give_jacobian(told: Differentiated, answer: &mut [u8]) -> u8
     ensures { λ r. ⌜ given r (now (answer .exit)) ≡ give-jacobian told (now (answer .entry)) ⌝ }
 {
-    let code = code(told.number, answer.len() == 200);
+    let code = given::code(told.number, answer.len() == 200);
     if code == 0 {
         let jacobian = told.jacobian;
         let entries = jacobian.entries;
@@ -314,7 +192,7 @@ pub extern "C" fn lens_dx_distort_x(
 ) -> u8
     ensures { λ r. ⌜ given r (now (answer .exit)) ≡ lens-dx-distort-x model (now (params .entry)) x y (now (answer .entry)) ⌝ }
 {
-    let told = slopes(read(model, params), Point(x, y));
+    let told = slopes(camera_bytes::read(model, params), Point(x, y));
     give_jacobian(told, answer)
 }
 
@@ -325,7 +203,7 @@ fn read_for_params(model: u8, params: &[u8]) -> Asked
     if model == 3 {
         return Asked::Refused(Refusal::NoParameterJacobian);
     }
-    read(model, params)
+    camera_bytes::read(model, params)
 }
 
 // The derivative of distort by the parameters, in the same form.
@@ -381,7 +259,7 @@ fn told_slope(slope: Slope) -> ToldSlope
 fn give_slope(told: ToldSlope, answer: &mut [u8]) -> u8
     ensures { λ r. ⌜ given r (now (answer .exit)) ≡ give-slope (told .number) (told .slope) (now (answer .entry)) ⌝ }
 {
-    let code = code(told.number, answer.len() == 8);
+    let code = given::code(told.number, answer.len() == 8);
     if code == 0 {
         little_endian::put_floats(answer, 0, &[told.slope]);
     }
@@ -396,4 +274,64 @@ pub extern "C" fn lens_tangent(theta: f64, answer: &mut [u8]) -> u8
 {
     let told = told_slope(arctan::tangent(theta));
     give_slope(told, answer)
+}
+
+// The pixel at the point (x, y) between a table's cells: u and v, 16 bytes. The region is 32 bytes: left, top, right and bottom.
+#[no_mangle]
+pub extern "C" fn lens_lookup(
+    table: &[f32],
+    region: &[u8],
+    width: u32,
+    height: u32,
+    x: f64,
+    y: f64,
+    answer: &mut [u8],
+) -> u8
+    ensures { λ r. ⌜ given r (now (answer .exit)) ≡ lens-lookup (now (table .entry)) (now (region .entry)) width height x y (now (answer .entry)) ⌝ }
+{
+    let told = told_pixel(lookup::lookup(
+        table,
+        job_bytes::region_of(region),
+        width as usize,
+        height as usize,
+        Point(x, y),
+    ));
+    let number = given::code(told.number, region.len() == 32);
+    let pixel = told.pixel;
+    give_pixel(ToldPixel { number, pixel }, answer)
+}
+
+// The point of every pixel of a list, whose records have 40 bytes.
+#[no_mangle]
+pub extern "C" fn lens_observe(model: u8, params: &[u8], list: &mut [u8]) -> u8
+    ensures { λ r. ⌜ given r (now (list .exit)) ≡ observe-bytes model (now (params .entry)) (now (list .entry)) ⌝ }
+{
+    observation_bytes::observe(model, params, list)
+}
+
+// A fresh record of a table that is to be built, 184 bytes.
+#[no_mangle]
+pub extern "C" fn lens_job_new(
+    model: u8,
+    params: &[u8],
+    width: u32,
+    height: u32,
+    job: &mut [u8],
+) -> u8
+    ensures { λ r. ⌜ given r (now (job .exit)) ≡ fresh-bytes model (now (params .entry)) width height (now (job .entry)) ⌝ }
+{
+    job_bytes::fresh(model, params, width, height, job)
+}
+
+// A turn of a table that is being built: so many units, or fewer if one refuses or none is left. What it came to is 32 bytes.
+#[no_mangle]
+pub extern "C" fn lens_turn(
+    job: &mut [u8],
+    table: &mut [f32],
+    allowance: u64,
+    answer: &mut [u8],
+) -> u8
+    ensures { λ r. ⌜ handed r (now (job .exit)) (now (table .exit)) (now (answer .exit)) ≡ turn-bytes (now (job .entry)) (now (table .entry)) allowance (now (answer .entry)) ⌝ }
+{
+    turn_bytes::turn(job, table, allowance, answer)
 }

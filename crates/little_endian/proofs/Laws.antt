@@ -12,7 +12,7 @@ use lib.Ieee.{Float, binary64, fits, toBits}
 use lib.Ieee.Bits.{ofBits-toBits, toBits-lt}
 use lib.ListN.{length, getD, take, drop, length-append, drop-of-length-le}
 use lib.Seq.{sets, length-sets, sets-eq, length-take-le, take-append-seam, take-at, drop-at, drop-append-add}
-use Rattle.exact.specs.Determined.{Determined}
+use Rattle.exact.specs.Determined.{Determined, DeterminedWith}
 use Rattle.exact.specs.F64.{f64}
 use Rattle.little_endian.specs.Bytes.{value, bytes, half, word, float, floats, put}
 use Rattle.little_endian.proofs.Writing as writing
@@ -28,12 +28,9 @@ use Rattle.little_endian.proofs.put_floats.Reads as put-floats-contract
 pub determined : Determined half-contract.Post × Determined word-contract.Post × Determined float-contract.Post
 determined = (λ κ a s s' r r' p q. p ∙ sym q, λ κ a s s' r r' p q. p ∙ sym q, λ κ a s s' r r' p q. p ∙ sym q)
 
--- Any two buffers that the contract of a writer permits after one call are equal: `buffer` says where among the arguments at the return it is.
-abbrev Buffered : {K : Type 0} {A R S : K → Type 0} → ((κ : K) → A κ → R κ → S κ → Type 0) → ((κ : K) → S κ → List ℕ) → Type 0
-Buffered {K} {A} {R} {S} post buffer = (κ : K) (a : A κ) (s s' : S κ) (r r' : R κ) → post κ a r s → post κ a r' s' → buffer κ s ≡ buffer κ s'
-
-pub determined-buffers : Buffered put-contract.Post (λ κ s. now (s .0)) × Buffered put-floats-contract.Post (λ κ s. now (s .0))
-determined-buffers = (λ κ a s s' r r' p q. p ∙ sym q, λ κ a s s' r r' p q. p ∙ sym q)
+-- Any two buffers that the contract of a writer permits after one call are equal; it has one answer only.
+pub determined-buffers : DeterminedWith put-contract.Post (λ κ s. now (s .0)) × DeterminedWith put-floats-contract.Post (λ κ s. now (s .0))
+determined-buffers = (λ κ a s s' r r' p q. (refl, p ∙ sym q), λ κ a s s' r r' p q. (refl, p ∙ sym q))
 
 -- ---- numbers and their bytes
 
@@ -84,7 +81,8 @@ module _ (at : ℕ) (new bs : List ℕ) where
   not-put h = sym (writing.not-fitting at new bs h)
 
   module _ (h : at + length new ≤ length bs) where
-    is-put : put at new bs ≡ take at bs ++ new ++ drop (at + length new) bs
+    -- What fits stands between what was before it and what was behind it.
+    pub is-put : put at new bs ≡ take at bs ++ new ++ drop (at + length new) bs
     is-put = writing.fitting at new bs h ∙ sets-eq new bs at h
 
     before : length (take at bs) ≡ at

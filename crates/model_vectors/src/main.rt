@@ -12,7 +12,6 @@ use brown_conrady::BrownConradyParams;
 use camera::Camera;
 use camera::Differentiated;
 use enhanced_unified::EnhancedUnifiedParams;
-use hex::Bits;
 use kannala_brandt::KannalaBrandtParams;
 use lens::Distorted;
 use lens::Pixel;
@@ -27,35 +26,6 @@ use libc::STDOUT_FILENO;
 const FIELDS: usize = 16;
 
 const LINE: usize = 272;
-
-// The number in each field of a line, and whether the line is of the form. No enum: one that held the
-// array would have to be proved by hand.
-struct Question {
-    good: bool,
-    numbers: [u64; FIELDS],
-}
-
-// What a line asks.
-fn asked(line: &[u8; LINE]) -> Question {
-    let mut numbers: [u64; FIELDS] = [0; FIELDS];
-    let mut i = 0;
-    while i < FIELDS {
-        let Bits::Of(n) = hex::field(line, i) else {
-            return Question {
-                good: false,
-                numbers,
-            };
-        };
-        numbers[i] = n;
-        i += 1;
-    }
-    let good = if numbers[0] < 4 {
-        numbers[1] < 4
-    } else {
-        false
-    };
-    Question { good, numbers }
-}
 
 // Each of these four says where its model's parameters stand.
 fn affine_asked(q: &[u64; FIELDS]) -> Camera {
@@ -220,12 +190,20 @@ fn refuse() {
     io::write_all(STDOUT_FILENO, b"bad");
 }
 
+// Answers a line of numbers, if there is such a model and such an operation.
+fn answer_numbers(q: &[u64; FIELDS]) {
+    if q[0] < 4 && q[1] < 4 {
+        answer_question(q);
+    } else {
+        refuse();
+    }
+}
+
 // Answers one line.
 fn answer(line: &[u8; LINE]) {
-    let question = asked(line);
-    if question.good {
-        let numbers = question.numbers;
-        answer_question(&numbers);
+    let mut numbers: [u64; FIELDS] = [0; FIELDS];
+    if hex::fields(line, &mut numbers) {
+        answer_numbers(&numbers);
     } else {
         refuse();
     }

@@ -17,7 +17,7 @@ use denote.Ref.{now}
 use denote.Triple.Clauses.{AtExit}
 use denote.Triple.Entry.{Args, Res}
 use borrow.Author.Tests.{eq-eqb, ne-eqb}
-use Rattle.exact.specs.Determined.{DeterminedWith}
+use Rattle.exact.specs.Determined.{Determined, DeterminedWith}
 use Rattle.lens.specs.Constants.{zeros}
 use Rattle.lens.specs.Finite.{all-finite}
 use Rattle.lens.specs.Refusal.{number}
@@ -32,10 +32,12 @@ use Rattle.camera.specs.Rows.{undistort-rows}
 use Rattle.lens.specs.Rows.{_when_, first}
 use Rattle.camera.specs.declared.Camera.{Camera}
 use Rattle.camera.proofs.Laws.{undistort-number}
-use Rattle.observations.specs.Observations.{beside, observed, refusal-of, Listed, listed, observe-all}
+use Rattle.observations.specs.Observations.{beside, observed, refusal-of, Listed, listed, observe-all, seen}
 use Rattle.observations.specs.declared.Observation.{Observation}
 use Rattle.observations.proofs.Written as loop
 use Rattle.observations.proofs.observe_all as observe-all-contract
+use Rattle.observations.proofs.refusal_of.Reads as refusal-of-contract
+use Rattle.observations.proofs.seen.Reads as seen-contract
 
 -- ---- the contract permits one answer, and one list
 
@@ -52,6 +54,14 @@ post-is 𝓤 H A mem run κ a r s = refl
 -- Any two numbers that the contract permits to one call are equal, and so are any two lists that it permits at the return.
 pub observe-all-determined : DeterminedWith Post (λ κ s. now (s .1 .0))
 observe-all-determined κ a s s' r r' p q = (ap (λ (l : Listed). l .number) (p ∙ sym q), ap (λ (l : Listed). l .list) (p ∙ sym q))
+
+-- Any two answers that the contracts of `refusal_of` and `seen` permit to one call are equal.
+pub parts-determined : Determined refusal-of-contract.Post × Determined seen-contract.Post
+parts-determined = (λ κ a s s' r r' p q. p ∙ sym q, λ κ a s s' r r' p q. p ∙ sym q)
+
+-- A camera with the number 0 need not be judged again: a record that is only seen is observed.
+pub seen-observed : (camera : Camera) (o : Observation) → refusal-of camera ≡ 0 → seen camera o ≡ observed camera o
+seen-observed = loop.seen-observed
 
 -- ---- the list
 

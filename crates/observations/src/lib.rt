@@ -8,8 +8,7 @@ use lens::Point;
 use lens::Refusal;
 use lens::Undistorted;
 
-// A pixel, and what undistort makes of it: number 0 with its answer and flag, or a refusal's number with zeros and no. C hands over an array of these: five places in this order.
-#[repr(C)]
+// A pixel, and what undistort makes of it: number 0 with its answer and flag, or a refusal's number with zeros and no.
 pub struct Observation {
     pub pixel: Pixel,
     pub answer: Point,
@@ -18,7 +17,7 @@ pub struct Observation {
 }
 
 // What the camera by itself is refused with: 4, then 5, or 0 for none.
-fn refusal_of(camera: Camera) -> u8
+pub fn refusal_of(camera: Camera) -> u8
     ensures { λ r. ⌜ r ≡ refusal-of camera ⌝ }
 {
     if camera::finite_parameters(camera) {
@@ -73,8 +72,8 @@ fn beside(pixel: Pixel, undistorted: Undistorted) -> Observation
     }
 }
 
-// One record after the call. Only its pixel is read.
-fn seen(camera: Camera, before: Observation) -> Observation
+// One record after the call, for a camera that is not refused. Only its pixel is read.
+pub fn seen(camera: Camera, before: Observation) -> Observation
     ensures { λ r. ⌜ r ≡ seen camera before ⌝ }
 {
     let pixel = before.pixel;

@@ -7,7 +7,6 @@
 // 304; then bit patterns of f64s, twelve parameters and two coordinates. The answer's line starts with what lens_c returns.
 // After a 0 come the words of the answer. A line that is not of that form is answered by `bad`, and a refusal that touched what
 // was lent by `touched`. The last line says how many were answered.
-use hex::Bits;
 use libc::STDIN_FILENO;
 use libc::STDOUT_FILENO;
 
@@ -21,32 +20,6 @@ const MOST: usize = 304;
 
 // What lent bytes hold before a call.
 const FILL: u8 = 165;
-
-// The number in each field of a line, and whether the line is of the form.
-struct Question {
-    good: bool,
-    numbers: [u64; FIELDS],
-}
-
-// The numbers of a line.
-fn asked(line: &[u8; LINE]) -> Question {
-    let mut numbers: [u64; FIELDS] = [0; FIELDS];
-    let mut i = 0;
-    while i < FIELDS {
-        let Bits::Of(n) = hex::field(line, i) else {
-            return Question {
-                good: false,
-                numbers,
-            };
-        };
-        numbers[i] = n;
-        i += 1;
-    }
-    Question {
-        good: true,
-        numbers,
-    }
-}
 
 // Writes the twelve parameters to the bytes.
 fn put_parameters(q: &[u64; FIELDS], bytes: &mut [u8]) {
@@ -151,9 +124,8 @@ fn answer_question(q: &[u64; FIELDS]) {
 
 // Answers one line.
 fn answer(line: &[u8; LINE]) {
-    let question = asked(line);
-    if question.good {
-        let numbers = question.numbers;
+    let mut numbers: [u64; FIELDS] = [0; FIELDS];
+    if hex::fields(line, &mut numbers) {
         answer_question(&numbers);
     } else {
         refuse();

@@ -5,11 +5,10 @@ use mathlib.Core.List.{List, [], _∷_, append-nil}
 use mathlib.Core.Option.{some}
 use Prim.Native.Nat.{ℕ, _*_, _≤_}
 use native.Mathlib.Omega.{arith}
+use denote.Ref.{now}
 use borrow.Author.Tests.{le-ltb}
-use lib.Ieee.{binary64}
-use lib.Ieee.Bits.{ofBits-fits}
 use lib.ListN.{length}
-use Rattle.exact.specs.Determined.{Determined}
+use Rattle.exact.specs.Determined.{DeterminedWith}
 use Rattle.lens.specs.Refusal.{number}
 use Rattle.lens.specs.declared.Refusal.the-variants.{WrongSize}
 use Rattle.region.proofs.Size.{is-sized}
@@ -20,6 +19,7 @@ use Rattle.camera_file.specs.declared.Parsed.the-variants as file
 use Rattle.listing.specs.Listing.{refused-line, listing, joined}
 use Rattle.listing.specs.Placed.{Written}
 use Rattle.listing.specs.Read.{Listed, read-listing}
+use Rattle.listing.proofs.Grid.{AllFit}
 use Rattle.listing.proofs.Laws.{listing-read}
 use Rattle.distortion_table.specs.Answer.{Answer, answer, whole-table, enough}
 use Rattle.job.specs.Job.{fresh}
@@ -30,15 +30,17 @@ use Rattle.job.specs.declared.Started.{Started}
 use Rattle.job.specs.declared.Started.the-variants as begun
 use Rattle.distortion_table.specs.Calls.{start}
 use Rattle.distortion_table.proofs.Calls.{Takes, start-good, fresh-takes, answer-is}
+use Rattle.region.specs.Fits.{FourFit}
+use Rattle.units.proofs.Fits.{start-numbers-fit, turn-numbers-fit}
 use Rattle.units.proofs.Reaching.{Good, turn-keeps}
 use Rattle.printer.specs.Printed.{refusal-lines, shown-as, most-cells, blank, sized-lines, started, table-lines, file-lines, printed-lines, printed, most-printed}
-use Rattle.printer.proofs.Back.{Fit, blank-fit, turn-fits}
+use Rattle.printer.proofs.Back.{blank-fit, turn-cells-fit}
 use Rattle.printer.proofs.Fits.{blank-long, printed-short}
 use Rattle.printer.proofs.print.Reads as print-contract
 
--- Any two answers to one call that the contract of `print` permits are equal.
-pub print-determined : Determined print-contract.Post
-print-determined κ a s s' r r' p q = ap (λ (w : Written). w .at) (p .0 ∙ sym (q .0))
+-- Any two answers to one call that the contract of `print` permits are equal, and so are any two buffers at the return.
+pub print-determined : DeterminedWith print-contract.Post (λ κ s. now (s .1 .0))
+print-determined κ a s s' r r' p q = let e = p .0 ∙ sym (q .0) in (ap (λ (w : Written). w .at) e, ap (λ (w : Written). w .out) e)
 
 -- All that is printed has room in a buffer of OUTPUT bytes, whatever the input: 34 bytes for each of 4,096 cells.
 pub fits : (input : List ℕ) → length (printed input) ≤ most-printed
@@ -88,14 +90,11 @@ module _ (input : List ℕ) (camera : Camera) (width height : ℕ) (asks : parse
   unfolding printed joined
   printed-refused n e = ap joined (shown-lines (refused n) e) ∙ append-nil (refused-line n)
 
-  first-fit : Fit first-state
-  first-fit = record {
-    cells = blank-fit (2 * (width * height)) (2 * most-cells) 0;
-    region = (ofBits-fits binary64 0, ofBits-fits binary64 0, ofBits-fits binary64 0, ofBits-fits binary64 0);
-  }
+  cells-fit : AllFit (last .state .cells)
+  cells-fit = turn-cells-fit camera width height enough first-state (blank-fit (2 * (width * height)) (2 * most-cells) 0)
 
-  fit : Fit (last .state)
-  fit = turn-fits camera width height enough first-state first-fit
+  region-fits : FourFit (last .state .at .region)
+  region-fits = turn-numbers-fit camera width height enough first-state start-numbers-fit .region
 
   -- From what is printed of a finished table the same size, updates, region and cells are read back.
   pub printed-read : built .said ≡ finished
@@ -104,5 +103,5 @@ module _ (input : List ℕ) (camera : Camera) (width height : ℕ) (asks : parse
       let s = is-sized width height (takes .size) in
       let at = last .state .at in
       ap read-listing (printed-listing e ∙ ap (λ (a : Answer). listing width height (a .job .at .updates) (a .job .at .region) (a .cells)) built-is)
-      ∙ listing-read width height (at .updates) (at .region) (last .state .cells) (omega (arith, s .wide)) (turn-keeps camera width height enough first-state good .long) (fit .cells) (fit .region .0) (fit .region .1) (fit .region .2) (fit .region .3)
+      ∙ listing-read width height (at .updates) (at .region) (last .state .cells) (omega (arith, s .wide)) (turn-keeps camera width height enough first-state good .long) cells-fit (region-fits .0) (region-fits .1) (region-fits .2) (region-fits .3)
       ∙ ap (λ (a : Answer). some record { header = record { width = width; height = height; updates = a .job .at .updates }; region = a .job .at .region; table = a .cells }) (sym built-is)

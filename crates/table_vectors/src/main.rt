@@ -6,15 +6,15 @@
 // twelve parameters, of which a model takes as many as it has. The answer is `fresh`, or `refused` and a
 // number and nothing more. Then comes a line for each turn, by its status: `running`, `finished`, or
 // `refused` and a number, with the units done and the updates. A turn follows as long as the status is
-// running, but none follows a turn of allowance 0. Then the edges and the region, the cells done, and how
-// many places beyond those still hold what they held at first. A line that is not of that form, or asks
-// for more cells than there is room for, is answered by `bad`. The last line says how many were answered.
+// running, but none follows a turn of allowance 0. Then the edges and the region, and every place of the
+// table as it is then, two for each cell: one that was not written has 3f000000, as before the first turn.
+// A line that is not of that form, or asks for more cells than there is room for, is answered by `bad`.
+// The last line says how many were answered.
 use affine::AffineParams;
 use brown_conrady::BrownConradyParams;
 use camera::Camera;
 use distortion_table::Status;
 use enhanced_unified::EnhancedUnifiedParams;
-use hex::Bits;
 use job::Job;
 use job::Started;
 use kannala_brandt::KannalaBrandtParams;
@@ -23,7 +23,7 @@ use libc::STDIN_FILENO;
 use libc::STDOUT_FILENO;
 use region::Region;
 ghost use mathlib.Core.Path.{_≡_};
-ghost use Prim.Native.Nat.{_+_, _≤_, _<_};
+ghost use Prim.Native.Nat.{_≤_};
 ghost use lib.ListN.{length};
 
 // The fields of a line, and its bytes: a field has 16 digits, and a tab or the line's end after them.
@@ -31,6 +31,11 @@ ghost use lib.ListN.{length};
 const FIELDS: usize = 16;
 
 const LINE: usize = 272;
+
+// The parameters in a line, and the field that the first stands in.
+const PARAMS: usize = 12;
+
+const FIRST: usize = 4;
 
 // The cells that a table may have here, and their places: two for each.
 const ROOM: usize = 3072;
@@ -41,17 +46,8 @@ const PLACES: usize = 6144;
 // tables with so many cells the one of 2 by 1536 has the most: 3,080 samples and 3,072 cells.
 const TURNS: usize = 6152;
 
-// What each place holds before the first turn: 0.5, and its bit pattern.
+// What each place holds before the first turn.
 const BEFORE: f32 = 0.5;
-
-const BEFORE_BITS: u32 = 0x3f00_0000;
-
-// The number in each field of a line, and whether the line is of the form. No enum: one that held the
-// array would have to be proved by hand.
-struct Question {
-    good: bool,
-    numbers: [u64; FIELDS],
-}
 
 // The record after a turn, and whether another turn follows.
 struct Stepped {
@@ -59,86 +55,75 @@ struct Stepped {
     job: Job,
 }
 
-// What a line asks.
-fn asked(line: &[u8; LINE]) -> Question {
-    let mut numbers: [u64; FIELDS] = [0; FIELDS];
+// The parameters of a question, also those that its model does not take.
+fn params_asked(q: &[u64; FIELDS]) -> [f64; PARAMS] {
+    let mut params: [f64; PARAMS] = [0.0; PARAMS];
     let mut i = 0;
-    while i < FIELDS {
-        let Bits::Of(n) = hex::field(line, i) else {
-            return Question {
-                good: false,
-                numbers,
-            };
-        };
-        numbers[i] = n;
+    while i < PARAMS {
+        params[i] = exact::of_bits(q[FIRST + i]);
         i += 1;
     }
-    let model = numbers[0];
-    Question {
-        good: model < 4,
-        numbers,
-    }
+    params
 }
 
 // Each of these four says where its model's parameters stand.
-fn affine_asked(q: &[u64; FIELDS]) -> Camera {
+fn affine_of(p: &[f64; PARAMS]) -> Camera {
     Camera::Affine(AffineParams {
-        fx: exact::of_bits(q[4]),
-        fy: exact::of_bits(q[5]),
-        cx: exact::of_bits(q[6]),
-        cy: exact::of_bits(q[7]),
+        fx: p[0],
+        fy: p[1],
+        cx: p[2],
+        cy: p[3],
     })
 }
 
-fn enhanced_unified_asked(q: &[u64; FIELDS]) -> Camera {
+fn enhanced_unified_of(p: &[f64; PARAMS]) -> Camera {
     Camera::EnhancedUnified(EnhancedUnifiedParams {
-        fx: exact::of_bits(q[4]),
-        fy: exact::of_bits(q[5]),
-        cx: exact::of_bits(q[6]),
-        cy: exact::of_bits(q[7]),
-        alpha: exact::of_bits(q[8]),
-        beta: exact::of_bits(q[9]),
+        fx: p[0],
+        fy: p[1],
+        cx: p[2],
+        cy: p[3],
+        alpha: p[4],
+        beta: p[5],
     })
 }
 
-fn kannala_brandt_asked(q: &[u64; FIELDS]) -> Camera {
+fn kannala_brandt_of(p: &[f64; PARAMS]) -> Camera {
     Camera::KannalaBrandt(KannalaBrandtParams {
-        fx: exact::of_bits(q[4]),
-        fy: exact::of_bits(q[5]),
-        cx: exact::of_bits(q[6]),
-        cy: exact::of_bits(q[7]),
-        k0: exact::of_bits(q[8]),
-        k1: exact::of_bits(q[9]),
-        k2: exact::of_bits(q[10]),
-        k3: exact::of_bits(q[11]),
+        fx: p[0],
+        fy: p[1],
+        cx: p[2],
+        cy: p[3],
+        k0: p[4],
+        k1: p[5],
+        k2: p[6],
+        k3: p[7],
     })
 }
 
-fn brown_conrady_asked(q: &[u64; FIELDS]) -> Camera {
+fn brown_conrady_of(p: &[f64; PARAMS]) -> Camera {
     Camera::BrownConrady(BrownConradyParams {
-        fx: exact::of_bits(q[4]),
-        fy: exact::of_bits(q[5]),
-        cx: exact::of_bits(q[6]),
-        cy: exact::of_bits(q[7]),
-        k1: exact::of_bits(q[8]),
-        k2: exact::of_bits(q[9]),
-        p1: exact::of_bits(q[10]),
-        p2: exact::of_bits(q[11]),
-        k3: exact::of_bits(q[12]),
-        k4: exact::of_bits(q[13]),
-        k5: exact::of_bits(q[14]),
-        k6: exact::of_bits(q[15]),
+        fx: p[0],
+        fy: p[1],
+        cx: p[2],
+        cy: p[3],
+        k1: p[4],
+        k2: p[5],
+        p1: p[6],
+        p2: p[7],
+        k3: p[8],
+        k4: p[9],
+        k5: p[10],
+        k6: p[11],
     })
 }
 
-// The camera of a question of the form.
-fn camera_asked(q: &[u64; FIELDS]) -> Camera {
-    let model = q[0];
+// The camera of a model, 0 to 3.
+fn camera_of(model: u64, p: &[f64; PARAMS]) -> Camera {
     match model {
-        0 => affine_asked(q),
-        1 => enhanced_unified_asked(q),
-        2 => kannala_brandt_asked(q),
-        _ => brown_conrady_asked(q),
+        0 => affine_of(p),
+        1 => enhanced_unified_of(p),
+        2 => kannala_brandt_of(p),
+        _ => brown_conrady_of(p),
     }
 }
 
@@ -239,64 +224,26 @@ fn say_box(word: &[u8], region: Region) {
     say_end();
 }
 
-// How many of a table's cells are done once so many units are: those behind the border's samples.
-fn cells_done(done: usize, width: usize, height: usize, cells: usize) -> usize
-    requires { ⌜ (width ≤ 4096) × (height ≤ 4096) ⌝ }
-    ensures { λ r. ⌜ r ≤ cells ⌝ }
-{
-    let samples = 2 * width + 2 * height + 4;
-    if done < samples {
-        return 0;
-    }
-    let behind = done - samples;
-    if behind < cells { behind } else { cells }
-}
-
-// Writes the i-th cell.
-fn say_cell(buffer: &[f32; PLACES], width: usize, i: usize)
-    requires { ⌜ (0 < width) × (i < 3072) ⌝ }
-{
-    say_word(b"cell");
-    say_count((i % width) as u64);
-    say_count((i / width) as u64);
-    say32(buffer[2 * i]);
-    say32(buffer[2 * i + 1]);
-    say_end();
-}
-
-// Writes the cells done, row by row.
-fn say_cells(buffer: &[f32; PLACES], width: usize, done: usize)
-    requires { ⌜ (0 < width) × (done ≤ 3072) ⌝ }
-{
+// Writes every place of a table.
+fn say_places(table: &[f32]) {
     let mut i = 0;
-    while i < done {
-        say_cell(buffer, width, i);
+    while i < table.len() {
+        say32(table[i]);
         i += 1;
     }
 }
 
-// 1 for a place that holds what it held at first, and 0 for any other.
-fn untouched(x: f32) -> usize
-    ensures { λ r. ⌜ r ≤ 1 ⌝ }
-{
-    if exact::to_bits32(x) == BEFORE_BITS {
-        1
-    } else {
-        0
-    }
-}
-
-// How many of the places hold what they held at first, from index `from` on to before `to`.
-fn count_untouched(buffer: &[f32; PLACES], from: usize, to: usize) -> usize
-    requires { ⌜ to ≤ 6144 ⌝ }
-{
-    let mut count = 0;
-    let mut i = from;
-    while i < to {
-        count += untouched(buffer[i]);
-        i += 1;
-    }
-    count
+// Builds the table of a fresh record, and writes what comes of it.
+fn build(table: &mut [f32], fresh: Job, allowance: usize) {
+    say_word(b"fresh");
+    say_end();
+    let last = steps(table, fresh, allowance);
+    let at = last.at;
+    say_box(b"edges", at.edges);
+    say_box(b"region", at.region);
+    say_word(b"table");
+    say_places(table);
+    say_end();
 }
 
 // A buffer that no turn has touched. Lending a part of it needs the length.
@@ -306,23 +253,12 @@ fn blank() -> [f32; PLACES]
     [BEFORE; PLACES]
 }
 
-// Builds the table of a fresh record, and writes what comes of it.
-fn build(fresh: Job, width: usize, height: usize, cells: usize, allowance: usize)
-    requires { ⌜ (0 < width) × (width ≤ 4096) × (height ≤ 4096) × (cells ≤ 3072) ⌝ }
+// Builds it in the first places of a buffer.
+fn build_in(fresh: Job, places: usize, allowance: usize)
+    requires { ⌜ places ≤ 6144 ⌝ }
 {
     let mut buffer = blank();
-    let places = 2 * cells;
-    say_word(b"fresh");
-    say_end();
-    let last = steps(&mut buffer[..places], fresh, allowance);
-    let at = last.at;
-    say_box(b"edges", at.edges);
-    say_box(b"region", at.region);
-    let done = cells_done(at.done, width, height, cells);
-    say_cells(&buffer, width, done);
-    say_word(b"untouched");
-    say_count(count_untouched(&buffer, 2 * done, places) as u64);
-    say_end();
+    build(&mut buffer[..places], fresh, allowance);
 }
 
 // Answers a line that is not of the form.
@@ -334,7 +270,7 @@ fn refuse() {
 // Answers a question whose record is made, if there is room for its table. No record is made of a size
 // that the first test refuses, so that only the second ever does.
 fn answer_fresh(fresh: Job, width: usize, height: usize, allowance: usize) {
-    if width == 0 || region::MOST < width || region::MOST < height {
+    if region::MOST < width || region::MOST < height {
         refuse();
         return;
     }
@@ -342,7 +278,7 @@ fn answer_fresh(fresh: Job, width: usize, height: usize, allowance: usize) {
     if ROOM < cells {
         refuse();
     } else {
-        build(fresh, width, height, cells, allowance);
+        build_in(fresh, 2 * cells, allowance);
     }
 }
 
@@ -351,7 +287,8 @@ fn answer_question(q: &[u64; FIELDS]) {
     let width = q[1] as usize;
     let height = q[2] as usize;
     let allowance = q[3] as usize;
-    match job::fresh(camera_asked(q), width, height) {
+    let params = params_asked(q);
+    match job::fresh(camera_of(q[0], &params), width, height) {
         Started::Refused(refusal) => {
             say_refusal(refusal);
             say_end();
@@ -362,12 +299,20 @@ fn answer_question(q: &[u64; FIELDS]) {
     }
 }
 
+// Answers a line of numbers, if there is such a model.
+fn answer_numbers(q: &[u64; FIELDS]) {
+    if q[0] < 4 {
+        answer_question(q);
+    } else {
+        refuse();
+    }
+}
+
 // Answers one line.
 fn answer(line: &[u8; LINE]) {
-    let question = asked(line);
-    if question.good {
-        let numbers = question.numbers;
-        answer_question(&numbers);
+    let mut numbers: [u64; FIELDS] = [0; FIELDS];
+    if hex::fields(line, &mut numbers) {
+        answer_numbers(&numbers);
     } else {
         refuse();
     }

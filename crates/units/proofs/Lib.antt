@@ -1,3 +1,4 @@
+pub mod Fits
 pub mod AtBorder
 pub mod Counting
 pub mod Ends

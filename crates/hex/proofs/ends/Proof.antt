@@ -1,6 +1,6 @@
 -- `hex::ends` meets its contract, by how much is left. Assumes nothing.
 use borrow.Author.Needs.{needs}
-use Rattle.hex.proofs.Fields.{ends-none, ends-last, ends-more}
+use Rattle.hex.proofs.OneField.{ends-none, ends-last, ends-more}
 use Rattle.hex.proofs.ends.Statement.{statement}
 use Rattle.hex.proofs.ends.Tie as tie
 

@@ -2,7 +2,7 @@
 use mathlib.Core.Path.{_∙_}
 use borrow.Author.Needs.{needs}
 use denote.Ref.{now}
-use Rattle.hex.proofs.Fields.{field-there, field-open, field-past}
+use Rattle.hex.proofs.OneField.{field-there, field-open, field-past}
 use Rattle.hex.proofs.field.Statement.{statement}
 use Rattle.hex.proofs.field.Tie as tie
 

@@ -3,7 +3,8 @@ use mathlib.Core.Path.{_≡_, ap, _∙_}
 use denote.Ref.{now}
 use lib.ListN.{length}
 use Rattle.little_endian.specs.Bytes.{bytes, put}
-use Rattle.lens_c.proofs.Giving.{written, left-alone, jacobian-put}
+use Rattle.given.proofs.Giving.{written, left-alone}
+use Rattle.lens_c.proofs.Giving.{jacobian-put}
 use Rattle.lens_c.specs.LensC.{jacobian-bytes}
 use borrow.Author.Needs.{needs}
 use Rattle.lens_c.proofs.give_jacobian.Statement.{statement}

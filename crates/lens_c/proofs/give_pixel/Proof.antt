@@ -2,7 +2,8 @@
 use mathlib.Core.Path.{refl, _∙_}
 use mathlib.Core.List.{[], _∷_}
 use denote.Ref.{now}
-use Rattle.lens_c.proofs.Giving.{written, left-alone, numbers-put}
+use Rattle.given.proofs.Giving.{written, left-alone}
+use Rattle.lens_c.proofs.Giving.{numbers-put}
 use Rattle.lens_c.specs.LensC.{pixel-bytes}
 use borrow.Author.Needs.{needs}
 use Rattle.lens_c.proofs.give_pixel.Statement.{statement}

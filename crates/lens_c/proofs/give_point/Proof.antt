@@ -4,7 +4,8 @@ use mathlib.Core.List.{List}
 use Prim.Native.Nat.{ℕ}
 use denote.Ref.{now}
 use Rattle.little_endian.specs.Bytes.{bytes, put}
-use Rattle.lens_c.proofs.Giving.{written, left-alone, point-put}
+use Rattle.given.proofs.Giving.{written, left-alone}
+use Rattle.lens_c.proofs.Giving.{point-put}
 use Rattle.lens_c.specs.LensC.{point-bytes}
 use borrow.Author.Needs.{needs}
 use Rattle.lens_c.proofs.give_point.Statement.{statement}

@@ -3,7 +3,8 @@ use mathlib.Core.Path.{refl, _∙_}
 use mathlib.Core.List.{[], _∷_}
 use denote.Ref.{now}
 use Rattle.little_endian.specs.Bytes.{floats}
-use Rattle.lens_c.proofs.Giving.{written, left-alone, numbers-put}
+use Rattle.given.proofs.Giving.{written, left-alone}
+use Rattle.lens_c.proofs.Giving.{numbers-put}
 use borrow.Author.Needs.{needs}
 use Rattle.lens_c.proofs.give_slope.Statement.{statement}
 use Rattle.lens_c.proofs.give_slope.Tie as tie

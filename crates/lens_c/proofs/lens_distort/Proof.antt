@@ -4,7 +4,7 @@ use denote.Ref.{now}
 use Rattle.lens.specs.Distorted.{ToldPixel, told-pixel}
 use Rattle.lens.specs.declared.Pixel.{Pixel}
 use Rattle.lens_c.specs.LensC.{give-pixel, distorted, lens-distort}
-use Rattle.lens_c.specs.declared.Asked.{Asked}
+use Rattle.camera_bytes.specs.declared.Asked.{Asked}
 use Rattle.lens_c.proofs.Giving.{call}
 use borrow.Author.Needs.{needs}
 use Rattle.lens_c.proofs.lens_distort.Statement.{statement}

@@ -1,6 +1,6 @@
 -- `lens_c::lens_dx_distort_params` meets its contract. Assumes nothing.
 use Rattle.lens_c.specs.LensC.{parameter-slopes, lens-dx-distort-params}
-use Rattle.lens_c.specs.declared.Asked.{Asked}
+use Rattle.camera_bytes.specs.declared.Asked.{Asked}
 use Rattle.lens_c.proofs.Giving.{jacobian-call}
 use borrow.Author.Needs.{needs}
 use Rattle.lens_c.proofs.lens_dx_distort_params.Statement.{statement}

@@ -1,6 +1,6 @@
 -- `lens_c::lens_dx_distort_x` meets its contract. Assumes nothing.
 use Rattle.lens_c.specs.LensC.{slopes, lens-dx-distort-x}
-use Rattle.lens_c.specs.declared.Asked.{Asked}
+use Rattle.camera_bytes.specs.declared.Asked.{Asked}
 use Rattle.lens_c.proofs.Giving.{jacobian-call}
 use borrow.Author.Needs.{needs}
 use Rattle.lens_c.proofs.lens_dx_distort_x.Statement.{statement}

@@ -4,7 +4,7 @@ use denote.Ref.{now}
 use Rattle.lens.specs.Undistorted.{Told, told}
 use Rattle.lens.specs.declared.Settled.{Settled}
 use Rattle.lens_c.specs.LensC.{give-point, undistorted, lens-undistort}
-use Rattle.lens_c.specs.declared.Asked.{Asked}
+use Rattle.camera_bytes.specs.declared.Asked.{Asked}
 use Rattle.lens_c.proofs.Giving.{call}
 use borrow.Author.Needs.{needs}
 use Rattle.lens_c.proofs.lens_undistort.Statement.{statement}

@@ -45,6 +45,9 @@ lookup-requires c κs = search needs
 tell-requires : tie.Need-tell-requires
 tell-requires c κs = search needs
 
+refuse-requires : tie.Need-refuse-requires
+refuse-requires c κs = search needs
+
 returns : tie.Need-returns
 returns c = search needs
 
@@ -68,5 +71,6 @@ answer-question-spec =
     element-copy-out-lookup-2
     lookup-requires
     tell-requires
+    refuse-requires
     returns
     returns-2)

@@ -13,14 +13,17 @@ returns c = search needs
 
 mul-cells : tie.Need-mul-cells
 mul-cells c =
-    let a = c .before .before .before .args in
-    scaled-fits (a .width) 4097 (a .height) (omega (arith, ltb-false 4096 (a .width) (c .before .if2 .left))) (omega (arith, ltb-false 4096 (a .height) (c .if3 .left)))
+    let a = c .before .before .args in
+    scaled-fits (a .width) 4097 (a .height) (omega (arith, c .before .if1 .left)) (omega (arith, ltb-false 4096 (a .height) (c .if2 .left)))
 
 refuse-requires-2 : tie.Need-refuse-requires-2
 refuse-requires-2 c κs = search needs
 
-build-requires : tie.Need-build-requires
-build-requires c κs = search needs
+mul-build-in : tie.Need-mul-build-in
+mul-build-in c = search needs
+
+build-in-requires : tie.Need-build-in-requires
+build-in-requires c κs = search needs
 
 returns-2 : tie.Need-returns-2
 returns-2 c = search needs
@@ -36,6 +39,7 @@ answer-fresh-spec =
     returns
     mul-cells
     refuse-requires-2
-    build-requires
+    mul-build-in
+    build-in-requires
     returns-2
     returns-3)

@@ -1,0 +1,116 @@
+// What a unit and a turn cost through C, for bench/run to count.
+//   cases MODEL KIND: writes records that stand before a unit of that kind, `sample` or `cell`, one a line in hexadecimal.
+//     A sample of kb or bc is one of the most updates that there can be, 20 or 50
+//   count ALLOWANCE N FILE CASE: N turns of that allowance, each from the record on that line
+#[path = "../oracle/compare/cases.rs"]
+#[allow(dead_code)]
+mod cases;
+#[allow(dead_code)]
+mod given;
+
+use cases::{valid_camera, Random};
+use given::{place, MODELS};
+use std::hint::black_box;
+
+extern "C" {
+    fn lens_job_new(model: u8, params: *const u8, handed: usize, width: u32, height: u32, job: *mut u8, lent: usize) -> u8;
+    fn lens_turn(job: *mut u8, job_length: usize, table: *mut f32, places: usize, allowance: u64, answer: *mut u8, lent: usize) -> u8;
+}
+
+const SIDE: usize = 16;
+const SAMPLES: usize = 4 * SIDE + 4;
+const MOST: [u64; 4] = [0, 0, 20, 50];
+const CASES: usize = 16;
+const LAST: usize = 4;
+
+struct Head {
+    job: [u8; 184],
+    table: [f32; 2 * SIDE * SIDE],
+    answer: [u8; 32],
+}
+
+impl Head {
+    fn turn(&mut self, allowance: u64) -> u8 {
+        let (j, t, a) = (&mut self.job, &mut self.table, &mut self.answer);
+        unsafe { lens_turn(j.as_mut_ptr(), j.len(), t.as_mut_ptr(), t.len(), allowance, a.as_mut_ptr(), a.len()) }
+    }
+    fn updates(&self) -> u64 {
+        let mut eight = [0; 8];
+        eight.copy_from_slice(&self.answer[24..]);
+        u64::from_le_bytes(eight)
+    }
+}
+
+fn blank() -> Head {
+    Head { job: [0; 184], table: [0.0; 2 * SIDE * SIDE], answer: [0; 32] }
+}
+
+fn print(job: &[u8; 184]) {
+    println!("{}", job.iter().map(|b| format!("{:02x}", b)).collect::<String>());
+}
+
+/// The records of one camera that are looked for, at most four. `last`: only the one before the last sample, which closes the region as well.
+fn wanted(model: usize, cell: bool, last: bool, params: &[f64; 12], r: &mut Random) -> Vec<[u8; 184]> {
+    let mut head = blank();
+    let bytes: Vec<u8> = params[..rust_text::COUNTS[model]].iter().flat_map(|x| x.to_le_bytes()).collect();
+    let started = unsafe {
+        lens_job_new(model as u8, bytes.as_ptr(), bytes.len(), SIDE as u32, SIDE as u32, head.job.as_mut_ptr(), head.job.len())
+    };
+    let mut found = vec![];
+    if started != 0 {
+        return found;
+    }
+    for unit in 0..SAMPLES + SIDE * SIDE {
+        let (before, updates) = (head.job, head.updates());
+        if head.turn(1) != 0 || found.len() == 4 {
+            break;
+        }
+        let most = head.updates() - updates == MOST[model];
+        let sampled = unit < SAMPLES && most && if last { unit == SAMPLES - 1 } else { r.one_in(4) };
+        if if cell { unit >= SAMPLES && r.one_in(64) } else { sampled } {
+            found.push(before);
+        }
+    }
+    found
+}
+
+fn write_cases(model: usize, cell: bool) {
+    let mut r = Random(20261115);
+    let mut found = 0;
+    while found < CASES {
+        let mut params = valid_camera(&mut r, model, SIDE as f64, SIDE as f64);
+        if !cell {
+            // For long searches the coefficients are stretched, as no settled lens has them.
+            let stretch = r.between(1.0, 20.0);
+            params[4..].iter_mut().for_each(|p| *p *= if model >= 2 { stretch } else { 1.0 });
+        }
+        for job in wanted(model, cell, found >= CASES - LAST, &params, &mut r).iter().take(CASES - found) {
+            print(job);
+            found += 1;
+        }
+    }
+}
+
+fn count(allowance: u64, n: usize, record: &str) {
+    let byte = |i: usize| u8::from_str_radix(&record[2 * i..2 * i + 2], 16).expect("a byte");
+    let mut job = [0; 184];
+    (0..184).for_each(|i| job[i] = byte(i));
+    let mut head = blank();
+    for _ in 0..n {
+        head.job = job;
+        black_box(head.turn(black_box(allowance)));
+    }
+}
+
+fn main() {
+    let args: Vec<String> = std::env::args().skip(1).collect();
+    let number = |i: usize| args[i].parse::<usize>().expect("a count");
+    match args[0].as_str() {
+        "cases" => write_cases(place(&MODELS, &args[1]), args[2] == "cell"),
+        "count" => {
+            let file = std::fs::read_to_string(&args[3]).expect("the cases");
+            count(number(1) as u64, number(2), file.lines().nth(number(4)).expect("a case"))
+        }
+        _ => panic!("cases or count"),
+    }
+}

@@ -1,0 +1,20 @@
+"""What both reports share: COUNTER FOLDER COST.md [RUNNER...] on the command line, and one call's instructions."""
+import re, subprocess, sys
+
+counter, folder, page, runner = sys.argv[1], sys.argv[2], sys.argv[3], sys.argv[4:]
+MODELS = ["affine", "eucm", "kb", "bc"]
+
+
+def insns(program, *words):
+    done = subprocess.run([counter, f"{folder}/{program}", *map(str, words)], capture_output=True, text=True)
+    if done.returncode != 0:
+        sys.exit(f"{words}: {done.stderr}")
+    return int(re.search(r"insns: (\d+)", done.stderr).group(1))
+
+
+def each(n, *words):
+    """Instructions of one call, by a program and its words; the count stands where there is None. N calls and 2N are counted, so
+    that start-up drops out."""
+    at = words.index(None)
+    once, twice = (insns(*words[:at], k * n, *words[at + 1:]) for k in (1, 2))
+    return (twice - once) / n

@@ -1,0 +1,83 @@
+/* How much stack each function takes at most, in bytes, for bench/run: it runs on a stack of its own that is painted before,
+ * and what is no longer painted was used. Each model has one camera and a table of 8 by 8 cells, built in one turn. */
+#define _GNU_SOURCE
+#include "lens.h"
+
+#include <stdio.h>
+#include <string.h>
+#include <ucontext.h>
+
+#define STACK 65536
+#define SIDE 8
+#define FLOATS (2 * SIDE * SIDE)
+
+static uint8_t stack[STACK] __attribute__((aligned(64)));
+static ucontext_t home, away;
+
+static const double params[4][12] = {
+    {40, 41, 4, 3},
+    {40, 41, 4, 3, 0.6, 1.1},
+    {40, 41, 4, 3, 0.1, 0.01, 0.001, 0.0001},
+    {40, 41, 4, 3, 0.1, 0.01, 0.001, 0.0005, 0.001, 0.02, 0.01, 0.001},
+};
+static const size_t counts[4] = {4, 6, 8, 12};
+
+static float table[FLOATS];
+static uint8_t job[LENS_JOB_BYTES], answer[200];
+static lens_observation list[2] = {{.pixel_u = 1}, {.pixel_u = 2}};
+static uint8_t model, no;
+
+static const uint8_t *bytes(void) { return (const uint8_t *)params[model]; }
+static size_t length(void) { return 8 * counts[model]; }
+
+static void nothing(void) {}
+static void distort(void) { no = lens_distort(model, bytes(), length(), 0.1, 0.2, answer, 16); }
+static void undistort(void) { no = lens_undistort(model, bytes(), length(), 1, 2, answer, 24); }
+static void by_point(void) { no = lens_dx_distort_x(model, bytes(), length(), 0.1, 0.2, answer, 200); }
+static void by_params(void) { no = lens_dx_distort_params(model, bytes(), length(), 0.1, 0.2, answer, 200); }
+static void job_new(void) { no = lens_job_new(model, bytes(), length(), SIDE, SIDE, job, sizeof job); }
+static void turn(void) { no = lens_turn(job, sizeof job, table, FLOATS, UINT64_MAX, answer, LENS_TURN_BYTES); }
+static void look_up(void) { no = lens_lookup(table, FLOATS, job + LENS_JOB_REGION, 32, SIDE, SIDE, 0, 0, answer, 16); }
+static void observe(void) { no = lens_observe(model, bytes(), length(), (uint8_t *)list, sizeof list); }
+
+static const struct {
+    const char *name;
+    void (*call)(void);
+} calls[] = {
+    {"lens_distort", distort}, {"lens_undistort", undistort}, {"lens_dx_distort_x", by_point}, {"lens_dx_distort_params", by_params},
+    {"lens_job_new", job_new}, {"lens_turn", turn}, {"lens_lookup", look_up}, {"lens_observe", observe},
+};
+
+static size_t used(void (*call)(void)) {
+    memset(stack, 0xa5, sizeof stack);
+    getcontext(&away);
+    away.uc_stack.ss_sp = stack;
+    away.uc_stack.ss_size = sizeof stack;
+    away.uc_link = &home;
+    makecontext(&away, call, 0);
+    swapcontext(&home, &away);
+    size_t left = 0;
+    while (left < sizeof stack && stack[left] == 0xa5)
+        left++;
+    return sizeof stack - left;
+}
+
+#define CALLS (sizeof calls / sizeof *calls)
+
+int main(void) {
+    size_t around = used(nothing), most[CALLS] = {0};
+    for (model = 0; model < 4; model++)
+        for (size_t i = 0; i < CALLS; i++) {
+            no = 0;
+            size_t bytes = used(calls[i].call) - around;
+            if (no != 0 && !(no == 2 && model == 3)) {
+                fprintf(stderr, "%s, model %u: refused %u\n", calls[i].name, model, no);
+                return 1;
+            }
+            if (bytes > most[i])
+                most[i] = bytes;
+        }
+    for (size_t i = 0; i < CALLS; i++)
+        printf("%s %zu\n", calls[i].name, most[i]);
+    return 0;
+}

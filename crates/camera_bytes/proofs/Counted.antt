@@ -1,0 +1,33 @@
+-- What is asked for, case by case. Assumes nothing.
+use mathlib.Core.Path.{_≡_, ap, _∙_}
+use mathlib.Core.Bool.{Bool, cond}
+use mathlib.Core.List.{List}
+use Prim.Native.Nat.{ℕ, _*_, _≤_, _<_}
+use borrow.Author.Tests.{le-leb, lt-leb, eq-eqb, ne-eqb}
+use lib.Dec.{eqb}
+use lib.ListN.{length}
+use Rattle.lens.specs.declared.Refusal.the-variants.{UnknownModel, WrongCount}
+use Rattle.camera_bytes.specs.Reading.{count, camera-of, read}
+use Rattle.camera_bytes.specs.declared.Asked.{Asked}
+use Rattle.camera_bytes.specs.declared.Asked.the-variants.{Of, Refused}
+
+module _ (model : ℕ) (p : List ℕ) where
+  abbrev counted : Bool → Asked
+  counted b = cond b (Of (camera-of model p)) (Refused WrongCount)
+
+  abbrev known : Bool → Asked → Asked
+  known b asked = cond b asked (Refused UnknownModel)
+
+  pub read-camera : model ≤ 3 → length p ≡ 8 * count model → read model p ≡ Of (camera-of model p)
+  unfolding read
+  read-camera h e =
+      ap (λ (b : Bool). known b (counted (eqb (length p) (8 * count model)))) (le-leb model 3 h) ∙ ap counted (eq-eqb (length p) (8 * count model) e)
+
+  pub read-miscounted : model ≤ 3 → (length p ≡ 8 * count model → ⊥) → read model p ≡ Refused WrongCount
+  unfolding read
+  read-miscounted h e =
+      ap (λ (b : Bool). known b (counted (eqb (length p) (8 * count model)))) (le-leb model 3 h) ∙ ap counted (ne-eqb (length p) (8 * count model) e)
+
+  pub read-unknown : 3 < model → read model p ≡ Refused UnknownModel
+  unfolding read
+  read-unknown h = ap (λ (b : Bool). known b (counted (eqb (length p) (8 * count model)))) (lt-leb model 3 h)

@@ -1,0 +1,87 @@
+-- What a caller may rely on, of the definitions of specs/ and of the contracts of src/. Assumes nothing.
+use mathlib.Core.Path.{_≡_, refl, sym, ap, _∙_}
+use mathlib.Core.List.{List}
+use Prim.Native.Nat.{ℕ, _^_, _<_}
+use native.Mathlib.Omega.{arith}
+use denote.Ref.{now}
+use lib.Ieee.{binary64}
+use lib.Ieee.Bits.{ofBits-fits}
+use lib.ListN.{length}
+use Rattle.exact.specs.Determined.{Determined, DeterminedWith}
+use Rattle.lens.specs.Fits.{AllFit}
+use Rattle.region.specs.Fits.{FourFit}
+use Rattle.region.specs.Size.{Sized}
+use Rattle.camera.specs.Camera.{parameters}
+use Rattle.camera.specs.declared.Camera.{Camera}
+use Rattle.camera_bytes.specs.Reading.{camera-of}
+use Rattle.given.specs.Given.{Given}
+use Rattle.given.proofs.Laws.{both}
+use Rattle.job.specs.Job.{fresh-job}
+use Rattle.job.specs.declared.Job.{Job}
+use Rattle.job_bytes.specs.Bytes.{record-length, record-bytes, record-read, fresh-bytes}
+use Rattle.job_bytes.specs.declared.Found.the-variants.{Of}
+use Rattle.job_bytes.proofs.Reading.{read-job}
+use Rattle.job_bytes.proofs.Placing as placing
+use Rattle.job_bytes.proofs.Back.{camera-fits, model-known, model-back, job-back}
+use Rattle.job_bytes.proofs.Beginning.{fresh-zero}
+use Rattle.job_bytes.proofs.region_of.Reads as region-of-contract
+use Rattle.job_bytes.proofs.read.Reads as read-contract
+use Rattle.job_bytes.proofs.write.Reads as write-contract
+use Rattle.job_bytes.proofs.fresh.Reads as fresh-contract
+
+-- ---- each contract permits one answer, and one buffer
+
+-- Any two answers to one call that the contract of `region_of` permits are equal, and so for `read`.
+pub determined : Determined region-of-contract.Post × Determined read-contract.Post
+determined = (λ κ a s s' r r' p q. p ∙ sym q, λ κ a s s' r r' p q. p ∙ sym q)
+
+-- Any two buffers that the contract of `write` permits after one call are equal, and any two numbers and buffers for `fresh`.
+pub determined-buffers : DeterminedWith write-contract.Post (λ κ s. now (s .1 .0)) × DeterminedWith fresh-contract.Post (λ κ s. now (s .1 .1 .1 .1 .0))
+determined-buffers = (λ κ a s s' r r' p q. (refl, p ∙ sym q), λ κ a s s' r r' p q. both (p ∙ sym q))
+
+-- ---- there and back
+
+-- A record has 184 bytes, whatever it holds.
+pub length-record : (job : Job) → length (record-bytes job) ≡ record-length
+length-record = placing.length-record
+
+-- What a record's bytes can hold: its numbers are f64s, its size and updates have 32 bits at most, its units 64.
+pub record Writable (job : Job) : Type 0 where
+  pub params : AllFit (parameters (job .camera))
+  pub edges : FourFit (job .at .edges)
+  pub region : FourFit (job .at .region)
+  pub width : job .width < 2 ^ 32
+  pub height : job .height < 2 ^ 32
+  pub updates : job .at .updates < 2 ^ 32
+  pub done : job .at .done < 2 ^ 64
+
+-- A record written and read back is the same record.
+pub written-read : (job : Job) → Writable job → record-read (record-bytes job) ≡ Of job
+written-read job w =
+    sym (read-job (record-bytes job) (length-record job) (omega (arith, model-back job, model-known (job .camera))))
+    ∙ ap Of (job-back job (w .params) (w .edges) (w .region) (w .width) (w .height) (w .updates) (w .done))
+
+-- ---- a fresh record
+
+fresh-writable : (model : ℕ) (params : List ℕ) (width height : ℕ) → Sized width height → Writable (fresh-job (camera-of model params) width height)
+fresh-writable model params width height s = record {
+  params = camera-fits model params;
+  edges = (ofBits-fits binary64 0, ofBits-fits binary64 0, ofBits-fits binary64 0, ofBits-fits binary64 0);
+  region = (ofBits-fits binary64 0, ofBits-fits binary64 0, ofBits-fits binary64 0, ofBits-fits binary64 0);
+  width = omega (arith, s .not-wider);
+  height = omega (arith, s .not-higher);
+  updates = omega arith;
+  done = omega arith;
+}
+
+-- Where `fresh` returns 0, the buffer holds the record of the camera and size that were handed in with no unit done, one that bytes can hold, and that record is read back out of it.
+pub fresh-read :
+    (model : ℕ) (params : List ℕ) (width height : ℕ) (lent : List ℕ) →
+    fresh-bytes model params width height lent .code ≡ 0 →
+    (fresh-bytes model params width height lent .answer ≡ record-bytes (fresh-job (camera-of model params) width height))
+    × Writable (fresh-job (camera-of model params) width height)
+    × (record-read (fresh-bytes model params width height lent .answer) ≡ Of (fresh-job (camera-of model params) width height))
+fresh-read model params width height lent z =
+    let says = fresh-zero model params width height lent z in
+    let w : Writable (fresh-job (camera-of model params) width height) = fresh-writable model params width height (says .1) in
+    (says .0, w, ap record-read (says .0) ∙ written-read (fresh-job (camera-of model params) width height) w)

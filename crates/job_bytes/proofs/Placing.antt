@@ -1,0 +1,220 @@
+-- The parts of a record, put one behind the other, are the record. Assumes nothing.
+use mathlib.Core.Path.{_≡_, refl, sym, ap, ap₂, _∙_}
+use mathlib.Core.List.{List, [], _∷_, _++_, append-assoc}
+use Prim.Native.Nat.{ℕ, zero, suc, _+_, _*_, _≤_, _<_}
+use native.Mathlib.Omega.{arith}
+use borrow.Author.Tests.{le-leb}
+use lib.Ieee.{Float, binary64, toBits}
+use lib.ListN.{length, take, drop, replicate, length-append, length-drop}
+use lib.Seq.{length-take-le, drop-nil, drop-append-le, drop-append-add}
+use Rattle.lens.specs.Constants.{zeros}
+use Rattle.little_endian.specs.Bytes.{bytes, floats, put}
+use Rattle.little_endian.proofs.Laws.{length-bytes, length-floats, length-put, not-put, kept-before, put-put}
+use Rattle.region.specs.Region.{four}
+use Rattle.region.specs.declared.Region.{Region}
+use Rattle.camera.specs.Camera.{parameters}
+use Rattle.camera.specs.declared.Camera.{Camera}
+use Rattle.camera.specs.declared.Camera.the-variants as cameras
+use Rattle.job.specs.declared.Job.{Job}
+use Rattle.job_bytes.specs.Bytes.{record-length, model-number, twelve, record-bytes}
+
+pub longer : (a b : List ℕ) (m n : ℕ) → length a ≡ m → length b ≡ n → length (a ++ b) ≡ m + n
+longer a b m n e f = omega (arith, length-append a b, e, f)
+
+pub always-twelve : (camera : Camera) → length (twelve camera) ≡ 12
+always-twelve (cameras.Affine p) = refl
+always-twelve (cameras.EnhancedUnified p) = refl
+always-twelve (cameras.KannalaBrandt p) = refl
+always-twelve (cameras.BrownConrady p) = refl
+
+pub length-twelve : (camera : Camera) → length (floats (twelve camera)) ≡ 96
+length-twelve camera = length-floats (twelve camera) ∙ ap (λ (n : ℕ). 8 * n) (always-twelve camera)
+
+pub length-four : (r : Region) → length (floats (four r)) ≡ 32
+length-four r = length-floats (four r)
+
+-- ---- a camera's numbers, over twelve zeros
+
+laid : (at : ℕ) (new bs : List ℕ) → at + length new ≤ length bs → put at new bs ≡ take at bs ++ new ++ drop (at + length new) bs
+unfolding put
+laid at new bs h = simp (le-leb (at + length new) (length bs) h)
+
+-- what is put over the start of what was put
+over : (at : ℕ) (a b bs : List ℕ) → length a ≤ length b → at + length b ≤ length bs → put at a (put at b bs) ≡ put at (a ++ drop (length a) b) bs
+over at a b bs h room =
+    let p : List ℕ = take at bs in
+    let s : List ℕ = drop (at + length b) bs in
+    let n : ℕ = length a in
+    let y : List ℕ = put at b bs in
+    let lp : length p ≡ at = length-take-le at bs (omega (arith, room)) in
+    let size : length (a ++ drop n b) ≡ length b = omega (arith, length-append a (drop n b), length-drop n b, h) in
+    let end : drop (at + n) y ≡ drop n b ++ s =
+    ap (drop (at + n)) (laid at b bs room)
+    ∙ drop-append-le (at + n) (p ++ b) s (omega (arith, length-append p b, lp, h))
+    ∙ ap (λ (k : ℕ). drop (k + n) (p ++ b) ++ s) (sym lp)
+    ∙ ap (λ (l : List ℕ). l ++ s) (drop-append-add p b n) in
+    laid at a y (omega (arith, length-put at b bs, h, room))
+    ∙ ap₂ (λ (l m : List ℕ). l ++ a ++ m) (kept-before at b bs room) end
+    ∙ sym (append-assoc (p ++ a) (drop n b) s)
+    ∙ ap (λ (l : List ℕ). l ++ s) (append-assoc p a (drop n b))
+    ∙ ap (λ (k : ℕ). p ++ (a ++ drop n b) ++ drop (at + k) bs) (sym size)
+    ∙ sym (laid at (a ++ drop n b) bs (omega (arith, size, room)))
+
+floats-append : (xs ys : List Float) → floats xs ++ floats ys ≡ floats (xs ++ ys)
+unfolding floats
+floats-append [] ys = refl
+floats-append (x ∷ xs) ys =
+    append-assoc (bytes 8 (toBits binary64 x)) (floats xs) (floats ys) ∙ ap (λ (l : List ℕ). bytes 8 (toBits binary64 x) ++ l) (floats-append xs ys)
+
+floats-drop : (k : ℕ) (xs : List Float) → drop (8 * k) (floats xs) ≡ floats (drop k xs)
+unfolding floats
+floats-drop zero xs = refl
+floats-drop (suc k) [] = drop-nil (8 * suc k)
+floats-drop (suc k) (x ∷ xs) =
+    let w : List ℕ = bytes 8 (toBits binary64 x) in
+    let place : 8 * suc k ≡ length w + 8 * k = omega (arith, length-bytes 8 (toBits binary64 x)) in
+    ap (λ (j : ℕ). drop j (w ++ floats xs)) place ∙ drop-append-add w (floats xs) (8 * k) ∙ floats-drop k xs
+
+padded : (camera : Camera) → parameters camera ++ drop (length (parameters camera)) (replicate 12 zeros) ≡ twelve camera
+padded (cameras.Affine p) = refl
+padded (cameras.EnhancedUnified p) = refl
+padded (cameras.KannalaBrandt p) = refl
+padded (cameras.BrownConrady p) = refl
+
+at-most-twelve : (camera : Camera) → length (parameters camera) ≤ 12
+at-most-twelve (cameras.Affine p) = omega arith
+at-most-twelve (cameras.EnhancedUnified p) = omega arith
+at-most-twelve (cameras.KannalaBrandt p) = omega arith
+at-most-twelve (cameras.BrownConrady p) = omega arith
+
+pub over-zeros :
+    (camera : Camera) (lent x y : List ℕ) →
+    104 ≤ length lent →
+    x ≡ put 8 (floats (replicate 12 zeros)) lent →
+    y ≡ put 8 (floats (parameters camera)) x →
+    y ≡ put 8 (floats (twelve camera)) lent
+over-zeros camera lent x y room e f =
+    let own : List Float = parameters camera in
+    let blank : List Float = replicate 12 zeros in
+    let lo : length (floats own) ≡ 8 * length own = length-floats own in
+    let lb : length (floats blank) ≡ 96 = length-floats blank in
+    f
+    ∙ ap (put 8 (floats own)) e
+    ∙ over 8 (floats own) (floats blank) lent (omega (arith, lo, lb, at-most-twelve camera)) (omega (arith, lb, room))
+    ∙ ap (λ (k : ℕ). put 8 (floats own ++ drop k (floats blank)) lent) lo
+    ∙ ap (λ (l : List ℕ). put 8 (floats own ++ l) lent) (floats-drop (length own) blank)
+    ∙ ap (λ (l : List ℕ). put 8 l lent) (floats-append own (drop (length own) blank))
+    ∙ ap (λ (l : List Float). put 8 (floats l) lent) (padded camera)
+
+-- room for the camera is room afterwards
+pub room-kept : (at : ℕ) (new x y : List ℕ) → y ≡ put at new x → length y ≡ length x
+room-kept at new x y e = ap length e ∙ length-put at new x
+
+-- ---- the eight parts of a record, and what stands before each
+
+module _ (job : Job) where
+  abbrev pub part₀ : List ℕ
+  part₀ = bytes 4 (model-number (job .camera))
+
+  abbrev pub part₁ : List ℕ
+  part₁ = bytes 4 (job .at .updates)
+
+  abbrev pub part₂ : List ℕ
+  part₂ = floats (twelve (job .camera))
+
+  abbrev pub part₃ : List ℕ
+  part₃ = bytes 4 (job .width)
+
+  abbrev pub part₄ : List ℕ
+  part₄ = bytes 4 (job .height)
+
+  abbrev pub part₅ : List ℕ
+  part₅ = bytes 8 (job .at .done)
+
+  abbrev pub part₆ : List ℕ
+  part₆ = floats (four (job .at .edges))
+
+  abbrev pub part₇ : List ℕ
+  part₇ = floats (four (job .at .region))
+
+  abbrev pub to₁ : List ℕ
+  to₁ = part₀ ++ part₁
+
+  abbrev pub to₂ : List ℕ
+  to₂ = to₁ ++ part₂
+
+  abbrev pub to₃ : List ℕ
+  to₃ = to₂ ++ part₃
+
+  abbrev pub to₄ : List ℕ
+  to₄ = to₃ ++ part₄
+
+  abbrev pub to₅ : List ℕ
+  to₅ = to₄ ++ part₅
+
+  abbrev pub to₆ : List ℕ
+  to₆ = to₅ ++ part₆
+
+  pub long₀ : length part₀ ≡ 4
+  long₀ = length-bytes 4 (model-number (job .camera))
+
+  pub long₁ : length to₁ ≡ 8
+  long₁ = longer part₀ part₁ 4 4 long₀ (length-bytes 4 (job .at .updates))
+
+  pub long₂ : length to₂ ≡ 104
+  long₂ = longer to₁ part₂ 8 96 long₁ (length-twelve (job .camera))
+
+  pub long₃ : length to₃ ≡ 108
+  long₃ = longer to₂ part₃ 104 4 long₂ (length-bytes 4 (job .width))
+
+  pub long₄ : length to₄ ≡ 112
+  long₄ = longer to₃ part₄ 108 4 long₃ (length-bytes 4 (job .height))
+
+  pub long₅ : length to₅ ≡ 120
+  long₅ = longer to₄ part₅ 112 8 long₄ (length-bytes 8 (job .at .done))
+
+  pub long₆ : length to₆ ≡ 152
+  long₆ = longer to₅ part₆ 120 32 long₅ (length-four (job .at .edges))
+
+  pub length-record : length (record-bytes job) ≡ record-length
+  unfolding record-bytes
+  length-record = longer to₆ part₇ 152 32 long₆ (length-four (job .at .region))
+
+  -- a buffer that is too short
+  pub no-room : (lent : List ℕ) → length lent < record-length → lent ≡ put 0 (record-bytes job) lent
+  no-room lent h = sym (not-put 0 (record-bytes job) lent (omega (arith, h, length-record)))
+
+  -- a buffer with room, after each part
+  module _ (lent : List ℕ) (room : record-length ≤ length lent) where
+    behind :
+        (a b x y : List ℕ) (at size : ℕ) →
+        length a ≡ at →
+        length b ≡ size →
+        at + size ≤ record-length →
+        x ≡ put 0 a lent →
+        y ≡ put at b x →
+        y ≡ put 0 (a ++ b) lent
+    behind a b x y at size la lb h e f = f ∙ ap (put at b) e ∙ put-put 0 a b lent at (omega (arith, la)) (omega (arith, la, lb, h, room))
+
+    pub all-put :
+        (model : ℕ) (x₀ x₁ x₂ x₃ x₄ x₅ x₆ x₇ : List ℕ) →
+        model ≡ model-number (job .camera) →
+        x₀ ≡ put 0 (bytes 4 model) lent →
+        x₁ ≡ put 4 part₁ x₀ →
+        x₂ ≡ put 8 part₂ x₁ →
+        x₃ ≡ put 104 part₃ x₂ →
+        x₄ ≡ put 108 part₄ x₃ →
+        x₅ ≡ put 112 part₅ x₄ →
+        x₆ ≡ put 120 part₆ x₅ →
+        x₇ ≡ put 152 part₇ x₆ →
+        x₇ ≡ put 0 (record-bytes job) lent
+    unfolding record-bytes
+    all-put model x₀ x₁ x₂ x₃ x₄ x₅ x₆ x₇ m e₀ e₁ e₂ e₃ e₄ e₅ e₆ e₇ =
+        let f₀ : x₀ ≡ put 0 part₀ lent = e₀ ∙ ap (λ (w : ℕ). put 0 (bytes 4 w) lent) m in
+        let f₁ : x₁ ≡ put 0 to₁ lent = behind part₀ part₁ x₀ x₁ 4 4 long₀ (length-bytes 4 (job .at .updates)) (omega arith) f₀ e₁ in
+        let f₂ : x₂ ≡ put 0 to₂ lent = behind to₁ part₂ x₁ x₂ 8 96 long₁ (length-twelve (job .camera)) (omega arith) f₁ e₂ in
+        let f₃ : x₃ ≡ put 0 to₃ lent = behind to₂ part₃ x₂ x₃ 104 4 long₂ (length-bytes 4 (job .width)) (omega arith) f₂ e₃ in
+        let f₄ : x₄ ≡ put 0 to₄ lent = behind to₃ part₄ x₃ x₄ 108 4 long₃ (length-bytes 4 (job .height)) (omega arith) f₃ e₄ in
+        let f₅ : x₅ ≡ put 0 to₅ lent = behind to₄ part₅ x₄ x₅ 112 8 long₄ (length-bytes 8 (job .at .done)) (omega arith) f₄ e₅ in
+        let f₆ : x₆ ≡ put 0 to₆ lent = behind to₅ part₆ x₅ x₆ 120 32 long₅ (length-four (job .at .edges)) (omega arith) f₅ e₆ in
+        behind to₆ part₇ x₆ x₇ 152 32 long₆ (length-four (job .at .region)) (omega arith) f₆ e₇

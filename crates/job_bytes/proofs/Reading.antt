@@ -1,0 +1,59 @@
+-- What is read, each at its place, and why nothing is. Assumes nothing.
+use mathlib.Core.Path.{_≡_, refl, ap₂, _∙_}
+use mathlib.Core.List.{List}
+use Prim.Native.Nat.{ℕ, _+_, _-_, _≤_, _<_}
+use native.Mathlib.Omega.{arith}
+use borrow.Author.Tests.{le-leb, lt-leb, eq-eqb, ne-eqb}
+use lib.Ieee.{Float}
+use lib.ListN.{length, take, drop, length-drop}
+use lib.Seq.{take-all}
+use Rattle.lens.specs.declared.Refusal.the-variants.{UnknownModel, WrongLength}
+use Rattle.region.specs.declared.Region.{Region}
+use Rattle.camera.specs.declared.Camera.{Camera}
+use Rattle.little_endian.specs.Bytes.{half, word, float}
+use Rattle.camera_bytes.specs.Reading.{camera-of}
+use Rattle.job.specs.declared.Job.{Job}
+use Rattle.job_bytes.specs.Bytes.{record-length, box-at, job-at, record-read}
+use Rattle.job_bytes.specs.declared.Found.the-variants.{Of, Refused}
+
+module _ (bs : List ℕ) where
+  pub boxed :
+      (at : ℕ) (left top right bottom : Float) →
+      left ≡ float bs at →
+      top ≡ float bs (at + 8) →
+      right ≡ float bs (at + 16) →
+      bottom ≡ float bs (at + 24) →
+      _≡_ {A = Region} record { left = left; top = top; right = right; bottom = bottom } (box-at bs at)
+  boxed at left top right bottom l t r b = rw (l, t, r, b) refl
+
+  -- the bytes from 8 on, as the code takes them
+  rest : take (length bs - 8) (drop 8 bs) ≡ drop 8 bs
+  rest = take-all (length bs - 8) (drop 8 bs) (omega (arith, length-drop 8 bs))
+
+  pub placed :
+      (model : ℕ) (camera : Camera) (width height done updates : ℕ) (edges region : Region) →
+      model ≡ half bs 0 →
+      camera ≡ camera-of model (take (length bs - 8) (drop 8 bs)) →
+      width ≡ half bs 104 →
+      height ≡ half bs 108 →
+      done ≡ word bs 112 →
+      edges ≡ box-at bs 120 →
+      region ≡ box-at bs 152 →
+      updates ≡ half bs 4 →
+      _≡_ {A = Job} record { camera = camera; width = width; height = height; at = record { done = done; edges = edges; region = region; updates = updates } } (job-at bs)
+  unfolding job-at
+  placed model camera width height done updates edges region m c w h d e r u =
+      let k : camera ≡ camera-of (half bs 0) (drop 8 bs) = c ∙ ap₂ camera-of m rest in
+      rw (k, w, h, d, e, r, u) refl
+
+  pub read-misfit : (length bs ≡ record-length → ⊥) → Refused WrongLength ≡ record-read bs
+  unfolding record-read
+  read-misfit n = simp (ne-eqb (length bs) record-length n)
+
+  pub read-unknown : length bs ≡ record-length → 3 < half bs 0 → Refused UnknownModel ≡ record-read bs
+  unfolding record-read
+  read-unknown e h = simp (eq-eqb (length bs) record-length e, lt-leb (half bs 0) 3 h)
+
+  pub read-job : length bs ≡ record-length → half bs 0 ≤ 3 → Of (job-at bs) ≡ record-read bs
+  unfolding record-read
+  read-job e h = simp (eq-eqb (length bs) record-length e, le-leb (half bs 0) 3 h)

@@ -1,0 +1,14 @@
+-- `job_bytes::started` meets its contract. Assumes nothing.
+use mathlib.Core.Path.{refl}
+use borrow.Author.Needs.{needs}
+use Rattle.job_bytes.proofs.started.Statement.{statement}
+use Rattle.job_bytes.proofs.started.Tie as tie
+
+returns : tie.Need-returns
+returns c = rw (c .before .before .asked .given .1) (c .fresh .ensures)
+
+returns-2 : tie.Need-returns-2
+returns-2 c = rw (c .before .asked2 .given .1) refl
+
+pub started-spec : {M : Type 1} → statement M
+started-spec = tie.close (tie.spec (λ c. search needs) (λ c κs. search needs) (λ c. search needs) returns returns-2)

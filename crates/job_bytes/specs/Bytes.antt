@@ -1,0 +1,85 @@
+-- The record of a table that is being built, as 184 bytes, and read back out of any bytes. Definitions only.
+--
+--     0  model, 4 bytes        104  width, 4 bytes       120  edges: left, top, right, bottom
+--     4  updates, 4 bytes      108  height, 4 bytes      152  region: left, top, right, bottom
+--     8  twelve parameters     112  units done, 8 bytes
+use mathlib.Core.Bool.{cond}
+use mathlib.Core.List.{List, [], _++_}
+use Prim.Native.Nat.{ℕ, _+_}
+use lib.Dec.{eqb, leb}
+use lib.Ieee.{Float}
+use lib.ListN.{length, take, drop, replicate}
+use Rattle.lens.specs.Constants.{zeros}
+use Rattle.lens.specs.declared.Refusal.the-variants.{UnknownModel, WrongLength}
+use Rattle.region.specs.Region.{four}
+use Rattle.region.specs.declared.Region.{Region}
+use Rattle.camera.specs.Camera.{parameters}
+use Rattle.camera.specs.declared.Camera.{Camera}
+use Rattle.camera.specs.declared.Camera.the-variants as cameras
+use Rattle.little_endian.specs.Bytes.{bytes, half, word, float, floats}
+use Rattle.camera_bytes.specs.Reading.{camera-of, read}
+use Rattle.camera_bytes.specs.declared.Asked.{Asked}
+use Rattle.camera_bytes.specs.declared.Asked.the-variants as asked
+use Rattle.job.specs.Job.{Begun, a-job, no-job, fresh, told-started}
+use Rattle.job.specs.declared.Job.{Job}
+use Rattle.job.specs.declared.Started.{Started}
+use Rattle.job.specs.declared.Started.the-variants as begun
+use Rattle.given.specs.Given.{Given, answered}
+use Rattle.job_bytes.specs.declared.Found.{Found}
+use Rattle.job_bytes.specs.declared.Found.the-variants.{Of, Refused}
+
+-- how many bytes a record has
+abbrev pub record-length : ℕ
+record-length = 184
+
+abbrev pub model-number : Camera → ℕ
+model-number (cameras.Affine p) = 0
+model-number (cameras.EnhancedUnified p) = 1
+model-number (cameras.KannalaBrandt p) = 2
+model-number (cameras.BrownConrady p) = 3
+
+-- a model's own parameters, and zeros up to twelve
+abbrev pub twelve : Camera → List Float
+twelve camera = take 12 (parameters camera ++ replicate 12 zeros)
+
+-- ---- written
+
+unfoldable pub record-bytes : Job → List ℕ
+record-bytes job =
+    bytes 4 (model-number (job .camera)) ++ bytes 4 (job .at .updates) ++ floats (twelve (job .camera))
+    ++ bytes 4 (job .width) ++ bytes 4 (job .height) ++ bytes 8 (job .at .done)
+    ++ floats (four (job .at .edges)) ++ floats (four (job .at .region))
+
+-- ---- read, each at its place
+
+abbrev pub box-at : List ℕ → ℕ → Region
+box-at bs at = record { left = float bs at; top = float bs (at + 8); right = float bs (at + 16); bottom = float bs (at + 24) }
+
+unfoldable pub job-at : List ℕ → Job
+job-at bs = record {
+  camera = camera-of (half bs 0) (drop 8 bs);
+  width = half bs 104;
+  height = half bs 108;
+  at = record { done = word bs 112; edges = box-at bs 120; region = box-at bs 152; updates = half bs 4 };
+}
+
+-- 7 for bytes of another length, which have no places to read at; then 1
+unfoldable pub record-read : List ℕ → Found
+record-read bs =
+    cond (eqb (length bs) record-length)
+    (cond (leb (half bs 0) 3) (Of (job-at bs)) (Refused UnknownModel))
+    (Refused WrongLength)
+
+-- ---- a fresh record: 1, 3, then 4, 5, 6, and 7 for a buffer of another length
+
+abbrev pub started : Asked → ℕ → ℕ → Started
+started (asked.Of camera) width height = fresh camera width height
+started (asked.Refused refusal) width height = begun.Refused refusal
+
+-- no bytes go with a refusal
+abbrev pub give-started : Begun → List ℕ → Given
+give-started (a-job job) lent = answered record-length 0 (record-bytes job) lent
+give-started (no-job number) lent = answered record-length number [] lent
+
+unfoldable pub fresh-bytes : ℕ → List ℕ → ℕ → ℕ → List ℕ → Given
+fresh-bytes model params width height lent = give-started (told-started (started (read model params) width height)) lent

@@ -1,0 +1,210 @@
+// The record of a table that is being built, as 184 bytes at fixed places: what C keeps between two turns.
+ghost use mathlib.Core.Path.{_≡_};
+ghost use Prim.Native.Nat.{_≤_};
+ghost use lib.ListN.{length};
+ghost use Rattle.little_endian.specs.Bytes.{half, floats, put};
+ghost use Rattle.region.specs.Region.{four};
+ghost use Rattle.camera.specs.Camera.{parameters};
+ghost use Rattle.given.specs.Given.{given, answered};
+ghost use Rattle.job.specs.Job.{told-started};
+ghost use Rattle.job_bytes.specs.Bytes.{record-length, model-number, twelve, box-at, job-at, record-bytes, record-read, started, give-started, fresh-bytes};
+use camera::Camera;
+use camera_bytes::Asked;
+use job::Job;
+use job::Progress;
+use job::Started;
+use lens::Refusal;
+use region::Region;
+
+// How many bytes a record has.
+pub const LENGTH: usize = 184;
+
+// The record that bytes hold, or why they hold none.
+pub enum Found {
+    Of(Job),
+    Refused(Refusal),
+}
+
+// The four numbers of a box, one after the other.
+fn box_at(bytes: &[u8], at: usize) -> Region
+    requires { ⌜ at ≤ 152 ⌝ }
+    ensures { λ r. ⌜ r ≡ box-at (now (bytes .entry)) at ⌝ }
+{
+    Region {
+        left: little_endian::float(bytes, at),
+        top: little_endian::float(bytes, at + 8),
+        right: little_endian::float(bytes, at + 16),
+        bottom: little_endian::float(bytes, at + 24),
+    }
+}
+
+// The box of the first 32 bytes. Past the end stand zeros.
+pub fn region_of(bytes: &[u8]) -> Region
+    ensures { λ r. ⌜ r ≡ box-at (now (bytes .entry)) 0 ⌝ }
+{
+    box_at(bytes, 0)
+}
+
+// What stands at each place, of a model that there is.
+fn job_at(bytes: &[u8], model: u8) -> Job
+    requires { ⌜ (model ≡ half (now bytes) 0) × (8 ≤ length (now bytes)) ⌝ }
+    ensures { λ r. ⌜ r ≡ job-at (now (bytes .entry)) ⌝ }
+{
+    Job {
+        camera: camera_bytes::camera_of(model, &bytes[8..]),
+        width: little_endian::half(bytes, 104) as usize,
+        height: little_endian::half(bytes, 108) as usize,
+        at: Progress {
+            done: little_endian::word(bytes, 112) as usize,
+            edges: box_at(bytes, 120),
+            region: box_at(bytes, 152),
+            updates: little_endian::half(bytes, 4),
+        },
+    }
+}
+
+// Any bytes at all are a record, once their length and model are right: which records no build can have is for the turn to say.
+pub fn read(bytes: &[u8]) -> Found
+    ensures { λ r. ⌜ r ≡ record-read (now (bytes .entry)) ⌝ }
+{
+    if bytes.len() != LENGTH {
+        return Found::Refused(Refusal::WrongLength);
+    }
+    let model = little_endian::half(bytes, 0);
+    if 3 < model {
+        return Found::Refused(Refusal::UnknownModel);
+    }
+    Found::Of(job_at(bytes, model as u8))
+}
+
+// A camera's model by its number.
+fn model_number(camera: Camera) -> u64
+    ensures { λ r. ⌜ r ≡ model-number camera ⌝ }
+{
+    match camera {
+        Camera::Affine(_) => 0,
+        Camera::EnhancedUnified(_) => 1,
+        Camera::KannalaBrandt(_) => 2,
+        Camera::BrownConrady(_) => 3,
+    }
+}
+
+// A model's own parameters at their place.
+fn put_parameters(camera: Camera, out: &mut [u8])
+    ensures { λ _. ⌜ now (out .exit) ≡ put 8 (floats (parameters camera)) (now (out .entry)) ⌝ }
+{
+    match camera {
+        Camera::Affine(p) => little_endian::put_floats(out, 8, &[p.fx, p.fy, p.cx, p.cy]),
+        Camera::EnhancedUnified(p) => little_endian::put_floats(
+            out,
+            8,
+            &[p.fx, p.fy, p.cx, p.cy, p.alpha, p.beta],
+        ),
+        Camera::KannalaBrandt(p) => little_endian::put_floats(
+            out,
+            8,
+            &[p.fx, p.fy, p.cx, p.cy, p.k0, p.k1, p.k2, p.k3],
+        ),
+        Camera::BrownConrady(p) => little_endian::put_floats(
+            out,
+            8,
+            &[
+                p.fx,
+                p.fy,
+                p.cx,
+                p.cy,
+                p.k1,
+                p.k2,
+                p.p1,
+                p.p2,
+                p.k3,
+                p.k4,
+                p.k5,
+                p.k6,
+            ],
+        ),
+    }
+}
+
+// Twelve zeros, and the parameters over them: so no model spells its zeros out.
+fn put_camera(camera: Camera, out: &mut [u8])
+    requires { ⌜ 104 ≤ length (now out) ⌝ }
+    ensures { λ _. ⌜ now (out .exit) ≡ put 8 (floats (twelve camera)) (now (out .entry)) ⌝ }
+{
+    let zeros = [0.0; 12];
+    little_endian::put_floats(out, 8, &zeros);
+    put_parameters(camera, out);
+}
+
+// A box at its place.
+fn put_box(region: Region, at: usize, out: &mut [u8])
+    ensures { λ _. ⌜ now (out .exit) ≡ put at (floats (four region)) (now (out .entry)) ⌝ }
+{
+    little_endian::put_floats(
+        out,
+        at,
+        &[region.left, region.top, region.right, region.bottom],
+    );
+}
+
+// Writes a record at the buffer's start, if all of it fits. Else the buffer is left as it is.
+pub fn write(job: Job, out: &mut [u8])
+    ensures { λ _. ⌜ now (out .exit) ≡ put 0 (record-bytes job) (now (out .entry)) ⌝ }
+{
+    if LENGTH <= out.len() {
+        let camera = job.camera;
+        let at = job.at;
+        let edges = at.edges;
+        let region = at.region;
+        little_endian::put(out, 0, 4, model_number(camera));
+        little_endian::put(out, 4, 4, at.updates as u64);
+        put_camera(camera, out);
+        little_endian::put(out, 104, 4, job.width as u64);
+        little_endian::put(out, 108, 4, job.height as u64);
+        little_endian::put(out, 112, 8, at.done as u64);
+        put_box(edges, 120, out);
+        put_box(region, 152, out);
+    }
+}
+
+// A fresh record of the camera that is asked for, or why there is none.
+fn started(asked: Asked, width: usize, height: usize) -> Started
+    ensures { λ r. ⌜ told-started r ≡ told-started (started asked width height) ⌝ }
+{
+    match asked {
+        Asked::Of(camera) => job::fresh(camera, width, height),
+        Asked::Refused(refusal) => Started::Refused(refusal),
+    }
+}
+
+// Hands a record over, if the buffer is of its length.
+fn give_job(job: Job, out: &mut [u8]) -> u8
+    ensures { λ r. ⌜ given r (now (out .exit)) ≡ answered record-length 0 (record-bytes job) (now (out .entry)) ⌝ }
+{
+    let code = given::code(0, out.len() == LENGTH);
+    if code == 0 {
+        write(job, out);
+    }
+    code
+}
+
+fn give_started(started: Started, out: &mut [u8]) -> u8
+    ensures { λ r. ⌜ given r (now (out .exit)) ≡ give-started (told-started started) (now (out .entry)) ⌝ }
+{
+    match started {
+        Started::With(job) => give_job(job, out),
+        Started::Refused(refusal) => given::code(lens::number(refusal), out.len() == LENGTH),
+    }
+}
+
+// The bytes of a fresh record: 1, 3, 4, 5, 6, 7, or 0 and all 184 of them.
+pub fn fresh(model: u8, params: &[u8], width: u32, height: u32, out: &mut [u8]) -> u8
+    ensures { λ r. ⌜ given r (now (out .exit)) ≡ fresh-bytes model (now (params .entry)) width height (now (out .entry)) ⌝ }
+{
+    let started = started(
+        camera_bytes::read(model, params),
+        width as usize,
+        height as usize,
+    );
+    give_started(started, out)
+}

@@ -1,0 +1,5 @@
+pub mod Begun
+pub mod Build
+pub mod Laws
+pub mod Numbers
+pub mod Turning

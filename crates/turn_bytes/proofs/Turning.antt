@@ -1,0 +1,153 @@
+-- From the parts of a call to what it hands back. Assumes nothing.
+use mathlib.Core.Path.{_≡_, refl, sym, ap, ap₂, _∙_}
+use mathlib.Core.Bool.{Bool, true, false, cond}
+use mathlib.Core.List.{List, [], _++_}
+use Prim.Native.Nat.{ℕ, _+_}
+use native.Mathlib.Omega.{arith}
+use borrow.Author.Tests.{eq-eqb, ne-eqb, eqb-true}
+use lib.Dec.{eqb, leb}
+use lib.Ieee.{Float}
+use lib.ListN.{length, length-append}
+use Rattle.lens.specs.Judgement.{verdict, decided}
+use Rattle.lens.specs.Refusal.{number}
+use Rattle.lens.specs.declared.Judgement.{Judgement}
+use Rattle.lens.specs.declared.Judgement.the-variants as judged
+use Rattle.lens.specs.declared.Refusal.{Refusal}
+use Rattle.lens.specs.declared.Refusal.the-variants.{UnknownModel, WrongLength}
+use Rattle.lens.proofs.Laws.{number-within, verdict-one-to-one}
+use Rattle.border.specs.Border.{all-units}
+use Rattle.turns.specs.Turns.{refused, turn}
+use Rattle.job.specs.Job.{admitted}
+use Rattle.job.specs.declared.Job.{Job}
+use Rattle.units.specs.Table.{next}
+use Rattle.distortion_table.specs.Answer.{Answer, answer, turn-of, told-status, told-turned}
+use Rattle.distortion_table.specs.declared.Turned.{Turned}
+use Rattle.little_endian.specs.Bytes.{bytes, half, put}
+use Rattle.little_endian.proofs.Laws.{length-bytes, put-whole, put-put}
+use Rattle.given.specs.Given.{code, answered}
+use Rattle.given.proofs.Laws.{told-zero}
+use Rattle.job_bytes.specs.Bytes.{record-length, record-bytes, record-read, job-at}
+use Rattle.job_bytes.specs.declared.Found.{Found}
+use Rattle.job_bytes.specs.declared.Found.the-variants.{Of, Refused}
+use Rattle.turn_bytes.specs.Turn.{handed, own, answer-length, before-units, status-number, unit-number, four-words, written, taken-or-not, turn-bytes, turn-held}
+
+-- ---- four numbers, as they are put one behind the other
+
+module _ (a b c d : ℕ) where
+  abbrev two : List ℕ
+  two = bytes 8 a ++ bytes 8 b
+
+  abbrev three : List ℕ
+  three = two ++ bytes 8 c
+
+  long-two : length two ≡ 16
+  long-two = length-append (bytes 8 a) (bytes 8 b) ∙ ap₂ (λ (m n : ℕ). m + n) (length-bytes 8 a) (length-bytes 8 b)
+
+  long-three : length three ≡ 24
+  long-three = length-append two (bytes 8 c) ∙ ap₂ (λ (m n : ℕ). m + n) long-two (length-bytes 8 c)
+
+  pub length-words : length (four-words a b c d) ≡ answer-length
+  length-words = length-append three (bytes 8 d) ∙ ap₂ (λ (m n : ℕ). m + n) long-three (length-bytes 8 d)
+
+  pub four-put :
+      (lent : List ℕ) →
+      length lent ≡ answer-length →
+      put 24 (bytes 8 d) (put 16 (bytes 8 c) (put 8 (bytes 8 b) (put 0 (bytes 8 a) lent))) ≡ four-words a b c d
+  four-put lent e =
+      let la : length (bytes 8 a) ≡ 8 = length-bytes 8 a in
+      ap (λ (l : List ℕ). put 24 (bytes 8 d) (put 16 (bytes 8 c) l)) (put-put 0 (bytes 8 a) (bytes 8 b) lent 8 (omega (arith, la)) (omega (arith, la, length-bytes 8 b, e)))
+      ∙ ap (put 24 (bytes 8 d)) (put-put 0 two (bytes 8 c) lent 16 (omega (arith, long-two)) (omega (arith, long-two, length-bytes 8 c, e)))
+      ∙ put-put 0 three (bytes 8 d) lent 24 (omega (arith, long-three)) (omega (arith, long-three, length-bytes 8 d, e))
+      ∙ put-whole (four-words a b c d) lent (length-words ∙ sym e)
+
+-- ---- what is read out of bytes
+
+by-tests : (bs : List ℕ) (job : Job) (long known : Bool) → eqb (length bs) record-length ≡ long → cond long (cond known (Of (job-at bs)) (Refused UnknownModel)) (Refused WrongLength) ≡ Of job → (job ≡ job-at bs) × (length bs ≡ record-length)
+by-tests bs job true true e h = let q : job-at bs ≡ job = cc in (sym q, eqb-true (length bs) record-length e)
+by-tests bs job true false e h = let z : _≡_ {A = ℕ} 0 1 = cc in absurd (omega arith)
+by-tests bs job false known e h = let z : _≡_ {A = ℕ} 0 1 = cc in absurd (omega arith)
+
+-- a record that is read is the one at the bytes' places, and these are as many as a record has
+pub read-of : (bs : List ℕ) (job : Job) → record-read bs ≡ Of job → (job ≡ job-at bs) × (length bs ≡ record-length)
+unfolding record-read
+read-of bs job h = by-tests bs job (eqb (length bs) record-length) (leb (half bs 0) 3) refl h
+
+-- ---- before any unit
+
+-- a call is taken only before an answer of the right length, with a record that has no refusal of its own
+pub none-before : (found : Found) (cells : List Float) (lent : List ℕ) → before-units found cells lent ≡ 0 → (own found (length cells) ≡ 0) × (length lent ≡ answer-length)
+unfolding answered
+none-before found cells lent e = told-zero answer-length (own found (length cells)) [] lent e
+
+pub is-taken : (job : Job) (cells : List Float) (lent : List ℕ) → before-units (Of job) cells lent ≡ 0 → admitted job (length cells) ≡ judged.Taken
+is-taken job cells lent e = verdict-one-to-one (admitted job (length cells)) judged.Taken (none-before (Of job) cells lent e .0)
+
+-- the number that is worked out from the parts
+pub as-judged :
+    (job : Job) (cells : List Float) (lent : List ℕ) {r n v : ℕ} →
+    r ≡ code n (eqb (length lent) answer-length) →
+    n ≡ v →
+    v ≡ verdict (admitted job (length cells)) →
+    r ≡ before-units (Of job) cells lent
+as-judged job cells lent e f g = e ∙ ap (λ (k : ℕ). code k (eqb (length lent) answer-length)) (f ∙ g)
+
+-- one that is not taken writes nothing, and one that is taken writes all that its turn answers
+module _ (bs : List ℕ) (cells : List Float) (lent : List ℕ) (a : Answer) (n : ℕ) where
+  pub not-taken : (n ≡ 0 → ⊥) → taken-or-not n bs cells lent a ≡ handed n bs cells lent
+  not-taken h = ap (λ (b : Bool). cond b (written a) (handed n bs cells lent)) (ne-eqb n 0 h)
+
+  pub taken : n ≡ 0 → taken-or-not n bs cells lent a ≡ written a
+  taken h = ap (λ (b : Bool). cond b (written a) (handed n bs cells lent)) (eq-eqb n 0 h)
+
+-- ---- a call whose record is read
+
+module _ (job : Job) (bs : List ℕ) (cells : List Float) (allowance : ℕ) (lent : List ℕ) where
+  by-verdict : (j : Judgement) → decided j (λ r. record { said = refused (number r); job = job; cells = cells }) (answer (job .camera) (job .width) (job .height) (turn (next (job .camera) (job .width) (job .height)) allowance record { at = job .at; cells = cells })) ≡ turn-of job cells allowance → all-units (turn-of job cells allowance .job .width) (turn-of job cells allowance .job .height) ≡ all-units (job .width) (job .height)
+  by-verdict judged.Taken e = sym (ap (λ (a : Answer). all-units (a .job .width) (a .job .height)) e)
+  by-verdict (judged.Refused r) e = sym (ap (λ (a : Answer). all-units (a .job .width) (a .job .height)) e)
+
+  -- a turn leaves the size, and so the units in all, as they were
+  size-kept : all-units (turn-of job cells allowance .job .width) (turn-of job cells allowance .job .height) ≡ all-units (job .width) (job .height)
+  size-kept = by-verdict (admitted job (length cells)) refl
+
+  pub held-refused : (r : ℕ) → r ≡ before-units (Of job) cells lent → (r ≡ 0 → ⊥) → handed r bs cells lent ≡ turn-held job bs cells allowance lent
+  unfolding turn-held
+  held-refused r e n =
+      ap (λ (k : ℕ). handed k bs cells lent) e
+      ∙ sym (not-taken bs cells lent (turn-of job cells allowance) (before-units (Of job) cells lent) (λ z. n (e ∙ z)))
+
+  pub held-taken :
+      (t : Turned) (after : List Float) (r : ℕ) (record-after answer-after : List ℕ) (all : ℕ) →
+      before-units (Of job) cells lent ≡ 0 →
+      told-turned t after ≡ turn-of job cells allowance →
+      all ≡ all-units (job .width) (job .height) →
+      r ≡ unit-number (told-status (t .status)) →
+      record-after ≡ record-bytes (t .job) →
+      answer-after ≡ four-words (status-number (told-status (t .status))) (t .job .at .done) all (t .job .at .updates) →
+      handed r record-after after answer-after ≡ turn-held job bs cells allowance lent
+  unfolding turn-held
+  held-taken t after r record-after answer-after all z e f g h i =
+      let units : all ≡ all-units (t .job .width) (t .job .height) = f ∙ sym size-kept ∙ sym (ap (λ (a : Answer). all-units (a .job .width) (a .job .height)) e) in
+      ap (λ (n : ℕ). handed n record-after after answer-after) g
+      ∙ ap₂ (λ (b c : List ℕ). handed (unit-number (told-status (t .status))) b after c) h i
+      ∙ ap (λ (n : ℕ). handed (unit-number (told-status (t .status))) (record-bytes (t .job)) after (four-words (status-number (told-status (t .status))) (t .job .at .done) n (t .job .at .updates))) units
+      ∙ ap written e
+      ∙ sym (taken bs cells lent (turn-of job cells allowance) (before-units (Of job) cells lent) z)
+
+  pub as-read : record-read bs ≡ Of job → turn-held job bs cells allowance lent ≡ turn-bytes bs cells allowance lent
+  unfolding turn-held turn-bytes
+  as-read e =
+      ap₂ (λ (f : Found) (j : Job). taken-or-not (before-units f cells lent) bs cells lent (turn-of j cells allowance)) (sym e) (read-of bs job e .0)
+
+-- ---- a call whose record cannot be read
+
+pub unread :
+    (bs : List ℕ) (cells : List Float) (allowance : ℕ) (lent : List ℕ) (refusal : Refusal) (r : ℕ) →
+    record-read bs ≡ Refused refusal →
+    r ≡ code (number refusal) (eqb (length lent) answer-length) →
+    handed r bs cells lent ≡ turn-bytes bs cells allowance lent
+unfolding turn-bytes
+unread bs cells allowance lent refusal r e f =
+    let k : r ≡ before-units (record-read bs) cells lent = f ∙ sym (ap (λ (g : Found). before-units g cells lent) e) in
+    ap (λ (n : ℕ). handed n bs cells lent) k
+    ∙ sym (not-taken bs cells lent (turn-of (job-at bs) cells allowance) (before-units (record-read bs) cells lent) (λ z. omega (arith, none-before (Refused refusal) cells lent (sym f ∙ k ∙ z) .0, number-within refusal .0)))

@@ -1,0 +1,85 @@
+-- One turn of a table over bytes: what is handed in, and what comes back. Definitions only.
+--
+-- The answer has 32 bytes, four numbers of eight:
+--
+--     0  status: 0 running, 1 finished, 2 refused      16  units in all
+--     8  units done                                    24  updates
+use mathlib.Core.Bool.{cond}
+use mathlib.Core.List.{List, _++_}
+use Prim.Native.Nat.{ℕ}
+use lib.Dec.{eqb}
+use lib.Ieee.{Float}
+use lib.ListN.{length}
+use Rattle.lens.specs.Judgement.{verdict}
+use Rattle.lens.specs.Refusal.{number}
+use Rattle.border.specs.Border.{all-units}
+use Rattle.turns.specs.Turns.{Said, finished, refused, running}
+use Rattle.job.specs.Job.{admitted}
+use Rattle.job.specs.declared.Job.{Job}
+use Rattle.distortion_table.specs.Answer.{Answer, turn-of}
+use Rattle.little_endian.specs.Bytes.{bytes}
+use Rattle.given.specs.Given.{code}
+use Rattle.job_bytes.specs.Bytes.{record-bytes, record-read, job-at}
+use Rattle.job_bytes.specs.declared.Found.{Found}
+use Rattle.job_bytes.specs.declared.Found.the-variants.{Of, Refused}
+
+-- what a call gives back: its number, and what it was lent
+pub record Handed : Type 0 where
+  pub code : ℕ
+  pub job : List ℕ
+  pub cells : List Float
+  pub answer : List ℕ
+
+abbrev pub handed : ℕ → List ℕ → List Float → List ℕ → Handed
+handed code job cells answer = record { code = code; job = job; cells = cells; answer = answer }
+
+-- ---- before any unit
+
+-- the record's own refusal: 7 and 1, then 4, 5, 6, 7, 13; 0 if there is none. `places` is the length of the table
+abbrev pub own : Found → ℕ → ℕ
+own (Of job) places = verdict (admitted job places)
+own (Refused refusal) places = number refusal
+
+-- how many bytes an answer has
+abbrev pub answer-length : ℕ
+answer-length = 32
+
+-- the lower of the record's own refusal and 7, which is for an answer of another length
+abbrev pub before-units : Found → List Float → List ℕ → ℕ
+before-units found cells lent = code (own found (length cells)) (eqb (length lent) answer-length)
+
+-- ---- what a turn writes
+
+abbrev pub status-number : Said → ℕ
+status-number running = 0
+status-number finished = 1
+status-number (refused n) = 2
+
+-- the number of the unit that refused; 0 if none did
+abbrev pub unit-number : Said → ℕ
+unit-number running = 0
+unit-number finished = 0
+unit-number (refused n) = n
+
+abbrev pub four-words : ℕ → ℕ → ℕ → ℕ → List ℕ
+four-words a b c d = bytes 8 a ++ bytes 8 b ++ bytes 8 c ++ bytes 8 d
+
+abbrev pub answer-bytes : Said → Job → List ℕ
+answer-bytes said job = four-words (status-number said) (job .at .done) (all-units (job .width) (job .height)) (job .at .updates)
+
+abbrev pub written : Answer → Handed
+written a = handed (unit-number (a .said)) (record-bytes (a .job)) (a .cells) (answer-bytes (a .said) (a .job))
+
+-- ---- a call
+
+-- a call that is refused before any unit writes nothing
+abbrev pub taken-or-not : ℕ → List ℕ → List Float → List ℕ → Answer → Handed
+taken-or-not number bs cells lent answer = cond (eqb number 0) (written answer) (handed number bs cells lent)
+
+unfoldable pub turn-bytes : List ℕ → List Float → ℕ → List ℕ → Handed
+turn-bytes bs cells allowance lent =
+    taken-or-not (before-units (record-read bs) cells lent) bs cells lent (turn-of (job-at bs) cells allowance)
+
+-- the same of bytes that hold this record
+unfoldable pub turn-held : Job → List ℕ → List Float → ℕ → List ℕ → Handed
+turn-held job bs cells allowance lent = taken-or-not (before-units (Of job) cells lent) bs cells lent (turn-of job cells allowance)

@@ -1,0 +1,112 @@
+// One turn of a table over bytes: the record, the table and the answer are lent by the caller. A call that is refused before any unit writes nothing.
+ghost use mathlib.Core.Path.{_≡_};
+ghost use lib.ListN.{length};
+ghost use Rattle.lens.specs.Judgement.{verdict};
+ghost use Rattle.region.specs.Size.{Sized};
+ghost use Rattle.border.specs.Border.{all-units};
+ghost use Rattle.distortion_table.specs.Answer.{told-status};
+ghost use Rattle.job_bytes.specs.Bytes.{record-length, record-bytes};
+ghost use Rattle.turn_bytes.specs.Turn.{handed, answer-length, status-number, unit-number, four-words, turn-held, turn-bytes};
+use distortion_table::Status;
+use distortion_table::Turned;
+use job::Job;
+use job_bytes::Found;
+use lens::Judgement;
+
+// How many bytes an answer has.
+pub const ANSWER: usize = 32;
+
+// A judgement by its number: 0 for a record that is taken.
+fn verdict(judgement: Judgement) -> u8
+    ensures { λ r. ⌜ r ≡ verdict judgement ⌝ }
+{
+    match judgement {
+        Judgement::Taken => 0,
+        Judgement::Refused(refusal) => lens::number(refusal),
+    }
+}
+
+// A status by its number, as it stands in the answer.
+fn status_number(status: Status) -> u64
+    ensures { λ r. ⌜ r ≡ status-number (told-status status) ⌝ }
+{
+    match status {
+        Status::Running => 0,
+        Status::Finished => 1,
+        Status::Refused(_) => 2,
+    }
+}
+
+// What a call is answered whose units were begun: the number of the unit that refused, or 0.
+fn unit_number(status: Status) -> u8
+    ensures { λ r. ⌜ r ≡ unit-number (told-status status) ⌝ }
+{
+    match status {
+        Status::Running => 0,
+        Status::Finished => 0,
+        Status::Refused(refusal) => lens::number(refusal),
+    }
+}
+
+// All units of a table, border and cells.
+fn all_units(width: usize, height: usize) -> usize
+    requires { ⌜ Sized width height ⌝ }
+    ensures { λ r. ⌜ r ≡ all-units width height ⌝ }
+{
+    2 * width + 2 * height + 4 + width * height
+}
+
+// Four numbers, eight bytes each, over the whole answer.
+fn put_four(out: &mut [u8], a: u64, b: u64, c: u64, d: u64)
+    requires { ⌜ length (now out) ≡ answer-length ⌝ }
+    ensures { λ _. ⌜ now (out .exit) ≡ four-words a b c d ⌝ }
+{
+    little_endian::put(out, 0, 8, a);
+    little_endian::put(out, 8, 8, b);
+    little_endian::put(out, 16, 8, c);
+    little_endian::put(out, 24, 8, d);
+}
+
+// Writes what a turn hands back, all being the units in all.
+fn give(turned: Turned, all: u64, job: &mut [u8], answer: &mut [u8]) -> u8
+    requires { ⌜ (length (now job) ≡ record-length) × (length (now answer) ≡ answer-length) ⌝ }
+    ensures { λ r. ⌜ (r ≡ unit-number (told-status (turned .status))) × (now (job .exit) ≡ record-bytes (turned .job)) × (now (answer .exit) ≡ four-words (status-number (told-status (turned .status))) (turned .job .at .done) all (turned .job .at .updates)) ⌝ }
+{
+    let said = turned.status;
+    let held = turned.job;
+    let at = held.at;
+    job_bytes::write(held, job);
+    put_four(
+        answer,
+        status_number(said),
+        at.done as u64,
+        all,
+        at.updates as u64,
+    );
+    unit_number(said)
+}
+
+// A turn of the record that the bytes hold: 4, 5, 6, 7, 13 before any unit.
+fn turn_held(held: Job, job: &mut [u8], table: &mut [f32], allowance: u64, answer: &mut [u8]) -> u8
+    requires { ⌜ length (now job) ≡ record-length ⌝ }
+    ensures { λ r. ⌜ handed r (now (job .exit)) (now (table .exit)) (now (answer .exit)) ≡ turn-held held (now (job .entry)) (now (table .entry)) allowance (now (answer .entry)) ⌝ }
+{
+    let number = verdict(job::admitted(held, table.len()));
+    let code = given::code(number, answer.len() == ANSWER);
+    if code != 0 {
+        return code;
+    }
+    let all = all_units(held.width, held.height);
+    let turned = distortion_table::turn(held, table, allowance as usize);
+    give(turned, all as u64, job, answer)
+}
+
+// One turn: as many units as the allowance says, or fewer if one refuses or none is left. Record, table and answer are written up to there.
+pub fn turn(job: &mut [u8], table: &mut [f32], allowance: u64, answer: &mut [u8]) -> u8
+    ensures { λ r. ⌜ handed r (now (job .exit)) (now (table .exit)) (now (answer .exit)) ≡ turn-bytes (now (job .entry)) (now (table .entry)) allowance (now (answer .entry)) ⌝ }
+{
+    match job_bytes::read(job) {
+        Found::Refused(refusal) => given::code(lens::number(refusal), answer.len() == ANSWER),
+        Found::Of(held) => turn_held(held, job, table, allowance, answer),
+    }
+}

@@ -1,0 +1,891 @@
+#!/usr/bin/env python3
+"""Makes crates/head_calls/stdin and stdout: calls of the four functions that a head calls, and what is owed for each.
+
+    python3 tools/make_head_calls.py              writes both files, and says on stderr what they cover
+    python3 tools/make_head_calls.py --self-test  tests this script, and writes nothing
+
+The program's first lines tell the form of a line. Here every case says what its buffers hold, and only the words that
+are not there yet are put. What a call owes comes from lens_tables, lens_models and make_table_lookups, which were made
+from the rules and the Rust, and the bytes from Python's struct and include/lens.h. Of the jobs that are refused at a
+unit, and of each record next to what a turn takes, the number also stands here, written down from the words of the
+rules (docs/RULES.md 5.1, 5.2, 13.5), and the two must agree. No code of the crates takes part.
+"""
+import itertools
+import math
+import pathlib
+import struct
+import sys
+from collections import Counter
+from dataclasses import replace
+
+from lens_models import AFFINE, BC, COUNTS, EUCM, KB, UNDISTORT, answer
+from lens_tables import FINISHED, LIMITS, REFUSED, RUNNING, Job
+from lens_tables import border, call_refused, camera_refused, fresh, size_refused, total, turn
+from make_leaf_vectors import Splitmix
+from make_table_lookups import BOX, lookup
+from make_table_lookups import LISTED as LISTED_CELLS
+from make_table_vectors import BRINK, HALF_EUCM, LISTED, LISTING
+
+FOLDER = pathlib.Path(__file__).resolve().parent.parent / "crates" / "head_calls"
+FIELDS, LINE = 12, 204
+BYTES, NUMBERS = 512, 64  # of a buffer, of the table
+FILL, BEFORE = 0xA5, struct.unpack("<I", struct.pack("<f", 12345.0))[0]
+JOB, ANSWER, PIXEL, BOX_BYTES, OBSERVATION = 184, 32, 16, 32, 40
+REFILL, PUT_READ, PUT_LENT, PUT_TABLE, JOB_NEW, TURN, OBSERVE, LOOKUP = range(8)
+STATUS = {RUNNING: 0, FINISHED: 1, REFUSED: 2}
+NAN, INF = math.nan, math.inf
+LARGEST, LEAST = sys.float_info.max, 2.0**-1074
+MAX32, MAX64 = 2**32 - 1, 2**64 - 1
+ODD = (NAN, INF, -INF, -0.0)  # what may stand where a number should
+NAMES = ("affine", "eucm", "kb", "bc")
+
+
+# ---- bytes
+
+
+def doubles(*numbers):
+    return struct.pack(f"<{len(numbers)}d", *numbers)
+
+
+def pattern(x):
+    return struct.unpack("<Q", doubles(x))[0]
+
+
+def widened(bits32):
+    return struct.unpack("<f", struct.pack("<I", bits32))[0]
+
+
+def record_bytes(job):
+    """The 184 bytes of a record (include/lens.h)."""
+    model, params = job.camera
+    twelve = [*params, *[0.0] * (12 - len(params))]
+    return (
+        struct.pack("<2I", model, job.updates)
+        + doubles(*twelve)
+        + struct.pack("<2IQ", job.width, job.height, job.done)
+        + doubles(*job.edges, *job.region)
+    )
+
+
+def record_of(data):
+    """The record that 184 bytes hold, or None for a model that there is not."""
+    model, updates = struct.unpack_from("<2I", data, 0)
+    if model > BC:
+        return None
+    params = struct.unpack_from(f"<{COUNTS[model]}d", data, 8)
+    w, h, done = struct.unpack_from("<2IQ", data, 104)
+    edges, region = struct.unpack_from("<4d", data, 120), struct.unpack_from("<4d", data, 152)
+    return Job((model, params), w, h, done, edges, region, updates)
+
+
+def poked(data, at, x):
+    """The bytes with another f64 at a place."""
+    return data[:at] + doubles(x) + data[at + 8 :]
+
+
+# ---- what each function owes: the number, and the later bytes of what it may write
+
+
+def camera_of(model, params):
+    """1 or 3 and None, or 4, 5 or 0 and the camera."""
+    if model > BC:
+        return 1, None
+    if len(params) != 8 * COUNTS[model]:
+        return 3, None
+    camera = model, struct.unpack(f"<{COUNTS[model]}d", params)
+    return camera_refused(camera), camera
+
+
+def lowest(*numbers):
+    return min((n for n in numbers if n), default=0)
+
+
+def job_new_owed(model, params, w, h, job):
+    number, camera = camera_of(model, params)
+    number = lowest(number, size_refused(w, h), 7 if len(job) != JOB else 0)
+    return number, job if number else record_bytes(Job(camera, w, h))
+
+
+def turn_refused(data, table, room):
+    """The number before any unit. Bytes of another length hold no record that could be judged."""
+    if len(data) != JOB:
+        return 7
+    job = record_of(data)
+    return lowest(1 if job is None else call_refused(job, table), 7 if room != ANSWER else 0)
+
+
+def turn_owed(data, table, allowance, lent):
+    number = turn_refused(data, table, len(lent))
+    if number:
+        return number, data, table, lent
+    cells = list(table)
+    status, number, after = turn(record_of(data), cells, allowance)
+    said = struct.pack("<4Q", STATUS[status], after.done, total(after.width, after.height), after.updates)
+    return number, record_bytes(after), cells, said
+
+
+def observed(camera, record):
+    number, given = answer(camera[0], UNDISTORT, camera[1], *struct.unpack_from("<2d", record))
+    x, y, _, flag = (0.0, 0.0, 0, False) if number else given
+    return record[:16] + doubles(x, y) + bytes([flag, number]) + record[34:]
+
+
+def observe_owed(model, params, data):
+    number, camera = camera_of(model, params)
+    number = lowest(number, 7 if len(data) % OBSERVATION else 0)
+    if number:
+        return number, data
+    return 0, b"".join(observed(camera, data[i : i + 40]) for i in range(0, len(data), 40))
+
+
+def lookup_owed(table, region, w, h, x, y, lent):
+    """A region's bytes past its end are zeros, for what is refused with less than 7."""
+    edges = struct.unpack("<4Q", region[:32].ljust(32, b"\0"))
+    cells = [pattern(widened(z)) for z in table]
+    number, pixel = lookup(cells, edges, w, h, pattern(x), pattern(y))
+    number = lowest(number, 7 if len(region) != BOX_BYTES or len(lent) != PIXEL else 0)
+    return number, lent if number else struct.pack("<2Q", *pixel)
+
+
+# ---- the lines
+
+
+class Head:
+    """The buffers as the program has them, and the lines of both files."""
+
+    def __init__(self):
+        self.asked, self.owed, self.said = [], [], Counter()
+        self.refill()
+
+    def line(self, *words):
+        words = [*words, *[0] * (FIELDS - len(words))]
+        self.asked.append("\t".join(f"{w:016x}" for w in words) + "\n")
+
+    def heading(self, words):
+        text = f"# {words} ".ljust(LINE - 1, "-") + "\n"
+        assert len(text) == LINE and text.isascii(), words
+        self.asked.append(text)
+        self.owed.append(text)
+
+    def refill(self):
+        self.read, self.lent, self.answer = (bytes([FILL]) * BYTES for _ in range(3))
+        self.table = [BEFORE] * NUMBERS
+        self.line(REFILL)
+
+    def put(self, what, old, new):
+        """Puts the words that are others, at most eight a line."""
+        at = 0
+        while at < len(new):
+            if new[at] == old[at]:
+                at += 1
+                continue
+            n = min(8, len(new) - at)
+            while new[at + n - 1] == old[at + n - 1]:
+                n -= 1
+            self.line(what, at, n, *new[at : at + n])
+            at += n
+
+    def put_bytes(self, what, old, data):
+        new = data + old[len(data) :]
+        self.put(what, struct.unpack("<64Q", old), struct.unpack("<64Q", new))
+        return new
+
+    def reads(self, data):
+        self.read = self.put_bytes(PUT_READ, self.read, data)
+
+    def lends(self, data):
+        self.lent = self.put_bytes(PUT_LENT, self.lent, data)
+
+    def cells(self, table):
+        new = [*table, *self.table[len(table) :]]
+        self.put(PUT_TABLE, [pattern(widened(z)) for z in self.table], [pattern(widened(z)) for z in new])
+        self.table = new
+
+    def reply(self, what, number, *buffers):
+        """The line of a call: a buffer is before, after, and its spelling."""
+        words = ["kept" if old == new else spelling for old, new, spelling in buffers]
+        self.owed.append("\t".join([str(number), *words]) + "\n")
+        self.said[what, number] += 1
+        return number, words
+
+    def job_new(self, model, params, w, h, room=JOB, stay=0):
+        self.reads(params)
+        self.line(JOB_NEW, stay, model, len(params), room, 0, 0, w, h)
+        number, after = job_new_owed(model, params, w, h, self.lent[:room])
+        reply = self.reply("lens_job_new", number, (self.lent[:room], after, after.hex()))
+        if stay:
+            self.lent = after + self.lent[room:]
+        return reply
+
+    def turn(self, allowance, places, length=JOB, room=ANSWER, stay=0):
+        self.line(TURN, stay, 0, 0, length, room, places, 0, 0, 0, 0, allowance)
+        given = self.lent[:length], self.table[:places], self.answer[:room]
+        number, data, cells, said = turn_owed(given[0], given[1], allowance, given[2])
+        spelled = data.hex(), "".join(f"{z:08x}" for z in cells), said.hex()
+        reply = self.reply("lens_turn", number, *zip(given, (data, cells, said), spelled))
+        if stay:
+            self.lent = data + self.lent[length:]
+            self.table = cells + self.table[places:]
+        return reply
+
+    def observe(self, model, params, data, length=None):
+        self.reads(params)
+        self.lends(data)
+        length = len(data) if length is None else length
+        self.line(OBSERVE, 0, model, len(params), length)
+        number, after = observe_owed(model, params, self.lent[:length])
+        return self.reply("lens_observe", number, (self.lent[:length], after, after.hex()))
+
+    def lookup(self, places, region, w, h, x, y, length=BOX_BYTES, room=PIXEL):
+        self.reads(region)
+        self.line(LOOKUP, 0, 0, length, 0, room, places, w, h, pattern(x), pattern(y))
+        before = self.answer[:room]
+        number, after = lookup_owed(self.table[:places], self.read[:length], w, h, x, y, before)
+        return self.reply("lens_lookup", number, (before, after, after.hex()))
+
+    def bad(self, text):
+        self.asked.append(text)
+        self.owed.append("bad\n")
+
+
+# ---- the rules' table, unit by unit and in other turns
+
+CAMERA = (AFFINE, tuple(LISTED[3]))
+W, H = LISTED[1:3]
+ALL = 100
+
+
+def started(head, camera, w, h):
+    """A fresh job in the buffer that is lent, and an untouched table."""
+    head.refill()
+    head.job_new(camera[0], doubles(*camera[1]), w, h, stay=1)
+
+
+def in_turns(head, camera, w, h, allowances):
+    """A job from its start to its end: the record and the cells."""
+    started(head, camera, w, h)
+    turns = 0
+    while struct.unpack_from("<Q", head.lent, 112)[0] < total(w, h):
+        number, _ = head.turn(allowances[turns % len(allowances)], 2 * w * h, stay=1)
+        assert number == 0
+        turns += 1
+    return head.lent, head.table
+
+
+def rules_table(head):
+    head.heading("the rules' table, affine 1 1 0 0, 3 by 2, unit by unit")
+    lent, table = in_turns(head, CAMERA, W, H, [1])
+    cells = [f"cell {i % W} {i // W} {table[2 * i]:08x} {table[2 * i + 1]:08x}" for i in range(W * H)]
+    assert cells == LISTING.split("\n")[2:]
+    for words, allowances in (
+        ("7 units", [7]),
+        ("100 units", [ALL]),
+        ("0, 1, 7, 100 units", [0, 1, 7, ALL]),
+        ("as many units as can be said", [MAX64]),
+    ):
+        head.heading(f"the same in turns of {words}; then a turn of 0 and one of 100 after the last")
+        assert in_turns(head, CAMERA, W, H, allowances) == (lent, table)
+        for allowance in (0, ALL):
+            assert head.turn(allowance, 12)[1][:2] == ["kept", "kept"]
+
+
+# ---- jobs refused at a unit
+
+# Words, camera, width, height, and what the words say: the refusal's number and the unit refused.
+JOBS = [
+    ("kb 1 1 0 0 0 0 0 0, 3 by 2: sample 2 lies at an angle over 3/2",
+     KB, (1.0, 1.0, 0.0, 0.0, 0.0, 0.0, 0.0, 0.0), 3, 2, 10, 2),
+    ("eucm 0.5 1 0.5 0.5 0.5 1, 3 by 2: sample 11 has no finite point",
+     EUCM, (0.5, 1.0, 0.5, 0.5, *HALF_EUCM), 3, 2, 11, 11),
+    ("affine 1 1 1e300 0, 3 by 2: all points have one x, and the increment across is 0",
+     AFFINE, (1.0, 1.0, 1e300, 0.0), 3, 2, 8, 14),
+    ("affine 2e-308 1 0 0, 3 by 2: the increment across is infinite",
+     AFFINE, (2e-308, 1.0, 0.0, 0.0), 3, 2, 11, 14),
+    ("affine 1 2e-308 1e300 0, 3 by 2: the increment is 0 across and infinite down",
+     AFFINE, (1.0, 2e-308, 1e300, 0.0), 3, 2, 8, 14),
+    ("eucm 1e38 1 2.15e38 0.5 0.5 1, 3 by 2: the pixel of cell (1, 0) is too large for an f32",
+     EUCM, (1e38, 1.0, 2.15e38, 0.5, *HALF_EUCM), 3, 2, 12, 16),
+    ("bc 1 1 -1 -1 1e55 0 0 0 0 0 0 0, 3 by 3: the pixel of cell (2, 0) is too large for an f32",
+     BC, (1.0, 1.0, -1.0, -1.0, 1e55, *[0.0] * 7), 3, 3, 12, 19),
+    ("eucm 2 2 0 0 0.4 -0.5, 3 by 2: the pixel of cell (2, 0) is NaN",
+     EUCM, (2.0, 2.0, 0.0, 0.0, 0.4, -0.5), 3, 2, 11, 17),
+    ("affine X 1 0 0, X = 002c000000000001, 7 by 2: the point of cell (6, 0) is infinite",
+     AFFINE, (BRINK, 1.0, 0.0, 0.0), 7, 2, 11, 29),
+]  # fmt: skip
+
+
+def refused_at_a_unit(head):
+    for words, model, params, w, h, number, unit in JOBS:
+        head.heading(f"{words}; after a turn of 100: turns of 0, 1, 100")
+        started(head, (model, params), w, h)
+        given, _ = head.turn(ALL, 2 * w * h, stay=1)
+        done = record_of(head.lent).done
+        assert (given, done) == (number, unit - 1), words
+        assert head.table[: 2 * w * h].count(BEFORE) == 2 * (w * h - max(done - border(w, h), 0))
+        for allowance in (0, 1, ALL):
+            again, kept = head.turn(allowance, 2 * w * h)
+            assert again == (number if allowance else 0) and kept[:2] == ["kept", "kept"], words
+
+
+# ---- what a turn refuses before any unit, and what it takes next to that
+
+EDGES = (-0.5, -0.5, 2.5, 1.5)
+REGION = (-2.0, -1.5, 4.0, 2.5)
+KB_ORDINARY = (KB, (10.0, 10.0, 1.0, 0.5, 0.0, 0.0, 0.0, 0.0))
+BC_ORDINARY = (BC, (10.0, 10.0, 1.0, 0.5, 0.1, 0.0, 0.0, 0.0, 0.0, 0.0, 0.0, 0.0))
+EUCM_ORDINARY = (EUCM, (10.0, 10.0, 1.0, 0.5, 0.5, 1.0))
+STEEP = (JOBS[0][1], JOBS[0][2])
+
+# What a turn of 1 that is taken says and changes: a sample leaves the table, and the last unit finishes.
+SAMPLE = "running, record changed"
+CELL = "running, table and record changed"
+LAST = "finished, table and record changed"
+OVER = "finished, nothing changed"
+
+
+def affine(fx=1.0, fy=1.0, cx=0.0):
+    return AFFINE, (fx, fy, cx, 0.0)
+
+
+def with_last(camera, x):
+    """A camera with another last parameter."""
+    model, params = camera
+    return model, (*params[:-1], x)
+
+
+def record(camera=CAMERA, done=5, updates=0, edges=EDGES, region=REGION, w=W, h=H):
+    return Job(camera, w, h, done, edges, region, updates)
+
+
+def put(box, place, x):
+    return (*box[:place], x, *box[place + 1 :])
+
+
+def units_lines():
+    yield "Units done: at most T, which is 20."
+    for done, outcome in ((0, SAMPLE), (19, LAST), (20, OVER), (21, 13), (MAX64, 13)):
+        yield f"units {done}", record(done=done), outcome
+
+
+def limits(most):
+    """After 5 samples, after all 14 and among the cells: the last count that is taken, and the first that is not."""
+    for done, outcome in ((5, SAMPLE), (14, CELL), (17, CELL)):
+        yield done, most * min(done, 14), outcome
+        yield done, most * min(done, 14) + 1, 13
+
+
+def updates_lines():
+    yield "Updates: at most 0 (affine, eucm), 20 (kb) or 50 (bc) for each sample done, of which there are 14."
+    for name, camera, rows in (
+        ("affine", CAMERA, ((5, 0, SAMPLE), (5, 1, 13), (17, 1, 13))),
+        ("eucm", EUCM_ORDINARY, ((5, 0, SAMPLE), (5, 1, 13))),
+        ("kb", KB_ORDINARY, ((0, 0, SAMPLE), (0, 1, 13), *limits(20))),
+        ("bc", BC_ORDINARY, ((0, 1, 13), *limits(50), (17, 2**32 - 1, 13))),
+    ):
+        for done, updates, outcome in rows:
+            yield f"{name}, units {done}, updates {updates}", record(camera, done, updates), outcome
+
+
+def edges_lines():
+    yield "Edges so far: finite, even where sample 1 would overwrite them."
+    for words, done, place, x, outcome in (
+        ("left NaN", 0, 0, NAN, 13),
+        ("left NaN", 5, 0, NAN, 13),
+        ("top infinite", 5, 1, INF, 13),
+        ("right -infinite", 14, 2, -INF, 13),
+        ("bottom NaN", 17, 3, NAN, 13),
+        ("bottom infinite", 20, 3, INF, 13),
+        ("left the largest f64", 5, 0, LARGEST, SAMPLE),
+    ):
+        yield f"{words}, units {done}", record(done=done, edges=put(EDGES, place, x)), outcome
+
+
+def regions_lines():
+    yield (
+        "Region once 14 units are done: increments finite and above 0. "
+        "A line gives one pair of edges; the other is true."
+    )
+    x, y = 0, 1
+    for words, done, axis, lower, upper, outcome in (
+        ("x from 4 to 4", 14, x, 4.0, 4.0, 13),
+        ("x from 0 to -0", 14, x, 0.0, -0.0, 13),
+        ("x from 4 to -2", 14, x, 4.0, -2.0, 13),
+        ("x from -L to L, L the largest f64", 14, x, -LARGEST, LARGEST, 13),
+        ("x from 0 to 2^-1074, which halved is 0", 14, x, 0.0, LEAST, 13),
+        ("x from 0 to 2^-1073", 14, x, 0.0, 2 * LEAST, CELL),
+        ("y from 1 to 1", 17, y, 1.0, 1.0, 13),
+        ("y from 2.5 to -1.5", 17, y, 2.5, -1.5, 13),
+        ("y from -L to L, L the largest f64", 17, y, -LARGEST, LARGEST, 13),
+        ("x from 4 to 4", 20, x, 4.0, 4.0, 13),
+    ):
+        region = put(put(REGION, axis, lower), axis + 2, upper)
+        yield f"{words}, units {done}", record(done=done, region=region), outcome
+    yield "all zeros, units 14", record(done=14, region=(0.0,) * 4), 13
+    yield "all zeros, units 13", record(done=13, region=(0.0,) * 4), SAMPLE
+
+
+def not_finite_lines():
+    yield "4: a region edge or a parameter is NaN or infinite, at any count of units."
+    yield "region left NaN, units 0", record(done=0, region=put(REGION, 0, NAN)), 4
+    yield "region top infinite, units 5", record(done=5, region=put(REGION, 1, INF)), 4
+    yield "region right -infinite, units 14", record(done=14, region=put(REGION, 2, -INF)), 4
+    yield "region bottom NaN, units 20", record(done=20, region=put(REGION, 3, NAN)), 4
+    yield "affine, fx NaN", record(affine(fx=NAN)), 4
+    yield "affine, cx infinite", record(affine(cx=INF)), 4
+    yield "eucm, beta NaN", record(with_last(EUCM_ORDINARY, NAN)), 4
+    yield "kb, k3 -infinite", record(with_last(KB_ORDINARY, -INF)), 4
+    yield "bc, k6 NaN", record(with_last(BC_ORDINARY, NAN)), 4
+
+
+def focal_lines():
+    yield "5: fx or fy is zero, of either sign."
+    yield "fx 0", record(affine(fx=0.0)), 5
+    yield "fx -0", record(affine(fx=-0.0)), 5
+    yield "fy 0", record(affine(fy=0.0)), 5
+    yield "fy -0", record(affine(fy=-0.0)), 5
+
+
+def sizes_lines():
+    yield "6: width or height outside 2 to 4,096."
+    for words, w, h, numbers, outcome in (
+        ("no number", 0, 2, 0, 6),
+        ("4 numbers", 1, 2, 4, 6),
+        ("8 numbers", 2, 2, 8, SAMPLE),
+        ("12 numbers, where 16384 are due", 4096, 2, 12, 7),
+        ("12 numbers", 4097, 2, 12, 6),
+        ("12 numbers", MAX32, 2, 12, 6),
+        ("no number", 3, 0, 0, 6),
+        ("6 numbers", 3, 1, 6, 6),
+        ("12 numbers, where 24576 are due", 3, 4096, 12, 7),
+        ("12 numbers", 3, 4097, 12, 6),
+        ("12 numbers", 3, MAX32, 12, 6),
+    ):
+        yield f"{w} by {h}, {words}", record(done=0, w=w, h=h), outcome, numbers
+
+
+def lengths_lines():
+    yield "7: a table that has not exactly 12 numbers."
+    lengths = ((0, 0, 7), (0, 11, 7), (0, 12, SAMPLE), (0, 13, 7), (17, 10, 7), (17, 24, 7), (20, 11, 7))
+    for done, numbers, outcome in lengths:
+        yield f"{numbers or 'no'} number{'s' if numbers else ''}, units {done}", record(done=done), outcome, numbers
+
+
+def order_lines():
+    def wrong(camera, w, region):
+        return record(camera, 21, 1, put(EDGES, 0, NAN), region, w)
+
+    yield (
+        "Several at once: 4, 5, 6, 7, 13, and only then a unit. "
+        "The record is wrong by its units, updates and edges too."
+    )
+    unsound = put(REGION, 1, NAN)
+    yield "fx NaN, fy 0, width 1, 11 numbers", wrong(affine(NAN, 0.0), 1, REGION), 4, 11
+    yield "region NaN, fy 0, width 1, 11 numbers", wrong(affine(fy=0.0), 1, unsound), 4, 11
+    yield "region NaN", wrong(CAMERA, W, unsound), 4
+    yield "fy 0, width 1, 11 numbers", wrong(affine(fy=0.0), 1, REGION), 5, 11
+    yield "width 1, 11 numbers", wrong(CAMERA, 1, REGION), 6, 11
+    yield "11 numbers", wrong(CAMERA, W, REGION), 7, 11
+    yield "12 numbers", wrong(CAMERA, W, REGION), 13
+    yield "kb, units 1, updates 21, and sample 2 is refused 10", record(STEEP, 1, 21), 13
+    yield "kb, units 1, updates 20, and sample 2 is refused 10", record(STEEP, 1, 20), 10
+
+
+CHANGED = {SAMPLE: (0, True, False), CELL: (0, True, True), LAST: (0, True, True), OVER: (0, False, False)}
+
+
+def beside_a_refusal(head):
+    """Turns of 1, of affine 1 1 0 0 and 3 by 2 unless a line says so. An outcome is a refusal's number, or what
+    a turn that is taken says and changes."""
+    for lines in (
+        units_lines(),
+        updates_lines(),
+        edges_lines(),
+        regions_lines(),
+        not_finite_lines(),
+        focal_lines(),
+        sizes_lines(),
+        lengths_lines(),
+        order_lines(),
+    ):
+        head.refill()
+        head.heading(next(lines))
+        for words, job, outcome, *numbers in lines:
+            head.lends(record_bytes(job))
+            number, kept = head.turn(1, numbers[0] if numbers else 12)
+            if isinstance(outcome, str):
+                done, record, table = CHANGED[outcome]
+                assert (number, kept[0] != "kept", kept[1] != "kept") == (done, record, table), words
+                assert kept[2].startswith("01" if outcome in (LAST, OVER) else "00"), words
+            else:
+                # 10 is a unit's, and its answer is written; the others write nothing
+                assert number == outcome and kept[:2] == ["kept", "kept"], words
+                assert (kept[2] == "kept") == (outcome != 10), words
+
+
+def fresh_records(head):
+    head.refill()
+    head.heading("a fresh record: 4, 5, 6")
+    for (model, params), w, h, number in (
+        (affine(fx=-0.0), 3, 2, 5),
+        (CAMERA, 1, 2, 6),
+        (CAMERA, 2, 2, 0),
+        (CAMERA, 4096, 4096, 0),
+        (CAMERA, 4097, 2, 6),
+        (affine(NAN, 0.0), 1, 2, 4),
+        (affine(fx=0.0), 1, 2, 5),
+    ):
+        assert head.job_new(model, doubles(*params), w, h)[0] == number
+
+
+# ---- a hostile caller
+
+CAMERAS = (
+    (AFFINE, (10.0, 12.0, 1.0, 0.5)),
+    (EUCM, (10.0, 12.0, 1.0, 0.5, 0.5, 1.0)),
+    (KB, (10.0, 12.0, 1.0, 0.5, 0.0625, -0.03125, 0.015625, 0.0)),
+    (BC, (10.0, 12.0, 1.0, 0.5, 0.1, -0.05, 0.001, -0.002, 0.0, 0.01, 0.0, 0.0)),
+)
+MODELS8, MODELS32 = (0, 1, 2, 3, 4, 5, 255), (0, 1, 2, 3, 4, 5, 255, 256, MAX32)
+SIZES = (0, 1, 2, 3, 4095, 4096, 4097, MAX32)
+PLACES = [*range(8, 104, 8), *range(120, 184, 8)]  # of a record's f64s
+
+
+def after_units(camera, done, w=W, h=H):
+    """The record that a build has after so many units."""
+    number, job = fresh(camera, w, h)
+    status, refused, job = turn(job, [0] * (2 * w * h), done)
+    assert number == refused == 0 and job.done == done
+    return job
+
+
+def subsets(faults):
+    for n in range(len(faults) + 1):
+        yield from itertools.combinations(faults, n)
+
+
+def hostile_turns(head):
+    head.refill()
+    good = after_units(CAMERAS[KB], 9)
+    for words, data in (("", record_bytes(good)), (", model 4", struct.pack("<I", 4) + record_bytes(good)[4:])):
+        head.heading(f"turn: records of every length from 0 to 300{words}")
+        head.lends(data)
+        for n in range(301):
+            assert head.turn(1, 12, n)[0] == (7 if n != JOB else 1 if words else 0)
+    head.heading("turn: answers of every length from 0 to 64, then tables of every length from 0 to 64")
+    head.lends(record_bytes(good))
+    for n in range(65):
+        assert head.turn(1, 12, room=n)[0] == (0 if n == ANSWER else 7)
+    for n in range(65):
+        assert head.turn(1, n)[0] == (0 if n == 12 else 7)
+    head.heading("turn: model numbers 0 to 5, 255, 256, 2^32 - 1, at 0 and at 9 units")
+    for done, model in itertools.product((0, 9), MODELS32):
+        head.lends(struct.pack("<2I", model, 0) + record_bytes(after_units(CAMERAS[BC], done))[8:])
+        assert (head.turn(1, 12)[0] == 1) == (model > 3)
+    for done in (5, 17):
+        for camera in CAMERAS:
+            head.heading(f"turn: {NAMES[camera[0]]} after {done} units; NaN, infinity, -infinity, -0 at each f64's place")
+            data = record_bytes(after_units(camera, done))
+            for at, x in itertools.product(PLACES, ODD):
+                head.lends(poked(data, at, x))
+                head.turn(1, 12)
+
+
+def impossible_records(head):
+    for camera in CAMERAS:
+        head.refill()
+        head.heading(f"turn: {NAMES[camera[0]]}, the most updates and one more; more units than there are")
+        for done in (0, 1, 13, 14, 17, 20):
+            job, most = after_units(camera, done), LIMITS[camera[0]] * min(done, 14)
+            for updates in sorted({most, most + 1, 2**31, MAX32}):
+                head.lends(record_bytes(replace(job, updates=updates)))
+                assert head.turn(1, 12)[0] == (0 if updates <= most else 13)
+        for done in (21, 22, 2**31, 2**32, 2**63, MAX64):
+            head.lends(record_bytes(replace(job, done=done)))
+            assert head.turn(1, 12)[0] == 13
+    head.heading("turn: every width with every height, with the table's length where there is room for it")
+    for w, h in itertools.product(SIZES, SIZES):
+        head.lends(record_bytes(Job(CAMERA, w, h)))
+        places = 2 * w * h if 2 * w * h <= NUMBERS else NUMBERS
+        assert head.turn(1, places)[0] == (6 if not (2 <= w <= 4096 and 2 <= h <= 4096) else 0 if w * h <= 32 else 7)
+    head.heading("turn: allowances")
+    head.lends(record_bytes(after_units(CAMERAS[BC], 13)))
+    for allowance in (0, 1, 2, 7, 8, 2**31, 2**32, 2**63, MAX64):
+        assert head.turn(allowance, 12)[0] == 0
+
+
+def several_faults_of_a_turn(head):
+    """Every set of faults. Bytes of another length hold no record, so 183 of them are 7 whatever stands there."""
+    head.refill()
+    head.heading("turn: every set of: model 4, fx NaN, fy 0, width 1, 11 numbers, 21 units, 31 bytes of answer, 183 of record")
+    good = after_units(CAMERAS[KB], 9)
+    for faults in subsets((1, 4, 5, 6, 7, 13, "answer", "record")):
+        data = record_bytes(replace(good, done=21 if 13 in faults else 9, width=1 if 6 in faults else 3))
+        data = struct.pack("<I", 4 if 1 in faults else KB) + data[4:]
+        data = poked(data, 8, NAN) if 4 in faults else data
+        head.lends(poked(data, 16, 0.0) if 5 in faults else data)
+        places = 11 if 7 in faults else 4 if 6 in faults else 12
+        number, kept = head.turn(1, places, JOB - ("record" in faults), ANSWER - ("answer" in faults))
+        owed = 7 if "record" in faults else min([7 if f == "answer" else f for f in faults], default=0)
+        assert number == owed and (not owed or kept == ["kept"] * 3), faults
+
+
+def random_records(head):
+    rng = Splitmix(20)
+    head.refill()
+    for words, spoil in (("random bytes", 0), ("random bytes after a model", 1), ("random numbers in a likely record", 2)):
+        head.heading(f"turn: 100 records of {words}")
+        for _ in range(100):
+            data = b"".join(struct.pack("<Q", rng.bits(64)) for _ in range(23))
+            places = 12
+            if spoil:
+                data = struct.pack("<2I", rng.below(4), 0) + data[8:]
+            if spoil == 2:
+                w, h = 2 + rng.below(4), 2 + rng.below(4)
+                places = 2 * w * h
+                numbers = [(rng.below(4001) - 2000) / 2.0 ** rng.below(12) for _ in range(20)]
+                data = data[:8] + doubles(*numbers[:12]) + struct.pack("<2IQ", w, h, rng.below(total(w, h) + 1)) + doubles(*numbers[12:])
+            head.lends(data)
+            head.turn(1 + rng.below(60), places)
+
+
+def hostile_jobs(head):
+    head.refill()
+    for model, params in CAMERAS:
+        head.heading(f"job_new: {NAMES[model]}, parameters of every length from 0 to 104; then NaN, infinity, -infinity, -0 in each place")
+        head.reads(doubles(*params).ljust(104, b"\0"))
+        for n in range(105):
+            assert head.job_new(model, head.read[:n], 3, 2)[0] == (0 if n == 8 * COUNTS[model] else 3)
+        for place, x in itertools.product(range(COUNTS[model]), ODD):
+            owed = 4 if not math.isfinite(x) else 5 if place < 2 else 0
+            assert head.job_new(model, poked(doubles(*params), 8 * place, x), 3, 2)[0] == owed
+    model, params = CAMERAS[BC][0], doubles(*CAMERAS[BC][1])
+    head.heading("job_new: records of every length from 0 to 300; models 0 to 5 and 255; every width with every height")
+    for n in range(301):
+        assert head.job_new(model, params, 3, 2, n)[0] == (0 if n == JOB else 7)
+    for other in MODELS8:
+        assert head.job_new(other, params, 3, 2)[0] == (0 if other == BC else 3 if other < BC else 1)
+    for w, h in itertools.product(SIZES, SIZES):
+        assert head.job_new(model, params, w, h)[0] == (0 if 2 <= w <= 4096 and 2 <= h <= 4096 else 6)
+    head.heading("job_new: every set of: model 4, 95 bytes of parameters, cx NaN, fx -0, height 4097, 185 bytes of record")
+    for faults in subsets((1, 3, 4, 5, 6, 7)):
+        data = poked(params, 16, NAN) if 4 in faults else params
+        data = poked(data, 0, -0.0) if 5 in faults else data
+        data = data[:95] if 3 in faults else data
+        number, kept = head.job_new(4 if 1 in faults else BC, data, 3, 4097 if 6 in faults else 2, JOB + (7 in faults))
+        assert number == min(faults, default=0) and (not faults or kept == ["kept"]), faults
+
+
+# ---- lists: every byte behind a pixel is ff before a call
+
+
+def observation(u, v):
+    return doubles(u, v) + b"\xff" * 24
+
+
+PIXELS = (
+    (1.0, 0.5),
+    (3.0, -2.0),
+    (-0.0, 0.0),
+    (NAN, 0.5),
+    (1.0, INF),
+    (-INF, NAN),
+    (LARGEST, 0.5),
+    (1.0, -LARGEST),
+    (30.0, 0.5),
+    (1e6, 1e6),
+    (LEAST, -LEAST),
+    (13.0, 11.0),
+)
+
+
+def hostile_lists(head):
+    head.refill()
+    full = b"".join(observation(u, v) for u, v in PIXELS)
+    for model, params in CAMERAS:
+        data = doubles(*params)
+        head.heading(f"observe: {NAMES[model]}, 12 records, all ff behind their pixels; a byte less, a byte more, 11 records, none")
+        for n in (480, 479, 481, 440, 0):
+            assert head.observe(model, data, full, n)[0] == (7 if n % 40 else 0)
+        head.heading(f"observe: {NAMES[model]}, records that are all ff; parameters of every length from 0 to 104; odd numbers in each place")
+        assert head.observe(model, data, b"\xff" * 120)[0] == 0
+        head.lends(full)
+        head.reads(data.ljust(104, b"\0"))
+        for n in range(105):
+            assert head.observe(model, head.read[:n], full[:40])[0] == (0 if n == 8 * COUNTS[model] else 3)
+        for place, x in itertools.product(range(COUNTS[model]), ODD):
+            owed = 4 if not math.isfinite(x) else 5 if place < 2 else 0
+            assert head.observe(model, poked(data, 8 * place, x), full[:40])[0] == owed
+    model, data = CAMERAS[KB][0], doubles(*CAMERAS[KB][1])
+    head.heading("observe: lists of every length from 0 to 90; models 0 to 5 and 255")
+    for n in range(91):
+        assert head.observe(model, data, full, n)[0] == (7 if n % 40 else 0)
+    for other in MODELS8:
+        assert head.observe(other, data, full[:80])[0] == (0 if other == KB else 3 if other <= BC else 1)
+    head.heading("observe: NaN, infinity, -infinity, -0 as each coordinate of the second record")
+    for k, x in itertools.product((0, 1), ODD):
+        assert head.observe(model, data, full[:40] + poked(observation(2.0, 2.0), 8 * k, x))[0] == 0
+    head.heading("observe: every set of: model 4, 63 bytes of parameters, cx NaN, fx -0, 81 bytes of list")
+    for faults in subsets((1, 3, 4, 5, 7)):
+        own = poked(data, 16, NAN) if 4 in faults else data
+        own = poked(own, 0, -0.0) if 5 in faults else own
+        own = own[:63] if 3 in faults else own
+        number, kept = head.observe(4 if 1 in faults else KB, own, full, 81 if 7 in faults else 80)
+        assert number == min(faults, default=0) and (not faults or kept == ["kept"]), faults
+
+
+# ---- lookups in the rules' table
+
+
+def corners():
+    """Each edge and the middle, and the next f64 on both sides of an edge."""
+    left, top, right, bottom = BOX
+    across = [math.nextafter(left, -INF), left, 0.25, right, math.nextafter(right, INF)]
+    down = [math.nextafter(top, -INF), top, 0.5, bottom, math.nextafter(bottom, INF)]
+    return itertools.product(across, down)
+
+
+def hostile_lookups(head):
+    head.refill()
+    head.cells([struct.unpack("<I", struct.pack("<f", z))[0] for z in LISTED_CELLS])
+    box = doubles(*BOX)
+    head.heading("lookup: the corners, the middle, and a step beyond each edge; far outside")
+    for x, y in [*corners(), (1e300, 0.0), (0.0, -1e300), (LARGEST, -LARGEST), (-0.0, LEAST)]:
+        inside = BOX[0] <= x <= BOX[2] and BOX[1] <= y <= BOX[3]
+        assert head.lookup(12, box, W, H, x, y)[0] in ((0,) if inside else (0, 9))
+    assert head.said["lens_lookup", 9] > 10
+    head.heading("lookup: regions of every length from 0 to 40; answers of every length from 0 to 24; tables of every length from 0 to 64")
+    for n in range(41):
+        assert head.lookup(12, box, W, H, 0.5, 0.5, n)[0] == (0 if n == 32 else 7)
+    for n in range(25):
+        assert head.lookup(12, box, W, H, 0.5, 0.5, room=n)[0] == (0 if n == 16 else 7)
+    for n in range(65):
+        assert head.lookup(n, box, W, H, 0.5, 0.5)[0] == (0 if n == 12 else 7)
+    head.heading("lookup: NaN, infinity, -infinity, -0 as each edge and as each coordinate; then 20 bytes of a region whose second edge is NaN")
+    for at, x in itertools.product(range(0, 32, 8), ODD):
+        assert (head.lookup(12, poked(box, at, x), W, H, 0.5, 0.5)[0] == 4) == (not math.isfinite(x))
+    for x, y in [*((z, 0.5) for z in ODD), *((0.5, z) for z in ODD)]:
+        assert (head.lookup(12, box, W, H, x, y)[0] == 4) == (not (math.isfinite(x) and math.isfinite(y)))
+    assert head.lookup(12, poked(box, 8, NAN), W, H, 0.5, 0.5, 20)[0] == 4
+    head.heading("lookup: every width with every height")
+    for w, h in itertools.product(SIZES, SIZES):
+        places = 2 * w * h if 2 * w * h <= NUMBERS else NUMBERS
+        assert head.lookup(places, box, w, h, 0.5, 0.5)[0] == (6 if not (2 <= w <= 4096 and 2 <= h <= 4096) else 0 if w * h <= 32 else 7)
+    head.heading("lookup: boxes without extent, turned about, or too wide")
+    for edges, number in (
+        ((4.0, -1.5, 4.0, 2.5), 8),
+        ((0.0, -1.5, -0.0, 2.5), 8),
+        ((4.0, -1.5, -2.0, 2.5), 8),
+        ((-2.0, 2.5, 4.0, -1.5), 8),
+        ((-LARGEST, -1.5, LARGEST, 2.5), 11),
+        ((-2.0, -LARGEST, 4.0, LARGEST), 11),
+        ((4.0, -LARGEST, 4.0, LARGEST), 8),
+        ((0.0, 0.0, 0.0, 0.0), 8),
+    ):
+        assert head.lookup(12, doubles(*edges), W, H, 0.5, 0.5)[0] == number
+    head.heading("lookup: every set of: x NaN, height 4097, 11 numbers, a box without extent, a point outside, 17 bytes of answer, 31 of region")
+    for faults in subsets((4, 6, 7, 8, 9, "answer", "region")):
+        edges = doubles(*((4.0, *BOX[1:]) if 8 in faults else BOX))
+        x = NAN if 4 in faults else 9.0 if 9 in faults else 0.5
+        places = 11 if 7 in faults else 12
+        h = 4097 if 6 in faults else H
+        number, kept = head.lookup(places, edges, W, h, x, 0.5, 31 if "region" in faults else 32, 17 if "answer" in faults else 16)
+        owed = min([f if isinstance(f, int) else 7 for f in faults], default=0)
+        assert number == owed and (not owed or kept == ["kept"]), faults
+    head.heading("lookup: cells that are NaN or infinite")
+    for z in (0x7FC00000, 0x7F800000, 0xFF800000):
+        head.cells([z])
+        for x, y in ((-2.0, -1.5), (4.0, 2.5)):
+            head.lookup(12, box, W, H, x, y)
+    assert head.said["lens_lookup", 11] >= 5
+
+
+# ---- each model in turns of different sizes
+
+
+def builds(head):
+    for camera in CAMERAS:
+        head.heading(f"{NAMES[camera[0]]}, 5 by 4: all at once, unit by unit, in turns of 9, of 0 3 20 1")
+        first = in_turns(head, camera, 5, 4, [MAX64])
+        for allowances in ([1], [9], [0, 3, 20, 1]):
+            assert in_turns(head, camera, 5, 4, allowances) == first
+
+
+def no_calls(head):
+    head.heading("lines that are no calls: an unknown function, an upper-case digit, a space for a tab, a line cut off")
+    head.line(8)
+    head.owed.append("bad\n")
+    text = "\t".join(["000000000000000a", *["0" * 16] * 11]) + "\n"
+    head.bad(text.replace("a", "A"))
+    head.bad(text.replace("\t", " ", 1))
+    head.bad(text[:100])
+
+
+def written():
+    head = Head()
+    for part in (
+        rules_table,
+        refused_at_a_unit,
+        beside_a_refusal,
+        fresh_records,
+        builds,
+        hostile_turns,
+        impossible_records,
+        several_faults_of_a_turn,
+        random_records,
+        hostile_jobs,
+        hostile_lists,
+        hostile_lookups,
+        no_calls,
+    ):
+        part(head)
+    head.owed.append(f"lines\t{len(head.asked)}\n")
+    return head
+
+
+def cover(said):
+    """Says on stderr what the calls cover. It asserts what may not be missing."""
+    for key, count in sorted(said.items()):
+        print(f"{count:6} ", *key, file=sys.stderr)
+    for name, numbers in (
+        ("lens_job_new", {0, 1, 3, 4, 5, 6, 7}),
+        ("lens_turn", {0, 1, 4, 5, 6, 7, 8, 10, 11, 12, 13}),
+        ("lens_observe", {0, 1, 3, 4, 5, 7}),
+        ("lens_lookup", {0, 4, 6, 7, 8, 9, 11}),
+    ):
+        assert {n for what, n in said if what == name} == numbers, name
+
+
+def self_test():
+    """By hand: a record's bytes there and back, and an affine lens in each function."""
+    job = Job((EUCM, (1.0, 2.0, 3.0, 4.0, 0.5, 1.0)), 3, 2, 5, (1.0, 2.0, 3.0, 4.0), (5.0, 6.0, 7.0, 8.0), 0)
+    data = record_bytes(job)
+    assert len(data) == JOB and record_of(data) == job and data[56:104] == bytes(48)
+    assert data[:8] == b"\1" + bytes(7) and data[104:120] == bytes([3, 0, 0, 0, 2, 0, 0, 0, 5, 0, 0, 0, 0, 0, 0, 0])
+    lens = doubles(2.0, 4.0, 1.0, 0.0)
+    assert observe_owed(AFFINE, lens, observation(3.0, 8.0)) == (0, doubles(3.0, 8.0, 1.0, 2.0) + b"\1\0" + b"\xff" * 6)
+    assert observe_owed(AFFINE, lens, observation(NAN, 8.0))[1][16:34] == bytes(17) + b"\4"
+    assert observe_owed(4, b"", b"1") == (1, b"1") and observe_owed(AFFINE, lens, b"1") == (7, b"1")
+    number, made = job_new_owed(AFFINE, lens, 3, 2, bytes(JOB))
+    assert number == 0 and made == bytes(8) + lens + bytes(64) + bytes([3, 0, 0, 0, 2, 0, 0, 0]) + bytes(72)
+    number, after, cells, said = turn_owed(made, [BEFORE] * 12, 1, bytes(ANSWER))
+    assert (number, cells, said) == (0, [BEFORE] * 12, struct.pack("<4Q", 0, 1, 20, 0))
+    assert after[120:152] == doubles(-0.75, -0.125, -0.75, -0.125) and after[152:] == bytes(32)
+    assert turn_owed(made, [BEFORE] * 11, 1, b"")[0] == 7 and turn_owed(made[1:], [], 1, b"")[0] == 7
+    cells = [struct.unpack("<I", struct.pack("<f", z))[0] for z in LISTED_CELLS]
+    assert lookup_owed(cells, doubles(*BOX), 3, 2, 0.25, 0.5, bytes(16)) == (0, doubles(0.25, 0.5))
+    print("bytes and calls by hand: as said")
+
+
+def main():
+    head = written()
+    cover(head.said)
+    (FOLDER / "stdin").write_text("".join(head.asked))
+    (FOLDER / "stdout").write_text("".join(head.owed))
+    print(f"{len(head.asked)} lines, {sum(head.said.values())} calls", file=sys.stderr)
+
+
+if __name__ == "__main__":
+    if sys.argv[1:] == ["--self-test"]:
+        self_test()
+    else:
+        main()

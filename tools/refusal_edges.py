@@ -1,0 +1,201 @@
+"""Every refusal that a call with one point can meet, at its edge: the last input that is answered, and next to it the
+first that is refused. Questions for make_model_vectors.py; the edges of the tangent itself are in make_angle_vectors.py.
+
+    python3 tools/refusal_edges.py   lists the edges for a person to read, a line each
+
+An edge is an operation, a camera and a place in plain words, and numbers to put for X, each with the refusal that is
+owed, 0 for none. `questions` holds what tools/lens_models.py answers to that, so an edge that moved stops the script.
+"""
+from lens_models import BY_PARAMS, BY_POINT, DISTORT, MODELS, OPERATIONS, UNDISTORT, answer, bits
+from make_leaf_vectors import INF, LARGEST, NAN, SIGN, value
+
+THREE = (DISTORT, UNDISTORT, BY_POINT)
+FOUR = (*THREE, BY_PARAMS)
+NOT_4 = (0, 11)  # where it doesn't matter whether the answer is finite
+
+
+def refusal_2():
+    """bc has no Jacobian by its parameters. Tried first: neither NaN nor a zero focal length is told instead."""
+    yield BY_PARAMS, "kb 1 1 0 0 0 0 0 0 at (X, 0)", {1.0: 0}
+    yield BY_PARAMS, "bc 1 1 0 0 0 0 0 0 0 0 0 0 at (X, 0)", {1.0: 2, NAN: 2}
+    yield BY_PARAMS, "bc X 1 0 0 0 0 0 0 0 0 0 0 at (1, 0)", {NAN: 2, 0: 2}
+
+
+def refusal_4():
+    """A parameter or a coordinate is NaN or infinite: the first and the last parameter of each model, and both
+    coordinates. These are judged without regard to the model, so that affine stands for all. The largest f64 is
+    neither, be its answer finite or not. The radius of (0.75, 0.5625) is 0.9375: there the largest parameters still
+    have finite answers. Where they don't, the point is so near the axis that its squared radius is 0."""
+    for words in (
+        "affine X 1 0 0 at (0.75, 0.5625)",
+        "affine 1 1 0 X at (0.75, 0.5625)",
+        "eucm X 1 0 0 0.5 1 at (0.75, 0.5625)",
+        "eucm 1 1 0 0 0.5 X at (1e-200, 1e-200)",
+        "kb X 1 0 0 0 0 0 0 at (0.75, 0.5625)",
+        "kb 1 1 0 0 0 0 0 X at (0.75, 0.5625)",
+        "bc X 1 0 0 0 0 0 0 0 0 0 0 at (0.75, 0.5625)",
+        "bc 1 1 0 0 0 0 0 0 0 0 0 X at (1e-200, 1e-200)",
+        "affine 1 1 0 0 at (X, 0.5625)",
+        "affine 1 1 0 0 at (0.75, X)",
+    ):
+        for operation in THREE if words.startswith("bc") else FOUR:
+            yield operation, words, {LARGEST: NOT_4, INF: 4, SIGN + LARGEST: NOT_4, SIGN + INF: 4, NAN: 4}
+
+
+def refusal_5():
+    """fx or fy is zero, of either sign; the least f64 above zero is none. Affine by every operation, and the other
+    models by one: each has its own case where focal lengths are looked up, and the operations share it."""
+    around_zero = {1: 0, 0: 5, SIGN: 5, SIGN + 1: 0}
+    for words in ("affine X 1 0 0 at (0, 0)", "affine 1 X 0 0 at (0, 0)"):
+        for operation in FOUR:
+            yield operation, words, around_zero
+    for rest in ("eucm {} 0 0 0.5 1", "kb {} 0 0 0 0 0 0", "bc {} 0 0 0 0 0 0 0 0 0 0"):
+        yield DISTORT, rest.format("X 1") + " at (0, 0)", around_zero
+        yield DISTORT, rest.format("1 X") + " at (0, 0)", around_zero
+
+
+def refusal_5_among_others():
+    """4 comes before 5; and 5 before 10 and 11, which the next two would be were it not for the focal length."""
+    for operation in FOUR:
+        yield operation, "affine 0 1 0 0 at (X, 0)", {NAN: 4}
+    yield UNDISTORT, "kb 1 0 0 0 0 0 0 0 at (X, 0)", {2.0: 5}
+    yield UNDISTORT, "affine 0 1 0 0 at (X, 0)", {1.0: 5}
+
+
+def refusal_10():
+    """Newton's last theta is finite and past 3/2. Without bend Newton ends at the pixel's radius. At the radius 0.001
+    the last lens is all but flat where Newton starts: the first step leads far out, and 20 do not lead back; but up to
+    a squared radius of EPS no step is made."""
+    last = bits(1.5)
+    yield UNDISTORT, "kb 1 1 0 0 0 0 0 0 at (X, 0)", {last: 0, last + 1: 10, SIGN + last: 0, SIGN + last + 1: 10}
+    yield UNDISTORT, "kb 1 1 0 0 0 0 0 0 at (0, X)", {last: 0, last + 1: 10}
+    yield UNDISTORT, "kb 1 1 0 0 -333.3333 0 0 0 at (X, 0)", {0x3F50624DD2F1A9FC: 0, 0x3F50624DD2F1A9FD: 10}
+
+
+def between_10_and_11():
+    """The largest pixel whose last theta is finite, and the next: theta's eighth power overflows on the way, and NaN
+    is not past 3/2. No pixel could be refused both: where theta is past 3/2 there is no answer to judge."""
+    yield UNDISTORT, "kb 1 1 0 0 0 0 0 0 at (X, 0)", {0x47EFFFFFFFFFFFFF: 10, 0x47F0000000000000: 11}
+
+
+# the sixth power of X overflows, and a coefficient of 0 times that is NaN
+OVERFLOWN = "bc 1 1 0 0 0 0 0 0 0 0 0 0 at (X, 0)", {0x4A9965FEA53D6E3C: 0, 0x4A9965FEA53D6E3D: 11}
+
+# u is the angle times fx: with the largest fx that overflows once the angle passes 1, the angle of 1.557
+BENT = "kb largest 1 0 0 0 0 0 0 at (X, 0)", {0x3FF8EB245CBEE3A7: 0, 0x3FF8EB245CBEE3A8: 11}
+
+# the square of X overflows
+LEVEL = "eucm 1 1 0 0 0.5 1 at (X, 0)", {0x5FEFFFFFFFFFFFFF: 0, 0x5FF0000000000000: 11}
+
+
+def halves(operation, words, signs=(0, SIGN)):
+    """X is doubled on the way: half of the largest f64 is the last."""
+    yield operation, words, {sign + bits(2.0**1023) - n: 0 if n else 11 for sign in signs for n in (1, 0)}
+
+
+def refusal_11_distort():
+    """u or v is NaN or infinite. Half the last digit of the largest f64 is 2^970: less is rounded off, and from there
+    on the sum is infinite. With beta -1 there is a root of 1 - X * X up to 1 and none beyond."""
+    yield from halves(DISTORT, "affine 2 1 0 0 at (X, 0)")
+    yield from halves(DISTORT, "affine 1 2 0 0 at (0, X)", (0,))
+    digit = bits(2.0**970)
+    yield DISTORT, "affine 1 1 largest 0 at (X, 0)", {digit - 1: 0, digit: 11}
+    yield DISTORT, "eucm 1 1 0 0 0.5 -1 at (X, 0)", {bits(1.0): 0, bits(1.0) + 1: 11}
+    yield DISTORT, *BENT
+    yield DISTORT, *OVERFLOWN
+
+
+def refusal_11_undistort():
+    """x or y is NaN or infinite. eucm: the z of the ray is zero at the pixel 2 alone, and near it the point is far out.
+    kb: the lens bends so much that Newton's first step overflows; up to there 20 steps lead to an angle below 3/2,
+    though not to the right one, and the answer says that it did not settle."""
+    yield from halves(UNDISTORT, "affine 0.5 1 0 0 at (X, 0)")
+    two = bits(2.0)
+    yield UNDISTORT, "eucm 1 1 0 0 0.5 1 at (X, 0)", {two - 1: 0, two: 11, two + 1: 0}
+    yield UNDISTORT, "kb 1 1 0 0 0 0 0 1e299 at (X, 0)", {0x405C7AF03E0A18F3: 0, 0x405C7AF03E0A18F4: 11}
+    yield UNDISTORT, *OVERFLOWN
+
+
+def refusal_11_jacobians():
+    """An entry is NaN or infinite. Those of affine hold what was handed in, and are finite whenever that is. kb by the
+    point: theta times the radius to the seventh overflows."""
+    yield BY_POINT, *LEVEL
+    yield BY_POINT, "kb 1 1 0 0 0 0 0 0 at (X, 0)", {0x491249232F9EE093: 0, 0x491249232F9EE094: 11}
+    yield BY_POINT, *OVERFLOWN
+    yield BY_PARAMS, *LEVEL
+    yield BY_PARAMS, *BENT
+
+
+def none_refused():
+    """The answer alone is judged. At X = 0 the Rust divides by zero on the way; at 1e200 the squared radius is
+    infinite."""
+    for operation in (DISTORT, BY_POINT, BY_PARAMS):
+        yield operation, "kb 1 1 0 0 0 0 0 0 at (X, 0)", {0: 0}
+    for operation in (DISTORT, BY_PARAMS):
+        yield operation, "kb 1 1 0 0 0 0 0 0 at (X, 0)", {1e200: 0}
+
+
+def by_hand():
+    """Document 01's numbers to check by hand, those of one point."""
+    yield DISTORT, "affine X 600 1 0.5 at (0.5, -0.25)", {-0.0: 5}
+    yield DISTORT, "affine 600 600 1 0.5 at (X, -0.25)", {0.5: 0}
+    yield UNDISTORT, "affine 600 600 1 0.5 at (X, -149.5)", {301.0: 0}
+    yield DISTORT, "eucm 1 1 0 0 0.5 1 at (X, 2)", {2.0: 0}
+    yield UNDISTORT, "eucm 1 1 0 0 0.5 1 at (X, 1)", {1.0: 0}
+    yield UNDISTORT, "eucm 1 1 0 0 0.5 1 at (X, 0)", {2.0: 11}
+    yield DISTORT, "kb 1000 1000 320 280 0 0 0 0 at (X, 0)", {0: 0}
+    yield UNDISTORT, "kb 1000 1000 320 280 0 0 0 0 at (X, 280)", {320.0: 0}
+    yield DISTORT, "bc 1 1 0 0 0 0 1 0 0 0 0 0 at (X, 1)", {1.0: 0}
+    yield DISTORT, "bc 1 1 0 0 0 0 0 1 0 0 0 0 at (X, 1)", {1.0: 0}
+    yield UNDISTORT, "bc 1 1 0 0 0 0 0 0 0 0 0 0 at (X, 4)", {3.0: 0}
+
+
+SECTIONS = (
+    refusal_2,
+    refusal_4,
+    refusal_5,
+    refusal_5_among_others,
+    refusal_10,
+    between_10_and_11,
+    refusal_11_distort,
+    refusal_11_undistort,
+    refusal_11_jacobians,
+    none_refused,
+    by_hand,
+)
+
+
+def pattern(z):
+    """A float's bit pattern; an int is one already."""
+    return z if isinstance(z, int) else bits(z)
+
+
+def read(words, x):
+    """Model, parameters and the two coordinates, all numbers bit patterns, with x for X."""
+    lens, place = words.split(" at ")
+    name, *params = lens.split()
+    coordinates = place.strip("()").split(", ")
+    special = {"X": x, "largest": LARGEST}
+    numbers = [special[word] if word in special else bits(float(word)) for word in params + coordinates]
+    return MODELS.index(name), numbers[:-2], *numbers[-2:]
+
+
+def edges():
+    """Each case: the section's name, the question, what it looks like in words, and the number that is told."""
+    for section in SECTIONS:
+        for operation, words, numbers in section():
+            for x, owed in numbers.items():
+                model, params, *place = read(words, pattern(x))
+                told, _ = answer(model, operation, [value(z) for z in params], *(value(z) for z in place))
+                assert told == owed or told in NOT_4 == owed, (OPERATIONS[operation], words, x, told)
+                line = f"{OPERATIONS[operation]}\t{words}\t{pattern(x):016x}\t{told}"
+                yield section.__name__, (model, operation, params, *place), line
+
+
+def questions():
+    return [question for _, question, _ in edges()]
+
+
+if __name__ == "__main__":
+    for name, _, line in edges():
+        print(name, line, sep="\t")
