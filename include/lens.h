@@ -100,7 +100,8 @@ uint8_t lens_job_new(uint8_t model, const uint8_t *params, size_t params_length,
  * 2 * (v * width + u) on. answer_length: LENS_TURN_BYTES.
  * answer: at 0 the status (0 running, 1 finished, 2 refused at a unit), at 8 the units done, at 16 the units in all, at 24
  * the updates, each a uint64_t.
- * Returns 0: running or finished. Returns 1, 4, 5, 6, 7 or 13: the call is refused, and nothing was written.
+ * Returns 0: running or finished. Returns 1, 4, 5, 6, 7 or 13: the call is refused, and nothing was written. (Of a job that
+ * is not LENS_JOB_BYTES long nothing is read: 7.)
  * Returns 8, 10, 11 or 12: the unit after those done cannot be done, ever. Job, table and answer are written, with all
  * units before it; each further turn with an allowance above 0 returns the same number and does no unit. */
 uint8_t lens_turn(uint8_t *job, size_t job_length, float *table, size_t table_length, uint64_t allowance,
