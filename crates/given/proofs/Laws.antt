@@ -11,10 +11,11 @@ use Rattle.exact.specs.Determined.{Determined}
 use Rattle.given.specs.Given.{Given, given, code, answered}
 use Rattle.given.proofs.Giving.{right-length}
 use Rattle.given.proofs.code.Reads as code-contract
+use Rattle.given.proofs.flag_number.Reads as flag-number-contract
 
--- Any two answers to one call that the contract of `code` permits are equal.
-pub code-determined : Determined code-contract.Post
-code-determined κ a s s' r r' p q = p ∙ sym q
+-- Any two answers to one call that the contract of `code` permits are equal, and so for `flag_number`.
+pub determined : Determined code-contract.Post × Determined flag-number-contract.Post
+determined = (λ κ a s s' r r' p q. p ∙ sym q, λ κ a s s' r r' p q. p ∙ sym q)
 
 -- What is given back is a number and a buffer.
 pub both : {o o' : List ℕ} {r r' : ℕ} → given r o ≡ given r' o' → (r ≡ r') × (o ≡ o')

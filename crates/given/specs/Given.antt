@@ -12,6 +12,10 @@ pub record Given : Type 0 where
 abbrev pub given : ℕ → List ℕ → Given
 given code answer = record { code = code; answer = answer }
 
+-- a flag as a number: 1 for yes
+abbrev pub flag-number : Bool → ℕ
+flag-number flag = cond flag 1 0
+
 -- an operation's own number, 0 if it has an answer, and whether the buffer is of the right length: if not, that is refusal 7, and the lowest refusal is told
 unfoldable pub code : ℕ → Bool → ℕ
 code own right = cond right own (cond (eqb own 0) 7 (cond (ltb own 7) own 7))

@@ -11,8 +11,8 @@ use Rattle.little_endian.proofs.Laws.{length-bytes, length-floats, put-whole, p
 use Rattle.lens.specs.declared.Jacobian.{Jacobian}
 use Rattle.lens.specs.declared.Settled.{Settled}
 use Rattle.camera.specs.declared.Differentiated.{Differentiated}
-use Rattle.given.specs.Given.{Given}
-use Rattle.lens_c.specs.LensC.{flag-number, point-bytes, jacobian-bytes, give-jacobian}
+use Rattle.given.specs.Given.{Given, flag-number}
+use Rattle.lens_c.specs.LensC.{point-bytes, jacobian-bytes, give-jacobian}
 use Rattle.camera_bytes.specs.declared.Asked.{Asked}
 
 -- ---- the answers' bytes, as they are put one behind the other

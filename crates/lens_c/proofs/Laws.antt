@@ -24,10 +24,10 @@ use Rattle.lens.specs.declared.Undistorted.{Undistorted}
 use Rattle.lens.specs.declared.Undistorted.the-variants as points
 use Rattle.camera.specs.Camera.{distort, undistort, dx-distort-x, dx-distort-params}
 use Rattle.camera.specs.declared.Camera.{Camera}
-use Rattle.given.specs.Given.{Given, given, code}
+use Rattle.given.specs.Given.{Given, given, flag-number, code}
 use Rattle.turn_bytes.proofs.Laws.{all-handed}
 use Rattle.given.proofs.Laws.{both, Untouched, refused-kept, filled}
-use Rattle.lens_c.specs.LensC.{pixel-bytes, flag-number, point-bytes, jacobian-bytes, give-pixel, give-jacobian, given-pixel, given-point, distorted, undistorted, slopes, parameter-slopes, lens-distort, lens-undistort, lens-dx-distort-x, lens-dx-distort-params, lens-tangent, lens-lookup}
+use Rattle.lens_c.specs.LensC.{pixel-bytes, point-bytes, jacobian-bytes, give-pixel, give-jacobian, given-pixel, given-point, distorted, undistorted, slopes, parameter-slopes, lens-distort, lens-undistort, lens-dx-distort-x, lens-dx-distort-params, lens-tangent, lens-lookup}
 use Rattle.lookup.specs.Lookup.{lookup}
 use Rattle.job_bytes.specs.Bytes.{box-at}
 use Rattle.camera_bytes.specs.Reading.{count, camera-of, read}

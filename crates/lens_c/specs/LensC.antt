@@ -1,5 +1,4 @@
 -- The functions that C calls, each as what is handed in and the buffer lent, and the number and the buffer handed back. Definitions only.
-use mathlib.Core.Bool.{Bool, cond}
 use mathlib.Core.List.{List, [], _∷_, _++_}
 use Prim.Native.Nat.{ℕ}
 use lib.Dec.{eqb}
@@ -26,7 +25,7 @@ use Rattle.camera.specs.Camera.{distort, undistort, refused, dx-distort-x, dx-d
 use Rattle.camera.specs.declared.Differentiated.{Differentiated}
 use Rattle.camera_bytes.specs.Reading.{read}
 use Rattle.lens_c.specs.Reading.{read-for-params}
-use Rattle.given.specs.Given.{Given, code, answered}
+use Rattle.given.specs.Given.{Given, flag-number, code, answered}
 use Rattle.lookup.specs.Lookup.{lookup}
 use Rattle.job_bytes.specs.Bytes.{box-at}
 use Rattle.camera_bytes.specs.declared.Asked.{Asked}
@@ -37,10 +36,6 @@ use Rattle.camera_bytes.specs.declared.Asked.the-variants.{Of, Refused}
 -- u, v
 abbrev pub pixel-bytes : Pixel → List ℕ
 pixel-bytes pixel = floats (pixel .0 ∷ pixel .1 ∷ [])
-
--- 1 for yes
-abbrev pub flag-number : Bool → ℕ
-flag-number flag = cond flag 1 0
 
 -- x, y; the updates in four bytes, the flag in one, three zeros
 abbrev pub point-bytes : Settled → List ℕ

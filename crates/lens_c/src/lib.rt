@@ -9,7 +9,7 @@ ghost use Rattle.lens.specs.Distorted.{told-pixel};
 ghost use Rattle.lens.specs.Undistorted.{told};
 ghost use Rattle.camera.specs.Camera.{refused};
 ghost use Rattle.given.specs.Given.{given};
-ghost use Rattle.lens_c.specs.LensC.{flag-number, give-pixel, give-point, give-jacobian, give-slope, distorted, undistorted, slopes, parameter-slopes, slope-number, slope-value, lens-distort, lens-undistort, lens-dx-distort-x, lens-dx-distort-params, lens-tangent, lens-lookup};
+ghost use Rattle.lens_c.specs.LensC.{give-pixel, give-point, give-jacobian, give-slope, distorted, undistorted, slopes, parameter-slopes, slope-number, slope-value, lens-distort, lens-undistort, lens-dx-distort-x, lens-dx-distort-params, lens-tangent, lens-lookup};
 ghost use Rattle.job_bytes.specs.Bytes.{fresh-bytes};
 ghost use Rattle.observation_bytes.specs.Bytes.{observe-bytes};
 ghost use Rattle.turn_bytes.specs.Turn.{handed, turn-bytes};
@@ -108,13 +108,6 @@ fn undistorted(asked: Asked, pixel: Pixel) -> Undistorted
     }
 }
 
-// A flag as a number: 1 is yes.
-fn flag_number(flag: bool) -> u64
-    ensures { λ r. ⌜ r ≡ flag-number flag ⌝ }
-{
-    if flag { 1 } else { 0 }
-}
-
 // The flag's four bytes hold it and three zeros, since it is 0 or 1.
 fn give_point(told: ToldPoint, answer: &mut [u8]) -> u8
     ensures { λ r. ⌜ given r (now (answer .exit)) ≡ give-point (told .number) (told .settled) (now (answer .entry)) ⌝ }
@@ -125,7 +118,7 @@ fn give_point(told: ToldPoint, answer: &mut [u8]) -> u8
         let point = settled.point;
         little_endian::put_floats(answer, 0, &[point.0, point.1]);
         little_endian::put(answer, 16, 4, settled.updates as u64);
-        little_endian::put(answer, 20, 4, flag_number(settled.flag));
+        little_endian::put(answer, 20, 4, given::flag_number(settled.flag));
     }
     code
 }

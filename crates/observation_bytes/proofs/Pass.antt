@@ -9,9 +9,10 @@ use lib.Seq.{length-take-le, take-append-le, drop-append-le, take-append-add, dr
 use Rattle.exact.specs.F64.{f64}
 use Rattle.little_endian.specs.Bytes.{value, bytes, float, floats, put}
 use Rattle.little_endian.proofs.Laws.{length-bytes, length-floats, length-put, put-put, is-put}
+use Rattle.given.specs.Given.{flag-number}
 use Rattle.lens.specs.declared.Pixel.{Pixel}
 use Rattle.observations.specs.declared.Observation.{Observation}
-use Rattle.observation_bytes.specs.Bytes.{pixel-of, flag-number, found-bytes, with-found, each}
+use Rattle.observation_bytes.specs.Bytes.{pixel-of, found-bytes, with-found, each}
 
 -- ---- what is put into a record
 

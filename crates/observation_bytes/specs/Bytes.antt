@@ -2,13 +2,13 @@
 --
 --      0  pixel: u, v        32  flag, one byte, 1 for yes       34  six bytes that are neither read nor written
 --     16  answer: x, y       33  number, one byte
-use mathlib.Core.Bool.{Bool, cond}
+use mathlib.Core.Bool.{cond}
 use mathlib.Core.List.{List, [], _∷_, _++_}
 use Prim.Native.Nat.{ℕ, zero, suc, _/_, _%_}
 use lib.Dec.{eqb}
 use lib.ListN.{length, take, drop}
 use Rattle.little_endian.specs.Bytes.{bytes, float, floats}
-use Rattle.given.specs.Given.{Given, given, code}
+use Rattle.given.specs.Given.{Given, given, flag-number, code}
 use Rattle.lens.specs.Refusal.{number}
 use Rattle.lens.specs.Undistorted.{told}
 use Rattle.lens.specs.declared.Pixel.{Pixel}
@@ -24,10 +24,6 @@ use Rattle.camera_bytes.specs.declared.Asked.the-variants.{Of, Refused}
 
 abbrev pub pixel-of : List ℕ → Pixel
 pixel-of bs = record { 0 = float bs 0; 1 = float bs 8 }
-
--- 1 for yes
-abbrev pub flag-number : Bool → ℕ
-flag-number flag = cond flag 1 0
 
 -- what a call writes behind the pixel
 unfoldable pub found-bytes : Observation → List ℕ

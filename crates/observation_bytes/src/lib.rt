@@ -6,7 +6,7 @@ ghost use lib.ListN.{length};
 ghost use Rattle.little_endian.specs.Bytes.{put};
 ghost use Rattle.given.specs.Given.{given, code};
 ghost use Rattle.observations.specs.Observations.{refusal-of, seen};
-ghost use Rattle.observation_bytes.specs.Bytes.{flag-number, found-bytes, each, observe-bytes};
+ghost use Rattle.observation_bytes.specs.Bytes.{found-bytes, each, observe-bytes};
 ghost use Rattle.observation_bytes.specs.Parts.{blank-at, seen-bytes, rounds};
 use camera::Camera;
 use camera_bytes::Asked;
@@ -17,13 +17,6 @@ use observations::Observation;
 // How many bytes a record has.
 pub const LENGTH: usize = 40;
 
-// A flag as a number: 1 is yes.
-fn flag_number(flag: bool) -> u64
-    ensures { λ r. ⌜ r ≡ flag-number flag ⌝ }
-{
-    if flag { 1 } else { 0 }
-}
-
 // Puts what was found of a pixel: the answer, the flag and the number, 18 bytes.
 fn put_found(list: &mut [u8], at: usize, found: Observation)
     requires { ⌜ at + 18 ≤ length (now list) ⌝ }
@@ -31,7 +24,7 @@ fn put_found(list: &mut [u8], at: usize, found: Observation)
 {
     let answer = found.answer;
     little_endian::put_floats(list, at, &[answer.0, answer.1]);
-    little_endian::put(list, at + 16, 1, flag_number(found.flag));
+    little_endian::put(list, at + 16, 1, given::flag_number(found.flag));
     little_endian::put(list, at + 17, 1, found.number as u64);
 }
 

@@ -1,7 +1,7 @@
--- `lens_c::flag_number` meets its contract. Assumes nothing.
+-- `given::flag_number` meets its contract. Assumes nothing.
 use mathlib.Core.Path.{refl}
-use Rattle.lens_c.proofs.flag_number.Statement.{statement}
-use Rattle.lens_c.proofs.flag_number.Tie as tie
+use Rattle.given.proofs.flag_number.Statement.{statement}
+use Rattle.given.proofs.flag_number.Tie as tie
 
 returns : tie.Need-returns
 returns c = rw (c .if1 .taken) refl
