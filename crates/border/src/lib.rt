@@ -1,6 +1,6 @@
 // The border of an image, half a pixel outside it: its pixels in the order they are swept, the edges of the points found there, and twice the box of the edges, which is a table's region.
 ghost use mathlib.Core.Path.{_≡_};
-ghost use Rattle.border.specs.Border.{before, across, along, border-at};
+ghost use Rattle.border.specs.Border.{before, across, along, samples, border-at};
 ghost use Rattle.border.specs.Edges.{lowered, raised, widened, edges-after, doubled};
 use lens::Pixel;
 use lens::Point;
@@ -26,7 +26,16 @@ fn along(n: usize) -> f64
     before(n / 2)
 }
 
-// The pixel of the n-th border sample: of the top and the bottom first, and then of the left and the right. Behind the last sample the corner stands for all, so that every number has a pixel, though only samples are asked about. Halves are compared, as twice a width may be no usize.
+// How many samples the border has. Sizes of 32 bits, so that no sum of them wraps.
+pub fn samples(width: u32, height: u32) -> usize
+    ensures { λ r. ⌜ r ≡ samples width height ⌝ }
+{
+    2 * (width as usize) + 2 * (height as usize) + 4
+}
+
+// The pixel of the n-th border sample: of the top and the bottom first, and then of the left and the right. Behind the
+// last sample the corner stands for all, so that every number has a pixel, though only samples are asked about. Halves
+// are compared, as twice a width may be no usize.
 pub fn border_pixel(width: usize, height: usize, n: usize) -> Pixel
     ensures { λ r. ⌜ r ≡ border-at width height n ⌝ }
 {

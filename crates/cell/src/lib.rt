@@ -1,8 +1,9 @@
 // What one cell of a table holds: the pixel of its point, as two f32, or why there is none.
 ghost use mathlib.Core.Path.{_≡_};
+ghost use mathlib.Core.Bool.{_&&_};
 ghost use lib.Ieee.Scale.{finite};
 ghost use Rattle.camera.specs.Camera.{distort-judged};
-ghost use Rattle.cell.specs.Cell.{narrow-pixel, cell-of, cell, told};
+ghost use Rattle.cell.specs.Cell.{f32, of-pixel, cell-by, told};
 use camera::Camera;
 use lens::Distorted;
 use lens::Pixel;
@@ -25,26 +26,31 @@ fn is_finite32(x: f32) -> bool
     if x < infinity { -infinity < x } else { false }
 }
 
+fn both_finite32(a: f32, b: f32) -> bool
+    ensures { λ r. ⌜ r ≡ (finite a && finite b) ⌝ }
+{
+    if is_finite32(a) {
+        is_finite32(b)
+    } else {
+        false
+    }
+}
+
 // A pixel as a cell: 12 if an f32 of it is infinite.
 fn narrow_pixel(pixel: Pixel) -> Cell
-    ensures { λ r. ⌜ r ≡ narrow-pixel pixel ⌝ }
+    ensures { λ r. ⌜ told r ≡ f32 pixel ⌝ }
 {
     let a = narrow::narrow(pixel.0);
     let b = narrow::narrow(pixel.1);
-    if is_finite32(a) {
-        if is_finite32(b) {
-            Cell::Holds(a, b)
-        } else {
-            Cell::Refused(Refusal::CellInfinite)
-        }
-    } else {
-        Cell::Refused(Refusal::CellInfinite)
+    if both_finite32(a, b) {
+        return Cell::Holds(a, b);
     }
+    Cell::Refused(Refusal::CellInfinite)
 }
 
 // What a point that is finite gives its cell.
 fn cell_of(camera: Camera, point: Point) -> Cell
-    ensures { λ r. ⌜ r ≡ cell-of (distort-judged camera point) ⌝ }
+    ensures { λ r. ⌜ told r ≡ of-pixel f32 (distort-judged camera point) ⌝ }
 {
     match camera::distort_judged(camera, point) {
         Distorted::Refused(refusal) => Cell::Refused(refusal),
@@ -54,17 +60,12 @@ fn cell_of(camera: Camera, point: Point) -> Cell
 
 // The cell in column u and row v. Its point is judged before anything is made of it.
 pub fn cell_at(camera: Camera, region: Region, by: Increments, u: usize, v: usize) -> Cell
-    ensures { λ r. ⌜ told r ≡ told (cell camera region by u v) ⌝ }
+    ensures { λ r. ⌜ told r ≡ cell-by (distort-judged camera) f32 region by u v ⌝ }
 {
     let x = region.left + region::float(u) * by.0;
     let y = region.top + region::float(v) * by.1;
-    if exact::is_finite(x) {
-        if exact::is_finite(y) {
-            cell_of(camera, Point(x, y))
-        } else {
-            Cell::Refused(Refusal::AnswerNotFinite)
-        }
-    } else {
-        Cell::Refused(Refusal::AnswerNotFinite)
+    if lens::both_finite(x, y) {
+        return cell_of(camera, Point(x, y));
     }
+    Cell::Refused(Refusal::AnswerNotFinite)
 }

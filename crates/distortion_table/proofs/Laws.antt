@@ -1,41 +1,127 @@
 -- What a caller may rely on, of the definitions of specs/ and of the contracts of src/. Assumes nothing.
-use mathlib.Core.Path.{_≡_, refl, sym, ap, _∙_}
-use mathlib.Core.Bool.{Bool, true, false, cond}
+use mathlib.Core.Path.{_≡_, refl, sym, ap, _∙_, subst}
 use mathlib.Core.List.{List}
-use Prim.Native.Nat.{ℕ, _+_, _*_, _≤_, min}
+use Prim.Native.Nat.{ℕ, _*_, _≤_, min}
 use native.Mathlib.Omega.{arith}
 use denote.Ref.{now}
-use lib.Dec.{ltb}
 use lib.Ieee.{Float}
 use lib.ListN.{length}
 use Rattle.exact.specs.Determined.{DeterminedWith}
-use Rattle.lens.specs.Undistorted.{told}
 use Rattle.lens.specs.declared.Judgement.the-variants.{Taken}
 use Rattle.lens.proofs.Laws.{number-one-to-one}
-use Rattle.region.proofs.Size.{is-sized}
-use Rattle.camera.specs.Camera.{undistort-judged, limit}
 use Rattle.camera.specs.declared.Camera.{Camera}
-use Rattle.camera.proofs.Laws.{updates-limit-judged}
-use Rattle.turns.specs.Turns.{finished, running, ended, turn, turns, total, units, summed}
-use Rattle.turns.proofs.Laws as any
-use Rattle.border.specs.Border.{samples, all-units, border-at}
-use Rattle.job.specs.Job.{fresh, admitted}
+use Rattle.border.specs.Border.{all-units}
+use Rattle.turns.specs.Turns.{Said, running, turn, total}
+use Rattle.plans.specs.Built.{doable, says-at, Built}
+use Rattle.plans.specs.Calls.{judged, allowed, Build}
+use Rattle.plans.specs.Plan.{State, fresh, next}
+use Rattle.plans.proofs.Ends as ends
+use Rattle.plans.proofs.Laws as plans
+use Rattle.plans.proofs.Same.{built-same}
+use Rattle.table_plans.specs.Tables.{f32-table}
+use Rattle.table_plans.proofs.Sound.{opened, f32-sound}
+use Rattle.job.specs.Job.{fresh-job}
+use Rattle.job.specs.Job as job
 use Rattle.job.specs.declared.Job.{Job}
 use Rattle.job.specs.declared.Started.the-variants as begun
-use Rattle.distortion_table.specs.Answer.{Answer, enough, whole-table, told-status, told-turned}
-use Rattle.distortion_table.specs.Calls.{Held, kept, calls, held-of, start}
-use Rattle.units.specs.Owed.{Kept, Hold, cost}
-use Rattle.units.specs.Table.{State, next}
+use Rattle.distortion_table.specs.Answer.{Answer, answer, enough, whole-table, told-status, told-turned}
+use Rattle.distortion_table.specs.Held.{Held, kept, held-plan, held-state}
 use Rattle.distortion_table.specs.declared.Status.{Status}
 use Rattle.distortion_table.specs.declared.Status.the-variants.{Finished, Refused, Running}
 use Rattle.distortion_table.specs.declared.Turned.{Turned}
-use Rattle.distortion_table.proofs.Calls.{Takes, start-good, fresh-takes, good-admitted, answer-is, call-is, calls-are, largest, turns-good}
-use Rattle.units.proofs.Counting.{done-is, done-most}
-use Rattle.units.proofs.Reaching.{Good}
-use Rattle.units.proofs.Ends as ends
-use Rattle.units.proofs.Written as written
+use Rattle.distortion_table.proofs.Calls.{largest, Called, turn-serves, fresh-opens, start-admitted, answer-is}
 use Rattle.distortion_table.proofs.turn.Reads as turn-contract
 use Rattle.distortion_table.proofs.distort_table.Reads as distort-table-contract
+
+-- ---- demand 3
+
+module _ (camera : Camera) (width height : ℕ) (table : List Float) where
+  -- where a build starts: a fresh record, and the caller's table
+  abbrev first : Held Float
+  first = record { job = fresh-job camera width height; cells = table }
+
+  -- Demand 3. Start from a fresh job of any camera and size, with any table, and call `turn` with any allowances, 0 among them,
+  -- each time with the record and the table that the call before handed back. Let A be the sum of the allowances of those calls
+  -- that are admitted, and F the number of units before the first that the definition refuses, or of all units. Then exactly
+  -- min(A, F) units are done; the record is the one that the definition has after so many, its updates the sum of the
+  -- definition's over the border samples done; each cell done holds the definition's numbers; and the rest of the table is
+  -- untouched.
+  pub built-in-turns :
+      (allowances : List ℕ) (last : Held Float) → Build (Held Float) Called allowances first last
+      → Built (f32-table camera width height) table (allowed (f32-table camera width height) allowances (fresh table)) (held-state last)
+  built-in-turns allowances last b =
+      plans.built (Held Float) (λ h. Unit {0}) held-plan held-state Called turn-serves first tt (f32-sound camera width height) table refl allowances last b
+
+  -- However the work is split: two builds that are allowed as much end with the same record and the same table.
+  pub any-split :
+      (ls ms : List ℕ) (last other : Held Float) → Build (Held Float) Called ls first last → Build (Held Float) Called ms first other
+      → allowed (f32-table camera width height) ls (fresh table) ≡ allowed (f32-table camera width height) ms (fresh table)
+      → held-state last ≡ held-state other
+  any-split ls ms last other b c e =
+      built-same (f32-table camera width height) table _ _ (held-state last) (held-state other) (built-in-turns ls last b) (built-in-turns ms other c)
+      (ap (λ (A : ℕ). min A (doable (f32-table camera width height))) e)
+
+-- ---- a build from a record that `fresh` handed out, with a table of its size
+
+module _
+    (camera : Camera) (width height : ℕ) (start : Job) (begin : job.fresh camera width height ≡ begun.With start)
+    (table : List Float) (long : length table ≡ 2 * (width * height))
+  where
+    takes : judged (f32-table camera width height) (fresh table) ≡ Taken
+    takes = start-admitted camera width height (fresh-opens camera width height start begin .0) table long
+
+    module _ (allowances : List ℕ) (last : Held Float) (b : Build (Held Float) Called allowances (first camera width height table) last) where
+      -- It is handed out as the fresh record is defined.
+      pub as-begun : start ≡ fresh-job camera width height
+      as-begun = fresh-opens camera width height start begin .1
+
+      -- No call is refused with 4, 5, 6, 7 or 13,
+      pub build-admitted : judged (f32-table camera width height) (held-state last) ≡ Taken
+      build-admitted =
+          plans.built-admitted (Held Float) (λ h. Unit {0}) held-plan held-state Called turn-serves (first camera width height table) tt
+          (f32-sound camera width height) table refl allowances last b takes
+
+      -- so that A is the sum of all allowances.
+      pub build-allowed : allowed (f32-table camera width height) allowances (fresh table) ≡ total allowances
+      build-allowed =
+          plans.built-allowed (Held Float) (λ h. Unit {0}) held-plan held-state Called turn-serves (first camera width height table) tt
+          (f32-sound camera width height) table refl allowances last b takes
+
+      -- The next call says finished exactly if T units are done after it, refused with the number of the unit behind those done
+      -- exactly if that unit has one and the allowance had room for it, and running otherwise.
+      pub build-says :
+          (a : ℕ) (said : Said) (then : Held Float) → Called last a said then
+          → said ≡ says-at (f32-table camera width height) (last .job .at .done) a (then .job .at .done)
+      build-says =
+          plans.built-says (Held Float) (λ h. Unit {0}) held-plan held-state Called turn-serves (first camera width height table) tt
+          (f32-sound camera width height) table refl allowances last b takes
+
+    at-once-is : whole-table camera width height table ≡ answer (fresh-job camera width height) (turn (next (f32-table camera width height)) enough (fresh table))
+    at-once-is = answer-is camera width height (fresh-opens camera width height start begin .0) table long enough
+
+    enough-units : all-units width height ≤ enough
+    enough-units = largest width height (opened camera width height _ (fresh-opens camera width height start begin .0) .size)
+
+    abbrev once : State Float
+    once = turn (next (f32-table camera width height)) enough (fresh table) .state
+
+    -- The table at once is that of any build that is allowed T units or more: the same record, the same cells;
+    pub at-once :
+        (allowances : List ℕ) (last : Held Float) → Build (Held Float) Called allowances (first camera width height table) last
+        → all-units width height ≤ total allowances → held-state last ≡ held-state (kept (whole-table camera width height table))
+    at-once allowances last b h =
+        let p = f32-table camera width height in
+        let e = ends.enough-for p (fresh table) (omega arith) (total allowances) h in
+        let f = ends.enough-for p (fresh table) (omega arith) enough enough-units in
+        let c = plans.as-defined p (f32-sound camera width height) table long in
+        let whole = subst (Built p table (total allowances)) (e ∙ sym f) (c (total allowances)) in
+        let mine = subst (λ (A : ℕ). Built p table A (held-state last)) (build-allowed allowances last b) (built-in-turns camera width height table allowances last b) in
+        built-same p table (total allowances) (total allowances) (held-state last) once mine whole refl
+        ∙ sym (ap (λ (x : Answer Float). held-state (kept x)) at-once-is)
+
+    -- and it is finished, or refused at a unit: it never says running.
+    pub at-once-ends : whole-table camera width height table .said ≡ running → ⊥
+    at-once-ends e = ends.never-running (f32-table camera width height) (fresh table) (omega arith) enough enough-units (sym (ap (λ (x : Answer Float). x .said) at-once-is) ∙ e)
 
 -- ---- each contract permits one answer
 
@@ -54,11 +140,11 @@ status-one-to-one Running Running e = refl
 -- What a turn tells, with the table as it is then, determines its answer and that table.
 pub same-turned : (r r' : Turned) (c c' : List Float) → told-turned r c ≡ told-turned r' c' → r ≡ r'
 same-turned r r' c c' e =
-    ap (λ (x : Status). record { status = x; job = r .job }) (status-one-to-one (r .status) (r' .status) (ap (λ (t : Answer). t .said) e))
-    ∙ ap (λ (j : Job). record { status = r' .status; job = j }) (ap (λ (t : Answer). t .job) e)
+    ap (λ (x : Status). record { status = x; job = r .job }) (status-one-to-one (r .status) (r' .status) (ap (λ (t : Answer Float). t .said) e))
+    ∙ ap (λ (j : Job). record { status = r' .status; job = j }) (ap (λ (t : Answer Float). t .job) e)
 
 pub same-table : (r r' : Turned) (c c' : List Float) → told-turned r c ≡ told-turned r' c' → c ≡ c'
-same-table r r' c c' e = ap (λ (t : Answer). t .cells) e
+same-table r r' c c' e = ap (λ (t : Answer Float). t .cells) e
 
 -- Any two answers to one call that the contract of `turn` permits are equal, and so are any two tables at the return;
 pub turn-determined : DeterminedWith turn-contract.Post (λ κ s. now (s .1 .0))
@@ -67,93 +153,3 @@ turn-determined κ a s s' r r' p q = (same-turned r r' _ _ (p ∙ sym q), same-t
 -- and so for `distort_table`.
 pub distort-table-determined : DeterminedWith distort-table-contract.Post (λ κ s. now (s .1 .1 .1 .0))
 distort-table-determined κ a s s' r r' p q = (same-turned r r' _ _ (p ∙ sym q), same-table r r' _ _ (p ∙ sym q))
-
--- ---- one turn
-
-module _ (camera : Camera) (width height : ℕ) where
-  -- A turn says finished exactly if no unit is left after it, refused with a number exactly if the next unit refuses with it and the allowance had room for that unit, and running otherwise.
-  pub says : (allowance : ℕ) (s : State) → turn (next camera width height) allowance s .said ≡ ended (next camera width height (turn (next camera width height) allowance s .state)) (ltb (units (next camera width height) allowance s) allowance)
-  says = any.says (next camera width height)
-
-  -- It says finished exactly when T units are done after it.
-  pub finished-exactly : (allowance : ℕ) (s : State) → s .at .done ≤ all-units width height
-      → (turn (next camera width height) allowance s .said ≡ finished → turn (next camera width height) allowance s .state .at .done ≡ all-units width height)
-      × (turn (next camera width height) allowance s .state .at .done ≡ all-units width height → turn (next camera width height) allowance s .said ≡ finished)
-  finished-exactly allowance s h = (ends.finished-only camera width height allowance s h, ends.finished-at camera width height allowance s)
-
-  -- The units done are exactly min(A, F): from a record with no more than T units done, an allowance A does as many units as A says, or as there are before the first that refuses or is not there.
-  pub units-exactly : (allowance : ℕ) (s : State) → s .at .done ≤ all-units width height → units (next camera width height) allowance s ≡ min allowance (units (next camera width height) (all-units width height) s)
-  units-exactly allowance s h = any.units-exactly (next camera width height) (all-units width height) s (λ a. omega (arith, done-is camera width height a s, done-most camera width height a s h)) allowance
-
-  -- The record counts them.
-  pub units-counted : (allowance : ℕ) (s : State) → turn (next camera width height) allowance s .state .at .done ≡ s .at .done + units (next camera width height) allowance s
-  units-counted = done-is camera width height
-
-  -- Each cell that a turn does holds its definition's two numbers when the turn ends.
-  pub cells-hold : (allowance : ℕ) (s : State) → length (s .cells) ≡ 2 * (width * height) → Hold camera width height s (turn (next camera width height) allowance s .state)
-  cells-hold = written.done-hold camera width height
-
-  -- All other places are as they were: those ahead of the turn's first cell, and those behind the last one done.
-  pub untouched : (allowance : ℕ) (s : State) → Kept camera width height s (turn (next camera width height) allowance s .state)
-  untouched = written.untouched camera width height
-
-  -- The updates a turn adds are the sum of the definition's over the samples it did.
-  pub updates-summed : (allowance : ℕ) (s : State) → turn (next camera width height) allowance s .state .at .updates ≡ s .at .updates + summed (next camera width height) (cost camera width height) allowance s
-  updates-summed = written.updates-summed camera width height
-
-  -- Each sample adds at most the model's limit.
-  pub updates-limited : (s : State) → cost camera width height s ≤ limit camera
-  updates-limited s = go (ltb (s .at .done) (samples width height))
-    where
-      go : (b : Bool) → cond b (told (undistort-judged camera (border-at width height (s .at .done))) .settled .updates) 0 ≤ limit camera
-      go true = updates-limit-judged camera (border-at width height (s .at .done))
-      go false = omega arith
-
--- ---- a build: calls from a fresh record on, each with the record and the table that the one before handed back
-
-module _ (camera : Camera) (width height : ℕ) (job : Job) (begin : fresh camera width height ≡ begun.With job) (cells : List Float) (long : length cells ≡ 2 * (width * height)) where
-  abbrev first-state : State
-  first-state = start cells
-
-  abbrev first-held : Held
-  first-held = record { job = job; cells = cells }
-
-  takes : Takes camera width height
-  takes = fresh-takes camera width height job begin .0
-
-  as-started : first-held ≡ held-of camera width height first-state
-  as-started = ap (λ (j : Job). record { job = j; cells = cells }) (fresh-takes camera width height job begin .1)
-
-  good : Good camera width height first-state
-  good = start-good camera width height cells long
-
-  -- However the work is split: calls with any allowances end where one turn ends that may do as much as all of them, record and cells alike.
-  pub any-split : (allowances : List ℕ) → calls allowances first-held ≡ held-of camera width height (turn (next camera width height) (total allowances) first-state .state)
-  any-split allowances =
-      ap (calls allowances) as-started ∙ calls-are camera width height takes allowances first-state good
-      ∙ ap (held-of camera width height) (any.any-split (next camera width height) allowances first-state)
-
-  -- The units done are exactly min(A, F), A being all that the calls allow together, and F the units before the first that refuses or is not there.
-  pub build-units : (allowances : List ℕ) → calls allowances first-held .job .at .done ≡ min (total allowances) (units (next camera width height) (all-units width height) first-state)
-  build-units allowances =
-      ap (λ (h : Held). h .job .at .done) (any-split allowances)
-      ∙ omega (arith, units-counted camera width height (total allowances) first-state, units-exactly camera width height (total allowances) first-state (omega arith))
-
-  -- Every record that a build can reach is admitted: no call of it is refused with 4, 5, 6, 7 or 13.
-  pub build-admitted : (allowances : List ℕ) → admitted (calls allowances first-held .job) (length (calls allowances first-held .cells)) ≡ Taken
-  build-admitted allowances =
-      ap (λ (h : Held). admitted (h .job) (length (h .cells))) (ap (calls allowances) as-started ∙ calls-are camera width height takes allowances first-state good)
-      ∙ good-admitted camera width height takes (turns (next camera width height) allowances first-state) (turns-good camera width height takes allowances first-state good)
-
-  -- The table at once is the table by calls: where these allow T units or more, however split, both end with the same record and the same cells,
-  pub at-once : (allowances : List ℕ) → all-units width height ≤ total allowances → calls allowances first-held ≡ kept (whole-table camera width height cells)
-  at-once allowances h =
-      any-split allowances
-      ∙ ap (held-of camera width height) (ends.enough-for camera width height first-state (omega arith) (total allowances) h ∙ sym (ends.enough-for camera width height first-state (omega arith) enough (largest width height (is-sized width height (takes .size)))))
-      ∙ sym (call-is camera width height takes enough first-state good)
-
-  -- and the table at once is finished, or refused at a unit: it never says running.
-  pub at-once-ends : whole-table camera width height cells .said ≡ running → ⊥
-  at-once-ends e =
-      ends.never-running camera width height first-state (omega arith) enough (largest width height (is-sized width height (takes .size)))
-      (sym (ap (λ (a : Answer). a .said) (answer-is camera width height takes enough first-state good)) ∙ e)

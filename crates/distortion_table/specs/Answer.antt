@@ -1,38 +1,45 @@
--- What a turn answers: what it says, the record, and the table. Definitions only.
+-- What a turn answers: what it says, the record, and the table, as the plan of the record's table has it. Definitions only.
 use mathlib.Core.List.{List}
 use Prim.Native.Nat.{ℕ}
 use lib.Ieee.{Float}
-use lib.ListN.{length}
-use Rattle.lens.specs.Judgement.{decided}
 use Rattle.lens.specs.Refusal.{number}
 use Rattle.region.specs.Size.{most}
 use Rattle.camera.specs.declared.Camera.{Camera}
 use Rattle.border.specs.Border.{all-units}
-use Rattle.turns.specs.Turns.{Said, finished, refused, running, Turn, turn}
-use Rattle.job.specs.Job.{fresh-job, admitted}
+use Rattle.turns.specs.Turns.{Said, finished, refused, running, Turn}
+use Rattle.plans.specs.Plan.{Plan, State}
+use Rattle.plans.specs.Calls as plan
+use Rattle.table_plans.specs.Tables.{f32-table}
+use Rattle.job.specs.Job.{fresh-job}
 use Rattle.job.specs.declared.Job.{Job}
-use Rattle.units.specs.Table.{State, next}
 use Rattle.distortion_table.specs.declared.Status.{Status}
 use Rattle.distortion_table.specs.declared.Status.the-variants as status
 use Rattle.distortion_table.specs.declared.Turned.{Turned}
 
-pub record Answer : Type 0 where
+-- the plan of a record's table, and the state of its build
+abbrev pub plan-of : Job → Plan Float
+plan-of job = f32-table (job .camera) (job .width) (job .height)
+
+abbrev pub state-of : {X : Type 0} → Job → List X → State X
+state-of job cells = record { at = job .at; cells = cells }
+
+-- ---- a call
+
+pub record Answer (X : Type 0) : Type 0 where
   pub said : Said
   pub job : Job
-  pub cells : List Float
+  pub cells : List X
 
-abbrev pub answer : Camera → ℕ → ℕ → Turn State → Answer
-answer camera width height t = record {
+-- the record keeps its camera and its size
+abbrev pub answer : {X : Type 0} → Job → Turn (State X) → Answer X
+answer job t = record {
   said = t .said;
-  job = record { camera = camera; width = width; height = height; at = t .state .at };
+  job = record { camera = job .camera; width = job .width; height = job .height; at = t .state .at };
   cells = t .state .cells;
 }
 
-abbrev pub turn-of : Job → List Float → ℕ → Answer
-turn-of job cells allowance =
-    decided (admitted job (length cells))
-    (λ r. record { said = refused (number r); job = job; cells = cells })
-    (answer (job .camera) (job .width) (job .height) (turn (next (job .camera) (job .width) (job .height)) allowance record { at = job .at; cells = cells }))
+abbrev pub turn-of : Job → List Float → ℕ → Answer Float
+turn-of job cells allowance = answer job (plan.turn-of (plan-of job) allowance (state-of job cells))
 
 -- what the code's answer says
 abbrev pub told-status : Status → Said
@@ -40,7 +47,7 @@ told-status status.Finished = finished
 told-status (status.Refused r) = refused (number r)
 told-status status.Running = running
 
-abbrev pub told-turned : Turned → List Float → Answer
+abbrev pub told-turned : {X : Type 0} → Turned → List X → Answer X
 told-turned t cells = record { said = told-status (t .status); job = t .job; cells = cells }
 
 -- ---- the whole table at once: a turn that may do as many units as the largest table has
@@ -48,5 +55,5 @@ told-turned t cells = record { said = told-status (t .status); job = t .job; cel
 abbrev pub enough : ℕ
 enough = all-units most most
 
-abbrev pub whole-table : Camera → ℕ → ℕ → List Float → Answer
+abbrev pub whole-table : Camera → ℕ → ℕ → List Float → Answer Float
 whole-table camera width height cells = turn-of (fresh-job camera width height) cells enough

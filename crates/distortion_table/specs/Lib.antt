@@ -1,4 +1,3 @@
 pub mod Answer
-pub mod Calls
-pub mod Loops
+pub mod Held
 pub mod Parts

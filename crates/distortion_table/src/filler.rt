@@ -2,9 +2,13 @@
 ghost use mathlib.Core.Path.{_≡_};
 ghost use Prim.Native.Nat.{_+_, _*_, _^_, _≤_, _<_};
 ghost use lib.ListN.{length};
+ghost use Rattle.region.specs.Region.{increments};
+ghost use Rattle.camera.specs.Camera.{distort-judged};
 ghost use Rattle.turns.specs.Turns.{turn, met};
-ghost use Rattle.distortion_table.specs.Loops.{filled, told-filled};
-ghost use Rattle.distortion_table.specs.Parts.{Lent};
+ghost use Rattle.plans.specs.Loops.{filled, Lent};
+ghost use Rattle.cell.specs.Cell.{f32, cell-by};
+ghost use Rattle.sweep.specs.Sweep.{told-refusal};
+ghost use Rattle.distortion_table.specs.Parts.{told-filled};
 use crate::Filled;
 use crate::Place;
 use camera::Camera;
@@ -39,7 +43,7 @@ fn fill(
     count: usize,
 ) -> Filled
     requires { ⌜ (0 < width) × (first + count < 2 ^ 32) × (2 * count ≤ length (now rest)) ⌝ }
-    ensures { λ r. ⌜ told-filled r (now (rest .exit)) ≡ met (turn (filled camera region by width first) count record { done = 0; cells = now (rest .entry) }) ⌝ }
+    ensures { λ r. ⌜ told-filled r (now (rest .exit)) ≡ met (turn (filled (cell-by (distort-judged camera) f32 region by) width first) count record { done = 0; cells = now (rest .entry) }) ⌝ }
 {
     let mut place = Place {
         u: first % width,
@@ -68,19 +72,21 @@ fn fill(
     }
 }
 
-// So many cells, from the one numbered first on: the part of the table that begins with it is lent to the filler, and what is ahead of it is not.
+// So many cells, from the one numbered first on: the part of the table that begins with it is lent to the filler, and what
+// is ahead of it is not.
 pub(crate) fn lend(
     table: &mut [f32],
     camera: Camera,
     region: Region,
-    by: Increments,
     width: usize,
+    height: usize,
     first: usize,
     count: usize,
 ) -> Filled
     requires { ⌜ (0 < width) × (first + count < 2 ^ 31) × (2 * first + 2 * count ≤ length (now table)) ⌝ }
-    ensures { λ r. ⌜ Lent camera region by width first count (now (table .entry)) r (now (table .exit)) ⌝ }
+    ensures { λ r. ⌜ Lent (cell-by (distort-judged camera) f32 region (increments region width height)) width first count (now (table .entry)) (r .done) (told-refusal (r .refusal)) (now (table .exit)) ⌝ }
 {
+    let by = region::increments_of(region, width, height);
     let start = 2 * first;
     fill(&mut table[start..], camera, region, by, width, first, count)
 }

@@ -1,4 +1,5 @@
--- The rows of the refusal table (docs/RULES.md, 5.1) that a turn tries before any unit, in their order: each number, and when it is given. Definitions only.
+-- The rows of the refusal table (docs/RULES.md, 5.1) that a turn tries before any unit, in their order: each number, and
+-- when it is given. Definitions only.
 use mathlib.Core.Bool.{Bool, not, _&&_, _||_}
 use mathlib.Core.List.{List, [], _∷_}
 use Prim.Native.Nat.{ℕ, _*_, min}
@@ -12,14 +13,15 @@ use Rattle.region.specs.declared.Increments.{Increments}
 use Rattle.camera.specs.Camera.{parameters, zero-focal, limit}
 use Rattle.camera.specs.declared.Camera.{Camera}
 use Rattle.border.specs.Border.{samples, all-units}
+use Rattle.plans.specs.declared.Progress.{Progress}
 use Rattle.job.specs.declared.Job.{Job}
-use Rattle.job.specs.declared.Progress.{Progress}
 
 -- increments that are not finite or not above 0
 abbrev pub unfit : Increments → Bool
 unfit by = (flat (by .0) || flat (by .1)) || not (finite (by .0) && finite (by .1))
 
--- 13: done > T, updates beyond the model's limit times the samples done, an edge so far that isn't finite, or done ≥ B with a region that has no increments
+-- 13: done > T, updates beyond the model's limit times the samples done, an edge so far that isn't finite, or done ≥ B
+-- with a region that has no increments
 abbrev pub no-build : Camera → ℕ → ℕ → Progress → Bool
 no-build camera width height at =
     ltb (all-units width height) (at .done)
@@ -40,4 +42,7 @@ turn-rows job places =
 -- those of a fresh record
 abbrev pub fresh-rows : Camera → ℕ → ℕ → List Row
 fresh-rows camera width height =
-    (4 when not (all-finite (parameters camera))) ∷ (5 when zero-focal camera) ∷ (6 when not (sized width height)) ∷ []
+    (4 when not (all-finite (parameters camera)))
+    ∷ (5 when zero-focal camera)
+    ∷ (6 when not (sized width height))
+    ∷ []

@@ -6,14 +6,13 @@ use Prim.Native.Nat.{ℕ, _*_, _≤_}
 use native.Mathlib.Omega.{arith}
 use lib.Dec.{leb, eqb}
 use lib.ListN.{length}
-use Rattle.lens.specs.Finite.{all-finite}
+use Rattle.lens.specs.Judgement.{decided}
 use Rattle.lens.specs.Refusal.{number}
 use Rattle.lens.specs.declared.Refusal.{Refusal}
-use Rattle.lens.specs.declared.Refusal.the-variants.{UnknownModel, WrongCount, NotFinite, ZeroFocalLength, WrongSize}
+use Rattle.lens.specs.declared.Judgement.{Judgement}
+use Rattle.lens.specs.declared.Judgement.the-variants.{Taken, Refused}
+use Rattle.lens.specs.declared.Refusal.the-variants.{UnknownModel, WrongCount}
 use Rattle.lens.proofs.Laws.{number-within}
-use Rattle.region.specs.Size.{sized, Sized}
-use Rattle.region.proofs.Size.{is-sized}
-use Rattle.camera.specs.Camera.{parameters, zero-focal}
 use Rattle.camera.specs.declared.Camera.{Camera}
 use Rattle.camera_bytes.specs.Reading.{count, camera-of, read}
 use Rattle.camera_bytes.specs.declared.Asked.{Asked}
@@ -21,6 +20,8 @@ use Rattle.camera_bytes.specs.declared.Asked.the-variants as asked
 use Rattle.given.specs.Given.{Given, given, code, answered}
 use Rattle.given.proofs.Giving.{left-alone}
 use Rattle.given.proofs.Laws.{filled, told-zero}
+use Rattle.plans.specs.Plan.{nowhere}
+use Rattle.table_plans.specs.Tables.{opens-for}
 use Rattle.job.specs.Job.{Begun, no-job, fresh-job, fresh, told-started}
 use Rattle.job.specs.declared.Job.{Job}
 use Rattle.job.specs.declared.Started.{Started}
@@ -61,30 +62,28 @@ module _ (model : ℕ) (params : List ℕ) (width height : ℕ) (lent : List ℕ
   job = fresh-job camera width height
 
   abbrev Says : Given → Type 0
-  Says g = g .code ≡ 0 → (g .answer ≡ record-bytes job) × Sized width height
+  Says g = g .code ≡ 0 → (g .answer ≡ record-bytes job) × (opens-for camera width height nowhere ≡ Taken)
 
   refusing : (refusal : Refusal) → Says (give-started (no-job (number refusal)) lent)
   refusing refusal z = absurd (omega (arith, number-within refusal .0, told-zero record-length (number refusal) [] lent z .0))
 
-  beginning : sized width height ≡ true → Says (answered record-length 0 (record-bytes job) lent)
+  beginning : opens-for camera width height nowhere ≡ Taken → Says (answered record-length 0 (record-bytes job) lent)
   beginning s z =
       let e : length lent ≡ record-length = told-zero record-length 0 (record-bytes job) lent z .1 in
-      (ap (λ (g : Given). g .answer) (filled record-length 0 (record-bytes job) lent refl e), is-sized width height s)
+      (ap (λ (g : Given). g .answer) (filled record-length 0 (record-bytes job) lent refl e), s)
 
   by-start :
-      (f z s : Bool) →
-      sized width height ≡ s →
-      Says (give-started (told-started (cond f (cond z (begun.Refused ZeroFocalLength) (cond s (begun.With job) (begun.Refused WrongSize))) (begun.Refused NotFinite))) lent)
-  by-start false z s e = refusing NotFinite
-  by-start true true s e = refusing ZeroFocalLength
-  by-start true false false e = refusing WrongSize
-  by-start true false true e = beginning e
+      (j : Judgement) →
+      opens-for camera width height nowhere ≡ j →
+      Says (give-started (told-started (decided j begun.Refused (begun.With job))) lent)
+  by-start (Refused r) e = refusing r
+  by-start Taken e = beginning e
 
   by-asked : (t u : Bool) → Says (give-started (told-started (started (cond t (cond u (asked.Of camera) (asked.Refused WrongCount)) (asked.Refused UnknownModel)) width height)) lent)
   unfolding fresh
   by-asked false u = refusing UnknownModel
   by-asked true false = refusing WrongCount
-  by-asked true true = by-start (all-finite (parameters camera)) (zero-focal camera) (sized width height) refl
+  by-asked true true = by-start (opens-for camera width height nowhere) refl
 
   pub fresh-zero : Says (fresh-bytes model params width height lent)
   unfolding fresh-bytes read

@@ -9,6 +9,7 @@ use lib.Ieee.Bits.{ofBits-fits}
 use lib.ListN.{length}
 use Rattle.exact.specs.Determined.{Determined, DeterminedWith}
 use Rattle.lens.specs.Fits.{AllFit}
+use Rattle.lens.specs.declared.Judgement.the-variants.{Taken}
 use Rattle.region.specs.Fits.{FourFit}
 use Rattle.region.specs.Size.{Sized}
 use Rattle.camera.specs.Camera.{parameters}
@@ -16,6 +17,9 @@ use Rattle.camera.specs.declared.Camera.{Camera}
 use Rattle.camera_bytes.specs.Reading.{camera-of}
 use Rattle.given.specs.Given.{Given}
 use Rattle.given.proofs.Laws.{both}
+use Rattle.plans.specs.Plan.{nowhere}
+use Rattle.table_plans.specs.Tables.{opens-for}
+use Rattle.table_plans.proofs.Sound.{opened}
 use Rattle.job.specs.Job.{fresh-job}
 use Rattle.job.specs.declared.Job.{Job}
 use Rattle.job_bytes.specs.Bytes.{record-length, record-bytes, record-read, fresh-bytes}
@@ -83,5 +87,12 @@ pub fresh-read :
     × (record-read (fresh-bytes model params width height lent .answer) ≡ Of (fresh-job (camera-of model params) width height))
 fresh-read model params width height lent z =
     let says = fresh-zero model params width height lent z in
-    let w : Writable (fresh-job (camera-of model params) width height) = fresh-writable model params width height (says .1) in
+    let w : Writable (fresh-job (camera-of model params) width height) = fresh-writable model params width height (opened (camera-of model params) width height nowhere (says .1) .size) in
     (says .0, w, ap record-read (says .0) ∙ written-read (fresh-job (camera-of model params) width height) w)
+
+-- There camera and size are taken.
+pub fresh-opens-zero :
+    (model : ℕ) (params : List ℕ) (width height : ℕ) (lent : List ℕ) →
+    fresh-bytes model params width height lent .code ≡ 0 →
+    opens-for (camera-of model params) width height nowhere ≡ Taken
+fresh-opens-zero model params width height lent z = fresh-zero model params width height lent z .1

@@ -11,9 +11,9 @@ ghost use Rattle.job_bytes.specs.Bytes.{record-length, model-number, twe
 use camera::Camera;
 use camera_bytes::Asked;
 use job::Job;
-use job::Progress;
 use job::Started;
 use lens::Refusal;
+use plans::Progress;
 use region::Region;
 
 // How many bytes a record has.

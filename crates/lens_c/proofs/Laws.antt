@@ -1,5 +1,5 @@
 -- What a caller may rely on, of the definitions of specs/ and of the contracts of src/. Assumes nothing.
-use mathlib.Core.Path.{_≡_, refl, sym, ap, _∙_}
+use mathlib.Core.Path.{_≡_, refl, sym, ap, _∙_, subst}
 use mathlib.Core.Bool.{Bool}
 use mathlib.Core.List.{List, [], _∷_, _++_, append-nil, append-assoc}
 use Prim.Native.Nat.{ℕ, _*_, _^_, _≤_, _<_}
@@ -25,7 +25,14 @@ use Rattle.lens.specs.declared.Undistorted.the-variants as points
 use Rattle.camera.specs.Camera.{distort, undistort, dx-distort-x, dx-distort-params}
 use Rattle.camera.specs.declared.Camera.{Camera}
 use Rattle.given.specs.Given.{Given, given, flag-number, code}
-use Rattle.turn_bytes.proofs.Laws.{all-handed}
+use Rattle.turns.specs.Turns.{Said}
+use Rattle.plans.specs.Built.{Built}
+use Rattle.plans.specs.Calls.{allowed, Build}
+use Rattle.plans.specs.Plan.{fresh}
+use Rattle.table_plans.specs.Tables.{f32-table}
+use Rattle.turn_bytes.specs.Turn.{Handed, handed, answer-length, turn-bytes}
+use Rattle.turn_bytes.specs.Calls.{bytes-state, bytes-said}
+use Rattle.turn_bytes.proofs.Laws.{all-handed, built-by-bytes}
 use Rattle.given.proofs.Laws.{both, Untouched, refused-kept, filled}
 use Rattle.lens_c.specs.LensC.{pixel-bytes, point-bytes, jacobian-bytes, give-pixel, give-jacobian, given-pixel, given-point, distorted, undistorted, slopes, parameter-slopes, lens-distort, lens-undistort, lens-dx-distort-x, lens-dx-distort-params, lens-tangent, lens-lookup}
 use Rattle.lookup.specs.Lookup.{lookup}
@@ -46,6 +53,32 @@ use Rattle.lens_c.proofs.lens_lookup.Reads as lens-lookup-contract
 use Rattle.lens_c.proofs.lens_observe.Reads as lens-observe-contract
 use Rattle.lens_c.proofs.lens_job_new.Reads as lens-job-new-contract
 use Rattle.lens_c.proofs.lens_turn.Reads as lens-turn-contract
+
+-- ---- demand 3, for firmware
+
+-- a call that the contract of `lens_turn` permits
+pub data Turned : Handed → ℕ → Said → Handed → Type 0 where
+  turned :
+      (κ : _) (a : _) (r : _) (s : _) (earlier : ℕ) → lens-turn-contract.Post κ a r s
+      → Turned (handed earlier (now (a .0)) (now (a .1 .0)) (now (a .1 .1 .1 .0))) (a .1 .1 .0)
+      (bytes-said (handed r (now (s .0)) (now (s .1 .0)) (now (s .1 .1 .1 .0)))) (handed r (now (s .0)) (now (s .1 .0)) (now (s .1 .1 .1 .0)))
+
+by-contract : (h : Handed) (a : ℕ) (said : Said) (k : Handed) → Turned h a said k → (k ≡ turn-bytes (h .job) (h .cells) a (h .answer)) × (said ≡ bytes-said k)
+by-contract h a said k (turned κ args r s earlier post) = (post, refl)
+
+-- Demand 3. Start from the job that `lens_job_new` leaves when it returns 0, whatever model, parameters and size it was handed,
+-- with any table and an answer of 32 bytes, and call `lens_turn` with any allowances, each time with what the call before handed
+-- back. Then record and table are those of exactly min(A, F) units, as `built-in-turns` of distortion_table has it.
+pub built-by-turns :
+    (κ : _) (a : _) (r : _) (s : _) → lens-job-new-contract.Post κ a r s → r ≡ 0
+    → (table : List Float) (lent : List ℕ) → length lent ≡ answer-length → (allowances : List ℕ) (last : Handed)
+    → Build Handed Turned allowances (handed 0 (now (s .1 .1 .1 .1 .0)) table lent) last
+    → Built (f32-table (camera-of (a .0) (now (a .1 .0))) (a .1 .1 .0) (a .1 .1 .1 .0)) table
+    (allowed (f32-table (camera-of (a .0) (now (a .1 .0))) (a .1 .1 .0) (a .1 .1 .1 .0)) allowances (fresh table)) (bytes-state last)
+built-by-turns κ a r s post zero table lent room allowances last b =
+    let e = both post in
+    built-by-bytes Turned by-contract (a .0) (now (a .1 .0)) (a .1 .1 .0) (a .1 .1 .1 .0) (now (a .1 .1 .1 .1 .0)) (sym (e .0) ∙ zero) table lent room allowances last
+    (subst (λ (bs : List ℕ). Build Handed Turned allowances (handed 0 bs table lent) last) (e .1) b)
 
 -- ---- each contract permits one answer, and one buffer
 

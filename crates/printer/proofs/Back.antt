@@ -2,7 +2,7 @@
 use mathlib.Core.Path.{_≡_, sym, subst}
 use mathlib.Core.Bool.{Bool, true, false, cond, _&&_}
 use mathlib.Core.List.{List, [], _∷_}
-use Prim.Native.Nat.{ℕ, zero, suc, _+_, _-_, _*_, _/_, _%_}
+use Prim.Native.Nat.{ℕ, zero, suc, _+_, _*_, _/_, _%_}
 use lib.Dec.{T}
 use lib.Ieee.{Float, binary32, fits, ofBits}
 use lib.Ieee.Bits.{ofBits-fits}
@@ -10,7 +10,6 @@ use lib.Ieee.Scale.{finite}
 use lib.ListN.{set, take, replicate}
 use Rattle.lens.specs.declared.Distorted.{Distorted}
 use Rattle.lens.specs.declared.Distorted.the-variants as pixels
-use Rattle.lens.specs.declared.Refusal.the-variants.{AnswerNotFinite, CellInfinite}
 use Rattle.region.specs.Region.{increments}
 use Rattle.region.specs.declared.Increments.{Increments}
 use Rattle.region.specs.declared.Region.{Region}
@@ -19,14 +18,12 @@ use Rattle.narrow.proofs.Laws.{narrow-fits}
 use Rattle.camera.specs.Camera.{distort-judged}
 use Rattle.camera.specs.declared.Camera.{Camera}
 use Rattle.listing.proofs.Grid.{AllFit}
-use Rattle.border.specs.Border.{samples}
-use Rattle.cell.specs.Cell.{cell-point, cell-of, cell}
-use Rattle.cell.specs.declared.Cell.{Cell}
-use Rattle.cell.specs.declared.Cell.the-variants as cells
+use Rattle.cell.specs.Cell.{cell-point, f32, of-pixel, cell-by}
 use Rattle.turns.specs.Turns.{turn}
 use Rattle.turns.proofs.Laws.{keeps}
-use Rattle.units.specs.Table.{State, next}
-use Rattle.units.proofs.Written.{Done, a-sample, a-cell, unit-done}
+use Rattle.plans.specs.Plan.{Content, numbers, none, Plan, State, cells-done, next}
+use Rattle.plans.proofs.Done.{Done, a-sample, the-last, a-cell, unit-done}
+use Rattle.table_plans.specs.Tables.{f32-table}
 
 set-fit : (xs : List Float) (i : ℕ) (a : Float) → T (fits binary32 a) → AllFit xs → AllFit (set xs i a)
 set-fit [] i a h f = tt
@@ -38,33 +35,37 @@ blank-fit zero n b = tt
 blank-fit (suc k) zero b = tt
 blank-fit (suc k) (suc n) b = (ofBits-fits binary32 b, blank-fit k n b)
 
-abbrev CellFit : Cell → Type 0
-CellFit (cells.Refused r) = Unit {0}
-CellFit (cells.Holds a b) = T (fits binary32 a) × T (fits binary32 b)
+abbrev ContentFit : Content Float → Type 0
+ContentFit (none n) = Unit {0}
+ContentFit (numbers a b) = T (fits binary32 a) × T (fits binary32 b)
 
-pixel-fit : (d : Distorted) → CellFit (cell-of d)
+pixel-fit : (d : Distorted) → ContentFit (of-pixel f32 d)
 pixel-fit (pixels.Refused r) = tt
 pixel-fit (pixels.At p) = go (finite (narrowed (p .0)) && finite (narrowed (p .1)))
   where
-    go : (b : Bool) → CellFit (cond b (cells.Holds (narrowed (p .0)) (narrowed (p .1))) (cells.Refused CellInfinite))
+    go : (b : Bool) → ContentFit (cond b (numbers (narrowed (p .0)) (narrowed (p .1))) (none 12))
     go true = (narrow-fits (p .0), narrow-fits (p .1))
     go false = tt
 
 module _ (camera : Camera) (width height : ℕ) where
-  cell-fit : (region : Region) (by : Increments) (u v : ℕ) → CellFit (cell camera region by u v)
-  unfolding cell
+  abbrev table : Plan Float
+  table = f32-table camera width height
+
+  cell-fit : (region : Region) (by : Increments) (u v : ℕ) → ContentFit (cell-by (distort-judged camera) f32 region by u v)
+  unfolding cell-by
   cell-fit region by u v = go (finite (cell-point region by u v .0) && finite (cell-point region by u v .1))
     where
-      go : (b : Bool) → CellFit (cond b (cell-of (distort-judged camera (cell-point region by u v))) (cells.Refused AnswerNotFinite))
+      go : (b : Bool) → ContentFit (cond b (of-pixel f32 (distort-judged camera (cell-point region by u v))) (none 11))
       go true = pixel-fit (distort-judged camera (cell-point region by u v))
       go false = tt
 
-  unit-fits : (s t : State) → AllFit (s .cells) → Done camera width height s t → AllFit (t .cells)
-  unit-fits s t f (a-sample under e c) = subst AllFit (sym c) f
+  unit-fits : (s t : State Float) → AllFit (s .cells) → Done table s t → AllFit (t .cells)
+  unit-fits s t f (a-sample settled under e g c) = subst (λ (u : State Float). AllFit (u .cells)) (sym c) f
+  unit-fits s t f (the-last settled under e g w c) = subst (λ (u : State Float). AllFit (u .cells)) (sym c) f
   unit-fits s t f (a-cell past some a b e g) =
-      let c = s .at .done - samples width height in
-      let h = subst CellFit e (cell-fit (s .at .region) (increments (s .at .region) width height) (c % width) (c / width)) in
-      subst (λ (u : State). AllFit (u .cells)) (sym g) (set-fit (set (s .cells) (2 * c) a) (2 * c + 1) b (h .1) (set-fit (s .cells) (2 * c) a (h .0) f))
+      let c = cells-done (table .sweep) s in
+      let h = subst ContentFit e (cell-fit (s .at .region) (increments (s .at .region) width height) (c % width) (c / width)) in
+      subst (λ (u : State Float). AllFit (u .cells)) (sym g) (set-fit (set (s .cells) (2 * c) a) (2 * c + 1) b (h .1) (set-fit (s .cells) (2 * c) a (h .0) f))
 
-  pub turn-cells-fit : (a : ℕ) (s : State) → AllFit (s .cells) → AllFit (turn (next camera width height) a s .state .cells)
-  turn-cells-fit = keeps (next camera width height) (λ (s : State). AllFit (s .cells)) (λ s t f e. unit-fits s t f (unit-done camera width height s t e))
+  pub turn-cells-fit : (a : ℕ) (s : State Float) → AllFit (s .cells) → AllFit (turn (next table) a s .state .cells)
+  turn-cells-fit = keeps (next table) (λ (s : State Float). AllFit (s .cells)) (λ s t f e. unit-fits s t f (unit-done table s t e))

@@ -14,7 +14,6 @@ use Rattle.lens.specs.Refusal.{number}
 use Rattle.lens.specs.declared.Refusal.the-variants.{WrongSize}
 use Rattle.lens.proofs.Laws.{number-within}
 use Rattle.region.specs.Size.{Sized}
-use Rattle.region.proofs.Size.{is-sized}
 use Rattle.camera.specs.Camera.{limit}
 use Rattle.camera.specs.declared.Camera.{Camera}
 use Rattle.camera.specs.declared.Camera.the-variants as model
@@ -24,15 +23,18 @@ use Rattle.camera_file.specs.declared.Parsed.the-variants as file
 use Rattle.listing.specs.Listing.{table-line, region-line, refused-line, cell-lines, listing-lines, joined}
 use Rattle.border.specs.Border.{samples}
 use Rattle.distortion_table.specs.Answer.{Answer, answer, whole-table, enough}
-use Rattle.job.specs.Job.{fresh}
-use Rattle.units.specs.Table.{State, next}
+use Rattle.job.specs.Job.{fresh-job, fresh}
+use Rattle.plans.specs.Plan.{nowhere, next}
+use Rattle.plans.specs.Plan as plan
+use Rattle.plans.proofs.Laws.{start-good}
+use Rattle.plans.proofs.Reaching.{turn-keeps}
+use Rattle.table_plans.specs.Tables.{f32-table}
+use Rattle.table_plans.proofs.Sound.{opened, f32-sound}
 use Rattle.turns.specs.Turns.{Said, finished, refused, running, turn}
 use Rattle.job.specs.declared.Job.{Job}
 use Rattle.job.specs.declared.Started.{Started}
 use Rattle.job.specs.declared.Started.the-variants as begun
-use Rattle.distortion_table.specs.Calls.{start}
-use Rattle.distortion_table.proofs.Calls.{Takes, start-good, fresh-takes, answer-is}
-use Rattle.units.proofs.Reaching.{Good, turn-keeps}
+use Rattle.distortion_table.proofs.Calls.{fresh-opens, answer-is}
 use Rattle.printer.specs.Printed.{refusal-lines, shown-as, shown, most-cells, blank, sized-lines, started, table-lines, file-lines, printed-lines, printed, most-printed}
 use Rattle.printer.proofs.Numbers.{Told, table-told}
 use Rattle.printer.proofs.Short.{refused-short, table-short, region-long, cells-short}
@@ -59,7 +61,7 @@ blank-long cells h =
     length-take-le (2 * cells) (replicate (2 * most-cells) (ofBits binary32 0)) (omega (arith, length-replicate (2 * most-cells) (ofBits binary32 0)))
 
 -- a listing of a table of no more than that many cells
-listing-short : (a : Answer) → Sized (a .job .width) (a .job .height) → a .job .at .updates < 10000000 → length (a .cells) ≤ 2 * most-cells
+listing-short : (a : Answer Float) → Sized (a .job .width) (a .job .height) → a .job .at .updates < 10000000 → length (a .cells) ≤ 2 * most-cells
     → Short (shown-as finished a)
 unfolding listing-lines joined
 listing-short a s u c =
@@ -77,7 +79,7 @@ listing-short a s u c =
     )
 
 module _ (camera : Camera) (width height : ℕ) (s : Sized width height) where
-  shown-short : (a : Answer) → a .job .width ≡ width → a .job .height ≡ height → a .job .at .updates < 10000000 → length (a .cells) ≤ 2 * most-cells → Told (a .said) → Short (shown a)
+  shown-short : (a : Answer Float) → a .job .width ≡ width → a .job .height ≡ height → a .job .at .updates < 10000000 → length (a .cells) ≤ 2 * most-cells → Told (a .said) → Short (shown a)
   shown-short a w h u c t = go (a .said) t
     where
       go : (x : Said) → Told x → Short (shown-as x a)
@@ -89,13 +91,12 @@ module _ (camera : Camera) (width height : ℕ) (s : Sized width height) where
   whole-short job e h =
       let cells = blank (width * height) in
       let long = blank-long (width * height) h in
-      let takes = fresh-takes camera width height job e .0 in
-      let good = start-good camera width height cells long in
-      let s' = start cells in
-      let after = turn-keeps camera width height enough s' good in
-      let t = turn (next camera width height) enough s' in
-      subst (λ (a : Answer). Short (shown a)) (sym (answer-is camera width height takes enough s' good))
-      (shown-short (answer camera width height t) refl refl (few _ (t .state .at .done) (after .record-of .updates)) (omega (arith, after .long)) (table-told camera width height enough s'))
+      let p = f32-table camera width height in
+      let sound = f32-sound camera width height in
+      let after = turn-keeps p sound enough (plan.fresh cells) (start-good p sound cells long) in
+      let t = turn (next p) enough (plan.fresh cells) in
+      subst (λ (a : Answer Float). Short (shown a)) (sym (answer-is camera width height (fresh-opens camera width height job e .0) cells long enough))
+      (shown-short (answer (fresh-job camera width height) t) refl refl (few _ (t .state .at .done) (after .record-of .updates)) (omega (arith, after .long)) (table-told camera width height enough (plan.fresh cells)))
     where
       few : (updates done : ℕ) → updates ≤ limit camera * min done (samples width height) → updates < 10000000
       few updates done h = omega (arith, h, mul-le-mul-right (min done (samples width height)) (limit-most camera), min-le-right done (samples width height), s .not-wider, s .not-higher)
@@ -114,7 +115,7 @@ table-lines-short camera width height = go (fresh camera width height) refl
   where
     go : (b : Started) → fresh camera width height ≡ b → Short (started b (sized-lines camera width height))
     go (begun.Refused r) e = refusal-short (number r) (number-within r .1)
-    go (begun.With job) e = sized-short camera width height (is-sized width height (fresh-takes camera width height job e .0 .size)) job e
+    go (begun.With job) e = sized-short camera width height (opened camera width height nowhere (fresh-opens camera width height job e .0) .size) job e
 
 lines-short : (input : List ℕ) → Short (printed-lines input)
 unfolding printed-lines

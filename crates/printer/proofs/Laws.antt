@@ -1,5 +1,5 @@
 -- What a caller may rely on, of the definitions of specs/ and of the contract of src/. Assumes nothing.
-use mathlib.Core.Path.{_≡_, sym, ap, _∙_}
+use mathlib.Core.Path.{_≡_, refl, sym, ap, _∙_}
 use mathlib.Core.Bool.{Bool, cond}
 use mathlib.Core.List.{List, [], _∷_, append-nil}
 use mathlib.Core.Option.{some}
@@ -7,11 +7,12 @@ use Prim.Native.Nat.{ℕ, _*_, _≤_}
 use native.Mathlib.Omega.{arith}
 use denote.Ref.{now}
 use borrow.Author.Tests.{le-ltb}
+use lib.Ieee.{Float}
 use lib.ListN.{length}
 use Rattle.exact.specs.Determined.{DeterminedWith}
 use Rattle.lens.specs.Refusal.{number}
+use Rattle.lens.specs.declared.Judgement.the-variants.{Taken}
 use Rattle.lens.specs.declared.Refusal.the-variants.{WrongSize}
-use Rattle.region.proofs.Size.{is-sized}
 use Rattle.camera.specs.declared.Camera.{Camera}
 use Rattle.camera_file.specs.Asked.{parsed}
 use Rattle.camera_file.specs.declared.Parsed.{Parsed}
@@ -21,18 +22,22 @@ use Rattle.listing.specs.Placed.{Written}
 use Rattle.listing.specs.Read.{Listed, read-listing}
 use Rattle.listing.proofs.Grid.{AllFit}
 use Rattle.listing.proofs.Laws.{listing-read}
-use Rattle.distortion_table.specs.Answer.{Answer, answer, whole-table, enough}
-use Rattle.job.specs.Job.{fresh}
-use Rattle.units.specs.Table.{State, next}
+use Rattle.region.specs.Fits.{FourFit}
+use Rattle.camera.proofs.Fits.{undistort-judged-fits}
 use Rattle.turns.specs.Turns.{Said, finished, refused, Turn, turn}
+use Rattle.plans.specs.Plan.{Plan, State, nowhere, next}
+use Rattle.plans.specs.Plan as plan
+use Rattle.plans.proofs.Fits.{start-numbers-fit, turn-numbers-fit}
+use Rattle.plans.proofs.Laws.{start-good}
+use Rattle.plans.proofs.Reaching.{turn-keeps}
+use Rattle.table_plans.specs.Tables.{opens-for, f32-table}
+use Rattle.table_plans.proofs.Sound.{opened, f32-sound}
+use Rattle.job.specs.Job.{fresh-job, fresh}
 use Rattle.job.specs.declared.Job.{Job}
 use Rattle.job.specs.declared.Started.{Started}
 use Rattle.job.specs.declared.Started.the-variants as begun
-use Rattle.distortion_table.specs.Calls.{start}
-use Rattle.distortion_table.proofs.Calls.{Takes, start-good, fresh-takes, answer-is}
-use Rattle.region.specs.Fits.{FourFit}
-use Rattle.units.proofs.Fits.{start-numbers-fit, turn-numbers-fit}
-use Rattle.units.proofs.Reaching.{Good, turn-keeps}
+use Rattle.distortion_table.specs.Answer.{Answer, answer, whole-table, enough}
+use Rattle.distortion_table.proofs.Calls.{fresh-opens, answer-is}
 use Rattle.printer.specs.Printed.{refusal-lines, shown-as, most-cells, blank, sized-lines, started, table-lines, file-lines, printed-lines, printed, most-printed}
 use Rattle.printer.proofs.Back.{blank-fit, turn-cells-fit}
 use Rattle.printer.proofs.Fits.{blank-long, printed-short}
@@ -51,23 +56,23 @@ fits = printed-short
 module _ (input : List ℕ) (camera : Camera) (width height : ℕ) (asks : parsed input ≡ file.Asked camera width height)
     (job : Job) (begin : fresh camera width height ≡ begun.With job) (few : width * height ≤ most-cells) where
   -- the table that it asks for, built at once
-  abbrev pub built : Answer
+  abbrev pub built : Answer Float
   built = whole-table camera width height (blank (width * height))
 
-  abbrev first-state : State
-  first-state = start (blank (width * height))
+  abbrev table : Plan Float
+  table = f32-table camera width height
 
-  takes : Takes camera width height
-  takes = fresh-takes camera width height job begin .0
+  abbrev last : Turn (State Float)
+  last = turn (next table) enough (plan.fresh (blank (width * height)))
 
-  good : Good camera width height first-state
-  good = start-good camera width height (blank (width * height)) (blank-long (width * height) few)
+  opens : opens-for camera width height nowhere ≡ Taken
+  opens = fresh-opens camera width height job begin .0
 
-  abbrev last : Turn State
-  last = turn (next camera width height) enough first-state
+  long : length (blank (width * height)) ≡ 2 * (width * height)
+  long = blank-long (width * height) few
 
-  built-is : built ≡ answer camera width height last
-  built-is = answer-is camera width height takes enough first-state good
+  built-is : built ≡ answer (fresh-job camera width height) last
+  built-is = answer-is camera width height opens (blank (width * height)) long enough
 
   shown-lines : (said : Said) → built .said ≡ said → printed-lines input ≡ shown-as said built
   unfolding printed-lines table-lines sized-lines
@@ -82,8 +87,8 @@ module _ (input : List ℕ) (camera : Camera) (width height : ℕ) (asks : parse
   unfolding printed listing
   printed-listing e =
       ap joined (shown-lines finished e)
-      ∙ ap (λ (a : Answer). joined (shown-as finished a)) built-is
-      ∙ ap (λ (a : Answer). listing width height (a .job .at .updates) (a .job .at .region) (a .cells)) (sym built-is)
+      ∙ ap (λ (a : Answer Float). joined (shown-as finished a)) built-is
+      ∙ ap (λ (a : Answer Float). listing width height (a .job .at .updates) (a .job .at .region) (a .cells)) (sym built-is)
 
   -- One that a unit refuses is printed as that refusal's line, and nothing of the table is.
   pub printed-refused : (n : ℕ) → built .said ≡ refused n → printed input ≡ refused-line n
@@ -91,17 +96,20 @@ module _ (input : List ℕ) (camera : Camera) (width height : ℕ) (asks : parse
   printed-refused n e = ap joined (shown-lines (refused n) e) ∙ append-nil (refused-line n)
 
   cells-fit : AllFit (last .state .cells)
-  cells-fit = turn-cells-fit camera width height enough first-state (blank-fit (2 * (width * height)) (2 * most-cells) 0)
+  cells-fit = turn-cells-fit camera width height enough (plan.fresh (blank (width * height))) (blank-fit (2 * (width * height)) (2 * most-cells) 0)
 
   region-fits : FourFit (last .state .at .region)
-  region-fits = turn-numbers-fit camera width height enough first-state start-numbers-fit .region
+  region-fits =
+      let start = plan.fresh (blank (width * height)) in
+      turn-numbers-fit table (undistort-judged-fits camera) enough start (start-numbers-fit start refl refl) .region
 
   -- From what is printed of a finished table the same size, updates, region and cells are read back.
   pub printed-read : built .said ≡ finished
       → read-listing (printed input) ≡ some record { header = record { width = width; height = height; updates = built .job .at .updates }; region = built .job .at .region; table = built .cells }
   printed-read e =
-      let s = is-sized width height (takes .size) in
+      let s = opened camera width height nowhere opens .size in
+      let good = start-good table (f32-sound camera width height) (blank (width * height)) long in
       let at = last .state .at in
-      ap read-listing (printed-listing e ∙ ap (λ (a : Answer). listing width height (a .job .at .updates) (a .job .at .region) (a .cells)) built-is)
-      ∙ listing-read width height (at .updates) (at .region) (last .state .cells) (omega (arith, s .wide)) (turn-keeps camera width height enough first-state good .long) cells-fit (region-fits .0) (region-fits .1) (region-fits .2) (region-fits .3)
-      ∙ ap (λ (a : Answer). some record { header = record { width = width; height = height; updates = a .job .at .updates }; region = a .job .at .region; table = a .cells }) (sym built-is)
+      ap read-listing (printed-listing e ∙ ap (λ (a : Answer Float). listing width height (a .job .at .updates) (a .job .at .region) (a .cells)) built-is)
+      ∙ listing-read width height (at .updates) (at .region) (last .state .cells) (omega (arith, s .wide)) (turn-keeps table (f32-sound camera width height) enough (plan.fresh (blank (width * height))) good .long) cells-fit (region-fits .0) (region-fits .1) (region-fits .2) (region-fits .3)
+      ∙ ap (λ (a : Answer Float). some record { header = record { width = width; height = height; updates = a .job .at .updates }; region = a .job .at .region; table = a .cells }) (sym built-is)

@@ -24,12 +24,12 @@ abbrev pub refusal-lines : ℕ → List (List ℕ)
 refusal-lines n = refused-line n ∷ []
 
 -- a table that is finished is listed; one that a unit refused is that refusal. The table at once is one of the two.
-abbrev pub shown-as : Said → Answer → List (List ℕ)
+abbrev pub shown-as : Said → Answer Float → List (List ℕ)
 shown-as finished a = listing-lines (a .job .width) (a .job .height) (a .job .at .updates) (a .job .at .region) (a .cells)
 shown-as (refused n) a = refusal-lines n
 shown-as running a = []
 
-abbrev pub shown : Answer → List (List ℕ)
+abbrev pub shown : Answer Float → List (List ℕ)
 shown a = shown-as (a .said) a
 
 -- the table's numbers before it is built: zeros, of which there are enough for the largest table that is printed

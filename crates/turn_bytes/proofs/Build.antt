@@ -1,108 +1,228 @@
--- A build over bytes: each call reads back the record that the one before wrote. Assumes nothing.
-use mathlib.Core.Path.{_≡_, refl, sym, ap, ap₂, _∙_}
-use mathlib.Core.List.{List, [], _∷_}
-use Prim.Native.Nat.{ℕ, _*_, _≤_, min}
-use native.Mathlib.Nat.{mul-le-mul}
+-- Calls over bytes serve the plan of the table whose record they hold: each call reads back what the one before wrote. Assumes
+-- nothing.
+use mathlib.Core.Path.{_≡_, refl, sym, ap, ap₂, _∙_, subst}
+use mathlib.Core.Bool.{Bool, true, false, cond}
+use mathlib.Core.List.{List, _∷_, _++_, append-assoc}
+use Prim.Native.Nat.{ℕ, _*_, _^_, _≤_, _<_, min}
+use native.Mathlib.Nat.{mul-le-mul, min-le-right}
 use native.Mathlib.Omega.{arith}
-use borrow.Author.Tests.{eq-eqb}
+use borrow.Author.Tests.{eq-eqb, ne-eqb}
+use lib.Dec.{eqb}
 use lib.Ieee.{Float}
-use lib.ListN.{length}
-use Rattle.lens.specs.Judgement.{verdict}
-use Rattle.region.proofs.Size.{is-sized, bounded}
+use lib.ListN.{length, take}
+use lib.Seq.{take-append-seam}
+use Rattle.lens.specs.Finite.{all-finite}
+use Rattle.lens.specs.Judgement.{verdict, decided}
+use Rattle.lens.specs.Refusal.{number}
+use Rattle.lens.specs.declared.Judgement.{Judgement}
+use Rattle.lens.specs.declared.Judgement.the-variants.{Taken, Refused}
+use Rattle.lens.specs.declared.Refusal.{Refusal}
+use Rattle.lens.proofs.Laws.{number-within}
+use Rattle.region.specs.Region.{four}
+use Rattle.region.proofs.Size.{bounded}
 use Rattle.camera.specs.Camera.{parameters, limit}
-use Rattle.camera.specs.declared.Camera.{Camera}
+use Rattle.camera.proofs.Fits.{undistort-judged-fits}
 use Rattle.camera.proofs.Laws.{limit-most}
-use Rattle.turns.specs.Turns.{turn, turns}
-use Rattle.border.specs.Border.{samples}
+use Rattle.turns.specs.Turns.{Said, finished, refused, running, Turn, turn}
+use Rattle.border.specs.Border.{samples, all-units}
+use Rattle.border.proofs.Finite.{both, of-four}
+use Rattle.plans.specs.Calls.{said-number, Serves}
+use Rattle.plans.specs.Calls as plan
+use Rattle.plans.specs.Plan.{State, next}
+use Rattle.plans.specs.declared.Progress.{Progress}
+use Rattle.plans.proofs.Fits.{NumbersFit, turn-numbers-fit}
+use Rattle.plans.proofs.Numbers.{Told}
+use Rattle.plans.proofs.Reaching.{is-admitted, Good, turn-keeps}
+use Rattle.table_plans.specs.Tables.{one-of, unit-numbers}
+use Rattle.table_plans.proofs.Numbers.{Known, by-each, turn-known}
+use Rattle.table_plans.proofs.Sound.{opened, f32-sound}
+use Rattle.job.specs.Job.{sweep-for, admitted}
 use Rattle.job.specs.declared.Job.{Job}
-use Rattle.units.specs.Table.{State, next}
-use Rattle.units.proofs.Fits.{NumbersFit, turn-numbers-fit}
-use Rattle.units.proofs.Reaching.{Good, turn-keeps}
-use Rattle.distortion_table.specs.Answer.{answer, turn-of}
-use Rattle.distortion_table.specs.Calls.{job-of}
-use Rattle.distortion_table.proofs.Calls.{Takes, good-admitted, answer-is}
-use Rattle.little_endian.specs.Bytes.{word}
+use Rattle.distortion_table.specs.Answer.{Answer, plan-of, state-of, answer, turn-of}
+use Rattle.little_endian.specs.Bytes.{bytes, word, value}
+use Rattle.little_endian.proofs.Laws.{length-bytes, value-bytes}
 use Rattle.given.specs.Given.{code}
 use Rattle.job_bytes.specs.Bytes.{record-bytes, record-read, job-at}
+use Rattle.job_bytes.specs.declared.Found.{Found}
 use Rattle.job_bytes.specs.declared.Found.the-variants.{Of}
-use Rattle.lens.specs.Fits.{AllFit}
 use Rattle.job_bytes.proofs.Laws.{Writable, written-read}
-use Rattle.turn_bytes.specs.Turn.{Handed, handed, answer-length, before-units, unit-number, answer-bytes, written, turn-bytes, turn-held}
-use Rattle.turn_bytes.specs.Calls.{calls-in-bytes}
-use Rattle.turn_bytes.proofs.Turning.{length-words, read-of, taken, as-read}
+use Rattle.turn_bytes.specs.Turn.{Handed, handed, answer-length, before-units, status-number, answer-bytes, written, turn-bytes}
+use Rattle.turn_bytes.specs.Calls.{bytes-plan, bytes-state, bytes-said}
+use Rattle.turn_bytes.proofs.Numbers.{taken-so}
+use Rattle.turn_bytes.proofs.Turning.{length-words, read-of, not-taken, taken}
 
-module _ (camera : Camera) (width height : ℕ) (fit : AllFit (parameters camera)) (t : Takes camera width height) where
-  -- what a build keeps from call to call
-  pub record Sound (s : State) : Type 0 where
-    pub good : Good camera width height s
-    pub numbers : NumbersFit (s .at)
+-- ---- what a call that is taken says, as its answer has it
 
-  pub turn-sound : (a : ℕ) (s : State) → Sound s → Sound (turn (next camera width height) a s .state)
-  turn-sound a s h = record { good = turn-keeps camera width height a s (h .good); numbers = turn-numbers-fit camera width height a s (h .numbers) }
+first-word : (w : ℕ) (l : List ℕ) → w < 256 ^ 8 → word (bytes 8 w ++ l) 0 ≡ w
+first-word w l h = ap (λ (k : ℕ). value (take k (bytes 8 w ++ l))) (sym (length-bytes 8 w)) ∙ ap value (take-append-seam (bytes 8 w) l) ∙ value-bytes 8 w h
 
-  -- the record of such a state goes into bytes
-  writable : (s : State) → Sound s → Writable (job-of camera width height s)
-  writable s h =
-      let size = is-sized width height (t .size) in
-      let p = h .good .record-of in
-      let few : limit camera * min (s .at .done) (samples width height) ≤ 50 * samples width height = mul-le-mul (limit-most camera) (omega arith) in
-      record {
-        params = fit;
-        edges = h .numbers .edges;
-        region = h .numbers .region;
-        width = omega (arith, size .not-wider);
-        height = omega (arith, size .not-higher);
-        updates = omega (arith, p .updates, few, size .not-wider, size .not-higher);
-        done = omega (arith, p .not-past, bounded width height size, size .not-wider, size .not-higher);
-      }
+status-of : (said : Said) (job : Job) → word (answer-bytes said job) 0 ≡ status-number said
+status-of said job =
+    let a = bytes 8 (status-number said) in
+    let b = bytes 8 (job .at .done) in
+    let c = bytes 8 (all-units (job .width) (job .height)) in
+    let d = bytes 8 (job .at .updates) in
+    ap (λ (l : List ℕ). word (l ++ d) 0) (append-assoc a b c) ∙ ap (λ (l : List ℕ). word l 0) (append-assoc a (b ++ c) d)
+    ∙ first-word (status-number said) (b ++ c ++ d) (small said)
+  where
+    small : (x : Said) → status-number x < 256 ^ 8
+    small finished = omega arith
+    small (refused n) = omega arith
+    small running = omega arith
 
-  -- and is read out of them
-  pub read-again : (s : State) → Sound s → record-read (record-bytes (job-of camera width height s)) ≡ Of (job-of camera width height s)
-  read-again s h = written-read (job-of camera width height s) (writable s h)
+-- a unit's number is not 0
+not-zero : (n : ℕ) → Known n → eqb n 0 ≡ false
+not-zero n k = by-each (λ m. eqb m 0 ≡ false) unit-numbers n k (refl, (refl, (refl, (refl, tt))))
 
-  pub units-read : (s : State) → Sound s → word (record-bytes (job-of camera width height s)) 112 ≡ s .at .done
-  unfolding job-at
-  units-read s h = sym (ap (λ (j : Job). j .at .done) (read-of (record-bytes (job-of camera width height s)) (job-of camera width height s) (read-again s h) .0))
+said-back : (said : Said) (job : Job) (cells : List Float) → Told Known said → bytes-said (written record { said = said; job = job; cells = cells }) ≡ said
+said-back finished job cells k = ap (λ (n : ℕ). cond (eqb n 1) finished running) (status-of finished job)
+said-back running job cells k = ap (λ (n : ℕ). cond (eqb n 1) finished running) (status-of running job)
+said-back (refused n) job cells k =
+    ap (λ (b : Bool). cond b (cond (eqb (word (answer-bytes (refused n) job) 0) 1) finished running) (refused n)) (not-zero n k)
 
-  -- ---- one call
+-- ---- what a caller holds: bytes of a record that they can hold, and an answer's buffer of the right length
 
-  module _ (s : State) (h : Sound s) (lent : List ℕ) (room : length lent ≡ answer-length) where
-    none : before-units (Of (job-of camera width height s)) (s .cells) lent ≡ 0
-    unfolding code
-    none = ap₂ code (ap verdict (good-admitted camera width height t s (h .good))) (eq-eqb (length lent) answer-length room)
+pub record Ready (h : Handed) : Type 0 where
+  pub job : Job
+  pub bytes-of : h .job ≡ record-bytes job
+  pub writable : Writable job
+  pub room : length (h .answer) ≡ answer-length
 
-    pub call-is : (a : ℕ) → turn-bytes (record-bytes (job-of camera width height s)) (s .cells) a lent ≡ written (answer camera width height (turn (next camera width height) a s))
-    unfolding turn-held
-    call-is a =
-        let j : Job = job-of camera width height s in
-        sym (as-read j (record-bytes j) (s .cells) a lent (read-again s h))
-        ∙ taken (record-bytes j) (s .cells) lent (turn-of j (s .cells) a) (before-units (Of j) (s .cells) lent) none
-        ∙ ap written (answer-is camera width height t a s (h .good))
+read-back : (job : Job) → Writable job → job-at (record-bytes job) ≡ job
+read-back job w = sym (read-of (record-bytes job) job (written-read job w) .0)
 
-  -- ---- one call after the other
+-- ---- one call of such a record
 
-  pub record Holds (held : Handed) (s : State) : Type 0 where
-    pub job : held .job ≡ record-bytes (job-of camera width height s)
-    pub cells : held .cells ≡ s .cells
-    pub answer : length (held .answer) ≡ answer-length
-    pub sound : Sound s
+module _ (job : Job) (w : Writable job) (cells : List Float) (a : ℕ) (lent : List ℕ) (room : length lent ≡ answer-length) where
+  abbrev bs : List ℕ
+  bs = record-bytes job
 
-  pub calls-hold : (allowances : List ℕ) (s : State) (n : ℕ) (lent : List ℕ) → Sound s → length lent ≡ answer-length
-      → Holds (calls-in-bytes allowances (handed n (record-bytes (job-of camera width height s)) (s .cells) lent)) (turns (next camera width height) allowances s)
-  unfolding calls-in-bytes turns
-  calls-hold [] s n lent h room = record { job = refl; cells = refl; answer = room; sound = h }
-  calls-hold (a ∷ rest) s n lent h room =
-      let u = turn (next camera width height) a s in
-      let e = ap (calls-in-bytes rest) (call-is s h lent room a) in
-      let then = calls-hold rest (u .state) (unit-number (u .said)) (answer-bytes (u .said) (job-of camera width height (u .state))) (turn-sound a s h) (length-words _ _ _ _) in
-      record {
-        job = ap (λ (x : Handed). x .job) e ∙ then .job;
-        cells = ap (λ (x : Handed). x .cells) e ∙ then .cells;
-        answer = ap (λ (x : Handed). length (x .answer)) e ∙ then .answer;
-        sound = then .sound;
-      }
+  abbrev after : Handed
+  after = turn-bytes bs cells a lent
 
-  -- the next call, whatever its allowance
-  pub next-call : (held : Handed) (s : State) → Holds held s → (a : ℕ) → turn-bytes (held .job) (held .cells) a (held .answer) ≡ written (answer camera width height (turn (next camera width height) a s))
-  next-call held s h a =
-      ap₂ (λ (b : List ℕ) (c : List Float). turn-bytes b c a (held .answer)) (h .job) (h .cells) ∙ call-is s (h .sound) (held .answer) (h .answer) a
+  abbrev turned : Turn (State Float)
+  turned = turn (next (plan-of job)) a (state-of job cells)
+
+  own-number : before-units (record-read bs) cells lent ≡ verdict (admitted job (length cells))
+  unfolding code
+  own-number =
+      ap (λ (f : Found). before-units f cells lent) (written-read job w)
+      ∙ ap (code (verdict (admitted job (length cells)))) (eq-eqb (length lent) answer-length room)
+
+  as-job : turn-of (job-at bs) cells a ≡ turn-of job cells a
+  as-job = ap (λ (j : Job). turn-of j cells a) (read-back job w)
+
+  refused-is : (r : Refusal) → admitted job (length cells) ≡ Refused r → after ≡ handed (number r) bs cells lent
+  unfolding turn-bytes
+  refused-is r e =
+      let n : before-units (record-read bs) cells lent ≡ number r = own-number ∙ ap verdict e in
+      not-taken bs cells lent (turn-of (job-at bs) cells a) (before-units (record-read bs) cells lent) (λ z. omega (arith, number-within r .0, n, z))
+      ∙ ap (λ (k : ℕ). handed k bs cells lent) n
+
+  module _ (e : admitted job (length cells) ≡ Taken) where
+    as-turned : turn-of (job-at bs) cells a ≡ answer job turned
+    as-turned = as-job ∙ ap (λ (j : Judgement). answer job (decided j (λ r. record { state = state-of job cells; said = refused (number r) }) turned)) e
+
+    taken-is : after ≡ written (answer job turned)
+    unfolding turn-bytes
+    taken-is =
+        taken bs cells lent (turn-of (job-at bs) cells a) (before-units (record-read bs) cells lent) (own-number ∙ ap verdict e)
+        ∙ ap written as-turned
+
+    -- the record goes into bytes again
+    good : Good (plan-of job) (state-of job cells)
+    good =
+        let k = is-admitted (sweep-for job) (job .at) (length cells) e in
+        let o = opened (job .camera) (job .width) (job .height) (job .at .region) (k .opens) in
+        record { record-of = k .record-of; region = of-four (job .at .region) (both (all-finite (parameters (job .camera))) _ (o .numbers) .1); long = k .long }
+
+    still-writable : Writable (answer job turned .job)
+    still-writable =
+        let k = is-admitted (sweep-for job) (job .at) (length cells) e in
+        let size = opened (job .camera) (job .width) (job .height) (job .at .region) (k .opens) .size in
+        let g = turn-keeps (plan-of job) (f32-sound (job .camera) (job .width) (job .height)) a (state-of job cells) good in
+        let n = turn-numbers-fit (plan-of job) (undistort-judged-fits (job .camera)) a (state-of job cells) record { region = w .region; edges = w .edges } in
+        let few : limit (job .camera) * min (turned .state .at .done) (samples (job .width) (job .height)) ≤ 50 * samples (job .width) (job .height) = mul-le-mul (limit-most (job .camera)) (min-le-right (turned .state .at .done) (samples (job .width) (job .height))) in
+        record {
+          params = w .params;
+          edges = n .edges;
+          region = n .region;
+          width = w .width;
+          height = w .height;
+          updates = omega (arith, g .record-of .updates, few, size .not-wider, size .not-higher);
+          done = omega (arith, g .record-of .not-past, bounded (job .width) (job .height) size, size .not-wider, size .not-higher);
+        }
+
+  -- it is the plan's
+  answered-so : record { state = bytes-state after; said = bytes-said after } ≡ plan.turn-of (plan-of job) a (state-of job cells)
+  answered-so = go (admitted job (length cells)) refl
+    where
+      go : (j : Judgement) → admitted job (length cells) ≡ j
+          → record { state = bytes-state after; said = bytes-said after } ≡ decided j (λ r. record { state = state-of job cells; said = refused (number r) }) turned
+      go (Refused r) e =
+          ap (λ (h : Handed). record { state = bytes-state h; said = bytes-said h }) (refused-is r e)
+          ∙ ap₂ (λ (k : Job) (b : Bool). record { state = state-of k cells; said = cond b (cond (eqb (word lent 0) 1) finished running) (refused (number r)) }) (read-back job w) (ne-eqb (number r) 0 (λ z. omega (arith, number-within r .0, z)))
+      go Taken e =
+          let x = answer job turned in
+          ap (λ (h : Handed). record { state = bytes-state h; said = bytes-said h }) (taken-is e)
+          ∙ ap₂ (λ (k : Job) (s : Said). record { state = state-of k (x .cells); said = s }) (read-back (x .job) (still-writable e)) (said-back (x .said) (x .job) (x .cells) (turn-known (job .camera) (job .width) (job .height) a (state-of job cells)))
+
+  -- it keeps the plan, and leaves what the next call may take
+  kept-so : (bytes-plan after ≡ plan-of job) × Ready after
+  kept-so = go (admitted job (length cells)) refl
+    where
+      go : (j : Judgement) → admitted job (length cells) ≡ j → (bytes-plan after ≡ plan-of job) × Ready after
+      go (Refused r) e =
+          subst (λ (h : Handed). (bytes-plan h ≡ plan-of job) × Ready h) (sym (refused-is r e))
+          (ap plan-of (read-back job w), record { job = job; bytes-of = refl; writable = w; room = room })
+      go Taken e =
+          let x = answer job turned in
+          subst (λ (h : Handed). (bytes-plan h ≡ plan-of job) × Ready h) (sym (taken-is e))
+          (ap plan-of (read-back (x .job) (still-writable e)), record { job = x .job; bytes-of = refl; writable = still-writable e; room = length-words _ _ _ _ })
+
+-- a call that the plan admits has the number 0 or that of a unit
+pub admitted-number : (h : Handed) → Ready h → plan.judged (bytes-plan h) (bytes-state h) ≡ Taken → (a : ℕ) → one-of (turn-bytes (h .job) (h .cells) a (h .answer) .code) (0 ∷ unit-numbers) ≡ true
+admitted-number h r e a =
+    let bs = record-bytes (r .job) in
+    let back : job-at (h .job) ≡ r .job = ap job-at (r .bytes-of) ∙ read-back (r .job) (r .writable) in
+    let f : admitted (r .job) (length (h .cells)) ≡ Taken = sym (ap (λ (j : Job). admitted j (length (h .cells))) back) ∙ e in
+    let z = own-number (r .job) (r .writable) (h .cells) a (h .answer) (r .room) ∙ ap verdict f in
+    ap (λ (b : List ℕ). one-of (turn-bytes b (h .cells) a (h .answer) .code) (0 ∷ unit-numbers)) (r .bytes-of)
+    ∙ ap (λ (x : Handed). one-of (x .code) (0 ∷ unit-numbers)) (taken-is (r .job) (r .writable) (h .cells) a (h .answer) (r .room) f)
+    ∙ sym (ap (λ (x : Answer Float). one-of (said-number (x .said)) (0 ∷ unit-numbers)) (as-turned (r .job) (r .writable) (h .cells) a (h .answer) (r .room) f))
+    ∙ taken-so bs (h .cells) (h .answer) a z
+
+-- ---- any function whose calls leave what `turn-bytes` says
+
+module _
+    (Post : Handed → ℕ → Said → Handed → Type 0)
+    (by-contract : (h : Handed) (a : ℕ) (said : Said) (k : Handed) → Post h a said k → (k ≡ turn-bytes (h .job) (h .cells) a (h .answer)) × (said ≡ bytes-said k))
+  where
+    -- the record that is held, in place of its bytes
+    held-so : (h : Handed) → (r : Ready h) → (a : ℕ) → turn-bytes (h .job) (h .cells) a (h .answer) ≡ turn-bytes (record-bytes (r .job)) (h .cells) a (h .answer)
+    held-so h r a = ap (λ (b : List ℕ). turn-bytes b (h .cells) a (h .answer)) (r .bytes-of)
+
+    job-so : (h : Handed) → (r : Ready h) → job-at (h .job) ≡ r .job
+    job-so h r = ap job-at (r .bytes-of) ∙ read-back (r .job) (r .writable)
+
+    pub bytes-serve : Serves Handed Ready bytes-plan bytes-state Post
+    bytes-serve = record { answers = answers; plan-kept = plan-kept; ready-kept = ready-kept }
+      where
+        answers : (h : Handed) (a : ℕ) (said : Said) (k : Handed) → Ready h → Post h a said k → record { state = bytes-state k; said = said } ≡ plan.turn-of (bytes-plan h) a (bytes-state h)
+        answers h a said k r p =
+            let e = by-contract h a said k p in
+            ap (λ (s : Said). record { state = bytes-state k; said = s }) (e .1)
+            ∙ ap (λ (x : Handed). record { state = bytes-state x; said = bytes-said x }) (e .0 ∙ held-so h r a)
+            ∙ answered-so (r .job) (r .writable) (h .cells) a (h .answer) (r .room)
+            ∙ ap (λ (j : Job). plan.turn-of (plan-of j) a (state-of j (h .cells))) (sym (job-so h r))
+
+        kept : (h : Handed) (a : ℕ) (said : Said) (k : Handed) (r : Ready h) → Post h a said k → (bytes-plan k ≡ plan-of (r .job)) × Ready k
+        kept h a said k r p =
+            let e = by-contract h a said k p in
+            subst (λ (x : Handed). (bytes-plan x ≡ plan-of (r .job)) × Ready x) (sym (e .0 ∙ held-so h r a)) (kept-so (r .job) (r .writable) (h .cells) a (h .answer) (r .room))
+
+        plan-kept : (h : Handed) (a : ℕ) (said : Said) (k : Handed) → Ready h → Post h a said k → bytes-plan k ≡ bytes-plan h
+        plan-kept h a said k r p = kept h a said k r p .0 ∙ sym (ap plan-of (job-so h r))
+
+        ready-kept : (h : Handed) (a : ℕ) (said : Said) (k : Handed) → Ready h → Post h a said k → Ready k
+        ready-kept h a said k r p = kept h a said k r p .1

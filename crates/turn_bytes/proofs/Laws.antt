@@ -2,38 +2,33 @@
 use mathlib.Core.Path.{_≡_, refl, sym, ap, _∙_, subst}
 use mathlib.Core.Bool.{Bool, true, false, false≢true}
 use mathlib.Core.List.{List, [], _∷_}
-use Prim.Native.Nat.{ℕ, _*_, min}
+use Prim.Native.Nat.{ℕ, _*_}
 use denote.Ref.{now}
 use borrow.Author.Tests.{eqb-true, eqb-false}
 use lib.Dec.{eqb}
 use lib.Ieee.{Float}
 use lib.ListN.{length}
 use Rattle.exact.specs.Determined.{DeterminedWith}
-use Rattle.lens.specs.Fits.{AllFit}
-use Rattle.camera.specs.Camera.{parameters}
-use Rattle.camera.specs.declared.Camera.{Camera}
-use Rattle.turns.specs.Turns.{turn, turns, total, units}
-use Rattle.border.specs.Border.{all-units}
-use Rattle.job.specs.Job.{fresh-job, fresh}
+use Rattle.turns.specs.Turns.{Said}
+use Rattle.plans.specs.Built.{Built}
+use Rattle.plans.specs.Calls.{said-number, judged, allowed, Sound, Build}
+use Rattle.plans.specs.Plan.{Plan, fresh}
+use Rattle.plans.proofs.Laws as plans
+use Rattle.table_plans.specs.Tables.{f32-table, one-of, unit-numbers}
+use Rattle.table_plans.proofs.Numbers.{by-each}
+use Rattle.table_plans.proofs.Sound.{f32-sound}
+use Rattle.job.specs.Job.{fresh-job}
 use Rattle.job.specs.declared.Job.{Job}
-use Rattle.job.specs.declared.Started.the-variants as begun
-use Rattle.units.specs.Table.{next}
-use Rattle.units.proofs.Fits.{start-numbers-fit}
-use Rattle.distortion_table.specs.Answer.{turn-of}
-use Rattle.distortion_table.specs.Calls.{Held, calls, held-of, start}
-use Rattle.distortion_table.proofs.Calls.{Takes, start-good, fresh-takes, calls-are}
-use Rattle.distortion_table.proofs.Laws.{build-units}
-use Rattle.little_endian.specs.Bytes.{word}
+use Rattle.distortion_table.specs.Answer.{plan-of, state-of, turn-of}
+use Rattle.distortion_table.proofs.Calls.{start-admitted}
 use Rattle.camera_bytes.specs.Reading.{camera-of}
-use Rattle.job_bytes.specs.Bytes.{record-bytes, record-read, job-at, fresh-bytes}
-use Rattle.job_bytes.proofs.Back.{camera-fits}
-use Rattle.job_bytes.proofs.Laws.{fresh-read}
-use Rattle.turn_bytes.specs.Turn.{Handed, handed, answer-length, before-units, unit-number, written, turn-bytes}
-use Rattle.turn_bytes.specs.Calls.{calls-in-bytes, one-of, call-numbers, unit-numbers}
-use Rattle.turn_bytes.proofs.Begun.{begun-with}
-use Rattle.turn_bytes.proofs.Build.{Sound, Holds, units-read, calls-hold, next-call}
-use Rattle.turn_bytes.proofs.Numbers.{by-each, before-so, taken-so, turn-so}
-use Rattle.turn_bytes.proofs.Turning.{not-taken, taken}
+use Rattle.job_bytes.specs.Bytes.{record-read, job-at, fresh-bytes}
+use Rattle.job_bytes.proofs.Laws.{fresh-read, fresh-opens-zero}
+use Rattle.turn_bytes.specs.Turn.{Handed, handed, answer-length, before-units, written, turn-bytes}
+use Rattle.turn_bytes.specs.Calls.{bytes-plan, bytes-state, bytes-said, call-numbers}
+use Rattle.turn_bytes.proofs.Build.{Ready, bytes-serve, admitted-number}
+use Rattle.turn_bytes.proofs.Numbers.{before-so, taken-so}
+use Rattle.turn_bytes.proofs.Turning.{read-of, not-taken, taken}
 use Rattle.turn_bytes.proofs.turn.Reads as turn-contract
 
 -- ---- the contract permits one answer
@@ -79,7 +74,7 @@ module _ (bs : List ℕ) (cells : List Float) (allowance : ℕ) (lent : List ℕ
       go true e =
           let z : before ≡ 0 = eqb-true before 0 e in
           subst Told (sym (ap (λ (h : Handed). h .code) (taken-written z)))
-          (by-each Told (0 ∷ unit-numbers) (unit-number (turn-of (job-at bs) cells allowance .said)) (taken-so bs cells lent allowance z) (refl, (refl, (refl, (refl, (refl, tt))))))
+          (by-each Told (0 ∷ unit-numbers) (said-number (turn-of (job-at bs) cells allowance .said)) (taken-so bs cells lent allowance z) (refl, (refl, (refl, (refl, (refl, tt))))))
       go false e =
           subst Told (sym (ap (λ (h : Handed). h .code) (refused-untouched (eqb-false before 0 e))))
           (by-each Told (0 ∷ call-numbers) before (before-so bs cells lent) (refl, (refl, (refl, (refl, (refl, (refl, (refl, tt))))))))
@@ -95,86 +90,95 @@ module _ (bs : List ℕ) (cells : List Float) (allowance : ℕ) (lent : List ℕ
       go true e =
           let z : before ≡ 0 = eqb-true before 0 e in
           absurd
-          (by-each Unit's (0 ∷ unit-numbers) (unit-number (turn-of (job-at bs) cells allowance .said)) (taken-so bs cells lent allowance z) (false≢true, (false≢true, (false≢true, (false≢true, (false≢true, tt)))))
+          (by-each Unit's (0 ∷ unit-numbers) (said-number (turn-of (job-at bs) cells allowance .said)) (taken-so bs cells lent allowance z) (false≢true, (false≢true, (false≢true, (false≢true, (false≢true, tt)))))
           (sym (ap (λ (x : Handed). one-of (x .code) call-numbers) (taken-written z)) ∙ h))
       go false e =
           let u : after ≡ handed before bs cells lent = refused-untouched (eqb-false before 0 e) in
           (ap (λ (x : Handed). x .job) u, ap (λ (x : Handed). x .cells) u, ap (λ (x : Handed). x .answer) u)
 
--- ---- a build: calls from a fresh record's bytes on, each with the bytes, the table and the answer's buffer that the one before handed back
+-- ---- demand 3, over bytes
 
+-- a call that the contract of `turn` permits: with what is held and an allowance it says so, by its number and its answer, and
+-- leaves that; which number the call before had doesn't matter
+pub data Called : Handed → ℕ → Said → Handed → Type 0 where
+  called :
+      (κ : _) (a : _) (r : _) (s : _) (earlier : ℕ) → turn-contract.Post κ a r s
+      → Called (handed earlier (now (a .0)) (now (a .1 .0)) (now (a .1 .1 .1 .0))) (a .1 .1 .0)
+      (bytes-said (handed r (now (s .0)) (now (s .1 .0)) (now (s .1 .1 .1 .0)))) (handed r (now (s .0)) (now (s .1 .0)) (now (s .1 .1 .1 .0)))
+
+by-contract : (h : Handed) (a : ℕ) (said : Said) (k : Handed) → Called h a said k → (k ≡ turn-bytes (h .job) (h .cells) a (h .answer)) × (said ≡ bytes-said k)
+by-contract h a said k (called κ args r s earlier post) = (post, refl)
+
+-- The same of any function whose calls leave what `turn-bytes` says.
 module _
-    (camera : Camera) (width height : ℕ) (job : Job) (begin : fresh camera width height ≡ begun.With job) (fit : AllFit (parameters camera))
-    (cells : List Float) (long : length cells ≡ 2 * (width * height)) (lent : List ℕ) (room : length lent ≡ answer-length)
+    (Post : Handed → ℕ → Said → Handed → Type 0)
+    (by-turn-bytes : (h : Handed) (a : ℕ) (said : Said) (k : Handed) → Post h a said k → (k ≡ turn-bytes (h .job) (h .cells) a (h .answer)) × (said ≡ bytes-said k))
+    (model : ℕ) (params : List ℕ) (width height : ℕ) (buffer : List ℕ) (begun : fresh-bytes model params width height buffer .code ≡ 0)
+    (table : List Float) (lent : List ℕ) (room : length lent ≡ answer-length)
   where
+    abbrev plan : Plan Float
+    plan = f32-table (camera-of model params) width height
+
     abbrev first : Handed
-    first = handed 0 (record-bytes job) cells lent
+    first = handed 0 (fresh-bytes model params width height buffer .answer) table lent
 
-    abbrev first-held : Held
-    first-held = record { job = job; cells = cells }
+    ready : Ready first
+    ready =
+        let f = fresh-read model params width height buffer begun in
+        record { job = fresh-job (camera-of model params) width height; bytes-of = f .0; writable = f .1; room = room }
 
-    takes : Takes camera width height
-    takes = fresh-takes camera width height job begin .0
+    job-read : job-at (first .job) ≡ fresh-job (camera-of model params) width height
+    job-read = sym (read-of (first .job) (fresh-job (camera-of model params) width height) (fresh-read model params width height buffer begun .2) .0)
 
-    sound : Sound camera width height fit takes (start cells)
-    sound = record { good = start-good camera width height cells long; numbers = start-numbers-fit }
+    plan-is : bytes-plan first ≡ plan
+    plan-is = ap plan-of job-read
 
-    holds : (allowances : List ℕ) → Holds camera width height fit takes (calls-in-bytes allowances first) (turns (next camera width height) allowances (start cells))
-    holds allowances =
-        subst (λ (j : Job). Holds camera width height fit takes (calls-in-bytes allowances (handed 0 (record-bytes j) cells lent)) (turns (next camera width height) allowances (start cells)))
-        (sym (fresh-takes camera width height job begin .1))
-        (calls-hold camera width height fit takes allowances (start cells) 0 lent sound room)
+    sound : Sound (bytes-plan first)
+    sound = subst Sound (sym plan-is) (f32-sound (camera-of model params) width height)
 
-    as-held : (allowances : List ℕ) → calls allowances first-held ≡ held-of camera width height (turns (next camera width height) allowances (start cells))
-    as-held allowances =
-        ap (λ (j : Job). calls allowances record { job = j; cells = cells }) (fresh-takes camera width height job begin .1)
-        ∙ calls-are camera width height takes allowances (start cells) (sound .good)
+    starts : bytes-state first ≡ fresh table
+    starts = ap (λ (j : Job). state-of j table) job-read
 
-    -- Over bytes a build goes as it does over records: after any calls the bytes are those of the record that distortion_table's calls end with, and the cells are theirs.
-    pub build-in-bytes :
-        (allowances : List ℕ) →
-        (calls-in-bytes allowances first .job ≡ record-bytes (calls allowances first-held .job)) × (calls-in-bytes allowances first .cells ≡ calls allowances first-held .cells)
-    build-in-bytes allowances = (
-      holds allowances .job ∙ sym (ap (λ (h : Held). record-bytes (h .job)) (as-held allowances)),
-      holds allowances .cells ∙ sym (ap (λ (h : Held). h .cells) (as-held allowances)),
-    )
+    pub built-by-bytes :
+        (allowances : List ℕ) (last : Handed) → Build Handed Post allowances first last
+        → Built plan table (allowed plan allowances (fresh table)) (bytes-state last)
+    built-by-bytes allowances last b =
+        subst (λ (p : Plan Float). Built p table (allowed p allowances (fresh table)) (bytes-state last)) plan-is
+        (plans.built Handed Ready bytes-plan bytes-state Post (bytes-serve Post by-turn-bytes) first ready sound table starts allowances last b)
 
-    -- The units done, as they stand in the bytes at 112, are exactly min(A, F), A being all that the calls allow together, and F the units before the first that refuses or is not there.
-    pub units-in-bytes : (allowances : List ℕ) → word (calls-in-bytes allowances first .job) 112 ≡ min (total allowances) (units (next camera width height) (all-units width height) (start cells))
-    units-in-bytes allowances =
-        ap (λ (b : List ℕ). word b 112) (holds allowances .job)
-        ∙ units-read camera width height fit takes (turns (next camera width height) allowances (start cells)) (holds allowances .sound)
-        ∙ sym (ap (λ (h : Held). h .job .at .done) (as-held allowances))
-        ∙ build-units camera width height job begin cells long allowances
+    -- Where the table has the size's length, the next call is not refused before its units: its number is 0, or 8, 10, 11 or 12.
+    pub admitted-by-bytes :
+        (allowances : List ℕ) (last : Handed) → Build Handed Post allowances first last
+        → length table ≡ 2 * (width * height) → (a : ℕ) (said : Said) (then : Handed) → Post last a said then
+        → one-of (then .code) (0 ∷ unit-numbers) ≡ true
+    admitted-by-bytes allowances last b long a said then post =
+        let serves = bytes-serve Post by-turn-bytes in
+        let r = plans.built-ready Handed Ready bytes-plan bytes-state Post serves first ready sound table starts allowances last b in
+        let opens = fresh-opens-zero model params width height buffer begun in
+        let taken = ap (λ (p : Plan Float). judged p (fresh table)) plan-is ∙ start-admitted (camera-of model params) width height opens table long in
+        let e = plans.built-admitted Handed Ready bytes-plan bytes-state Post serves first ready sound table starts allowances last b taken in
+        ap (λ (h : Handed). one-of (h .code) (0 ∷ unit-numbers)) (by-turn-bytes last a said then post .0)
+        ∙ admitted-number last (r .0) (ap (λ (p : Plan Float). judged p (bytes-state last)) (r .1) ∙ e) a
 
-    -- No call of a build is refused before its units: after any calls the next one, whatever its allowance, has the number 0, or 8, 10, 11 or 12 of a unit, and never 1, 4, 5, 6, 7 or 13.
-    pub never-misjudged :
-        (allowances : List ℕ) (a : ℕ) →
-        one-of (turn-bytes (calls-in-bytes allowances first .job) (calls-in-bytes allowances first .cells) a (calls-in-bytes allowances first .answer) .code) (0 ∷ unit-numbers) ≡ true
-    never-misjudged allowances a =
-        ap (λ (h : Handed). one-of (h .code) (0 ∷ unit-numbers)) (next-call camera width height fit takes (calls-in-bytes allowances first) (turns (next camera width height) allowances (start cells)) (holds allowances) a)
-        ∙ turn-so camera width height a (turns (next camera width height) allowances (start cells))
+-- Demand 3, for firmware. Start from the bytes that job_bytes' `fresh` leaves with the number 0, for any model, parameters and
+-- size, with any table and an answer's buffer of 32 bytes, and call `turn` with any allowances, each time with what the call
+-- before handed back. Then what is read out of the bytes and what stands in the table are those of exactly min(A, F) units, as
+-- `built-in-turns` of distortion_table has it.
+pub built-in-bytes :
+    (model : ℕ) (params : List ℕ) (width height : ℕ) (buffer : List ℕ) → fresh-bytes model params width height buffer .code ≡ 0
+    → (table : List Float) (lent : List ℕ) → length lent ≡ answer-length
+    → (allowances : List ℕ) (last : Handed)
+    → Build Handed Called allowances (handed 0 (fresh-bytes model params width height buffer .answer) table lent) last
+    → Built (f32-table (camera-of model params) width height) table
+    (allowed (f32-table (camera-of model params) width height) allowances (fresh table)) (bytes-state last)
+built-in-bytes = built-by-bytes Called by-contract
 
--- The same from the bytes that job_bytes' `fresh` hands over with the number 0: of any model, parameters and size that it takes, any table of that size, any answer's buffer of 32 bytes and
--- any allowances, the calls do exactly min(A, F) units, and none is refused with 1, 4, 5, 6, 7 or 13.
-pub from-new :
-    (model : ℕ) (params : List ℕ) (width height : ℕ) (buffer : List ℕ) →
-    fresh-bytes model params width height buffer .code ≡ 0 →
-    (cells : List Float) →
-    length cells ≡ 2 * (width * height) →
-    (lent : List ℕ) →
-    length lent ≡ answer-length →
-    (allowances : List ℕ) (a : ℕ) →
-    let held = calls-in-bytes allowances (handed 0 (fresh-bytes model params width height buffer .answer) cells lent) in
-    (word (held .job) 112 ≡ min (total allowances) (units (next (camera-of model params) width height) (all-units width height) (start cells)))
-    × (one-of (turn-bytes (held .job) (held .cells) a (held .answer) .code) (0 ∷ unit-numbers) ≡ true)
-from-new model params width height buffer z cells long lent room allowances a =
-    let camera = camera-of model params in
-    let job = fresh-job camera width height in
-    let begin = begun-with model params width height buffer z in
-    let fit = camera-fits model params in
-    subst
-    (λ (b : List ℕ). (word (calls-in-bytes allowances (handed 0 b cells lent) .job) 112 ≡ min (total allowances) (units (next camera width height) (all-units width height) (start cells)))
-    × (one-of (turn-bytes (calls-in-bytes allowances (handed 0 b cells lent) .job) (calls-in-bytes allowances (handed 0 b cells lent) .cells) a (calls-in-bytes allowances (handed 0 b cells lent) .answer) .code) (0 ∷ unit-numbers) ≡ true))
-    (sym (fresh-read model params width height buffer z .0))
-    (units-in-bytes camera width height job begin fit cells long lent room allowances, never-misjudged camera width height job begin fit cells long lent room allowances a)
+-- And where the table has the size's length, no call is refused with 1, 4, 5, 6, 7 or 13.
+pub admitted-in-bytes :
+    (model : ℕ) (params : List ℕ) (width height : ℕ) (buffer : List ℕ) → fresh-bytes model params width height buffer .code ≡ 0
+    → (table : List Float) (lent : List ℕ) → length lent ≡ answer-length
+    → (allowances : List ℕ) (last : Handed)
+    → Build Handed Called allowances (handed 0 (fresh-bytes model params width height buffer .answer) table lent) last
+    → length table ≡ 2 * (width * height) → (a : ℕ) (said : Said) (then : Handed) → Called last a said then
+    → one-of (then .code) (0 ∷ unit-numbers) ≡ true
+admitted-in-bytes = admitted-by-bytes Called by-contract

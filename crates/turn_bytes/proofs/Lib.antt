@@ -1,4 +1,3 @@
-pub mod Begun
 pub mod Build
 pub mod Laws
 pub mod Numbers

@@ -8,19 +8,17 @@ use borrow.Author.Tests.{eq-eqb, ne-eqb, eqb-true}
 use lib.Dec.{eqb, leb}
 use lib.Ieee.{Float}
 use lib.ListN.{length, length-append}
-use Rattle.lens.specs.Judgement.{verdict, decided}
+use Rattle.lens.specs.Judgement.{verdict}
 use Rattle.lens.specs.Refusal.{number}
-use Rattle.lens.specs.declared.Judgement.{Judgement}
 use Rattle.lens.specs.declared.Judgement.the-variants as judged
 use Rattle.lens.specs.declared.Refusal.{Refusal}
 use Rattle.lens.specs.declared.Refusal.the-variants.{UnknownModel, WrongLength}
 use Rattle.lens.proofs.Laws.{number-within, verdict-one-to-one}
 use Rattle.border.specs.Border.{all-units}
-use Rattle.turns.specs.Turns.{refused, turn}
+use Rattle.plans.specs.Calls.{said-number}
 use Rattle.job.specs.Job.{admitted}
 use Rattle.job.specs.declared.Job.{Job}
-use Rattle.units.specs.Table.{next}
-use Rattle.distortion_table.specs.Answer.{Answer, answer, turn-of, told-status, told-turned}
+use Rattle.distortion_table.specs.Answer.{Answer, turn-of, told-status, told-turned}
 use Rattle.distortion_table.specs.declared.Turned.{Turned}
 use Rattle.little_endian.specs.Bytes.{bytes, half, put}
 use Rattle.little_endian.proofs.Laws.{length-bytes, put-whole, put-put}
@@ -29,7 +27,7 @@ use Rattle.given.proofs.Laws.{told-zero}
 use Rattle.job_bytes.specs.Bytes.{record-length, record-bytes, record-read, job-at}
 use Rattle.job_bytes.specs.declared.Found.{Found}
 use Rattle.job_bytes.specs.declared.Found.the-variants.{Of, Refused}
-use Rattle.turn_bytes.specs.Turn.{handed, own, answer-length, before-units, status-number, unit-number, four-words, written, taken-or-not, turn-bytes, turn-held}
+use Rattle.turn_bytes.specs.Turn.{handed, own, answer-length, before-units, status-number, four-words, written, taken-or-not, turn-bytes, turn-held}
 
 -- ---- four numbers, as they are put one behind the other
 
@@ -92,7 +90,7 @@ pub as-judged :
 as-judged job cells lent e f g = e ∙ ap (λ (k : ℕ). code k (eqb (length lent) answer-length)) (f ∙ g)
 
 -- one that is not taken writes nothing, and one that is taken writes all that its turn answers
-module _ (bs : List ℕ) (cells : List Float) (lent : List ℕ) (a : Answer) (n : ℕ) where
+module _ (bs : List ℕ) (cells : List Float) (lent : List ℕ) (a : Answer Float) (n : ℕ) where
   pub not-taken : (n ≡ 0 → ⊥) → taken-or-not n bs cells lent a ≡ handed n bs cells lent
   not-taken h = ap (λ (b : Bool). cond b (written a) (handed n bs cells lent)) (ne-eqb n 0 h)
 
@@ -102,14 +100,6 @@ module _ (bs : List ℕ) (cells : List Float) (lent : List ℕ) (a : Answer) (n 
 -- ---- a call whose record is read
 
 module _ (job : Job) (bs : List ℕ) (cells : List Float) (allowance : ℕ) (lent : List ℕ) where
-  by-verdict : (j : Judgement) → decided j (λ r. record { said = refused (number r); job = job; cells = cells }) (answer (job .camera) (job .width) (job .height) (turn (next (job .camera) (job .width) (job .height)) allowance record { at = job .at; cells = cells })) ≡ turn-of job cells allowance → all-units (turn-of job cells allowance .job .width) (turn-of job cells allowance .job .height) ≡ all-units (job .width) (job .height)
-  by-verdict judged.Taken e = sym (ap (λ (a : Answer). all-units (a .job .width) (a .job .height)) e)
-  by-verdict (judged.Refused r) e = sym (ap (λ (a : Answer). all-units (a .job .width) (a .job .height)) e)
-
-  -- a turn leaves the size, and so the units in all, as they were
-  size-kept : all-units (turn-of job cells allowance .job .width) (turn-of job cells allowance .job .height) ≡ all-units (job .width) (job .height)
-  size-kept = by-verdict (admitted job (length cells)) refl
-
   pub held-refused : (r : ℕ) → r ≡ before-units (Of job) cells lent → (r ≡ 0 → ⊥) → handed r bs cells lent ≡ turn-held job bs cells allowance lent
   unfolding turn-held
   held-refused r e n =
@@ -121,16 +111,16 @@ module _ (job : Job) (bs : List ℕ) (cells : List Float) (allowance : ℕ) (len
       before-units (Of job) cells lent ≡ 0 →
       told-turned t after ≡ turn-of job cells allowance →
       all ≡ all-units (job .width) (job .height) →
-      r ≡ unit-number (told-status (t .status)) →
+      r ≡ said-number (told-status (t .status)) →
       record-after ≡ record-bytes (t .job) →
       answer-after ≡ four-words (status-number (told-status (t .status))) (t .job .at .done) all (t .job .at .updates) →
       handed r record-after after answer-after ≡ turn-held job bs cells allowance lent
   unfolding turn-held
   held-taken t after r record-after answer-after all z e f g h i =
-      let units : all ≡ all-units (t .job .width) (t .job .height) = f ∙ sym size-kept ∙ sym (ap (λ (a : Answer). all-units (a .job .width) (a .job .height)) e) in
+      let units : all ≡ all-units (t .job .width) (t .job .height) = f ∙ sym (ap (λ (a : Answer Float). all-units (a .job .width) (a .job .height)) e) in
       ap (λ (n : ℕ). handed n record-after after answer-after) g
-      ∙ ap₂ (λ (b c : List ℕ). handed (unit-number (told-status (t .status))) b after c) h i
-      ∙ ap (λ (n : ℕ). handed (unit-number (told-status (t .status))) (record-bytes (t .job)) after (four-words (status-number (told-status (t .status))) (t .job .at .done) n (t .job .at .updates))) units
+      ∙ ap₂ (λ (b c : List ℕ). handed (said-number (told-status (t .status))) b after c) h i
+      ∙ ap (λ (n : ℕ). handed (said-number (told-status (t .status))) (record-bytes (t .job)) after (four-words (status-number (told-status (t .status))) (t .job .at .done) n (t .job .at .updates))) units
       ∙ ap written e
       ∙ sym (taken bs cells lent (turn-of job cells allowance) (before-units (Of job) cells lent) z)
 

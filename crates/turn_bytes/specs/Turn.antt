@@ -14,6 +14,7 @@ use Rattle.lens.specs.Judgement.{verdict}
 use Rattle.lens.specs.Refusal.{number}
 use Rattle.border.specs.Border.{all-units}
 use Rattle.turns.specs.Turns.{Said, finished, refused, running}
+use Rattle.plans.specs.Calls.{said-number}
 use Rattle.job.specs.Job.{admitted}
 use Rattle.job.specs.declared.Job.{Job}
 use Rattle.distortion_table.specs.Answer.{Answer, turn-of}
@@ -55,25 +56,20 @@ status-number running = 0
 status-number finished = 1
 status-number (refused n) = 2
 
--- the number of the unit that refused; 0 if none did
-abbrev pub unit-number : Said → ℕ
-unit-number running = 0
-unit-number finished = 0
-unit-number (refused n) = n
-
 abbrev pub four-words : ℕ → ℕ → ℕ → ℕ → List ℕ
 four-words a b c d = bytes 8 a ++ bytes 8 b ++ bytes 8 c ++ bytes 8 d
 
 abbrev pub answer-bytes : Said → Job → List ℕ
 answer-bytes said job = four-words (status-number said) (job .at .done) (all-units (job .width) (job .height)) (job .at .updates)
 
-abbrev pub written : Answer → Handed
-written a = handed (unit-number (a .said)) (record-bytes (a .job)) (a .cells) (answer-bytes (a .said) (a .job))
+-- with the number of the unit that refused; 0 if none did
+abbrev pub written : Answer Float → Handed
+written a = handed (said-number (a .said)) (record-bytes (a .job)) (a .cells) (answer-bytes (a .said) (a .job))
 
 -- ---- a call
 
 -- a call that is refused before any unit writes nothing
-abbrev pub taken-or-not : ℕ → List ℕ → List Float → List ℕ → Answer → Handed
+abbrev pub taken-or-not : ℕ → List ℕ → List Float → List ℕ → Answer Float → Handed
 taken-or-not number bs cells lent answer = cond (eqb number 0) (written answer) (handed number bs cells lent)
 
 unfoldable pub turn-bytes : List ℕ → List Float → ℕ → List ℕ → Handed

@@ -4,9 +4,10 @@ ghost use lib.ListN.{length};
 ghost use Rattle.lens.specs.Judgement.{verdict};
 ghost use Rattle.region.specs.Size.{Sized};
 ghost use Rattle.border.specs.Border.{all-units};
+ghost use Rattle.plans.specs.Calls.{said-number};
 ghost use Rattle.distortion_table.specs.Answer.{told-status};
 ghost use Rattle.job_bytes.specs.Bytes.{record-length, record-bytes};
-ghost use Rattle.turn_bytes.specs.Turn.{handed, answer-length, status-number, unit-number, four-words, turn-held, turn-bytes};
+ghost use Rattle.turn_bytes.specs.Turn.{handed, answer-length, status-number, four-words, turn-held, turn-bytes};
 use distortion_table::Status;
 use distortion_table::Turned;
 use job::Job;
@@ -39,7 +40,7 @@ fn status_number(status: Status) -> u64
 
 // What a call is answered whose units were begun: the number of the unit that refused, or 0.
 fn unit_number(status: Status) -> u8
-    ensures { λ r. ⌜ r ≡ unit-number (told-status status) ⌝ }
+    ensures { λ r. ⌜ r ≡ said-number (told-status status) ⌝ }
 {
     match status {
         Status::Running => 0,
@@ -53,7 +54,7 @@ fn all_units(width: usize, height: usize) -> usize
     requires { ⌜ Sized width height ⌝ }
     ensures { λ r. ⌜ r ≡ all-units width height ⌝ }
 {
-    2 * width + 2 * height + 4 + width * height
+    border::samples(width as u32, height as u32) + width * height
 }
 
 // Four numbers, eight bytes each, over the whole answer.
@@ -70,7 +71,7 @@ fn put_four(out: &mut [u8], a: u64, b: u64, c: u64, d: u64)
 // Writes what a turn hands back, all being the units in all.
 fn give(turned: Turned, all: u64, job: &mut [u8], answer: &mut [u8]) -> u8
     requires { ⌜ (length (now job) ≡ record-length) × (length (now answer) ≡ answer-length) ⌝ }
-    ensures { λ r. ⌜ (r ≡ unit-number (told-status (turned .status))) × (now (job .exit) ≡ record-bytes (turned .job)) × (now (answer .exit) ≡ four-words (status-number (told-status (turned .status))) (turned .job .at .done) all (turned .job .at .updates)) ⌝ }
+    ensures { λ r. ⌜ (r ≡ said-number (told-status (turned .status))) × (now (job .exit) ≡ record-bytes (turned .job)) × (now (answer .exit) ≡ four-words (status-number (told-status (turned .status))) (turned .job .at .done) all (turned .job .at .updates)) ⌝ }
 {
     let said = turned.status;
     let held = turned.job;

@@ -10,19 +10,19 @@ use Rattle.lens.specs.Refusal.{number}
 use Rattle.lens.specs.declared.Judgement.{Judgement}
 use Rattle.lens.proofs.Laws.{verdict-one-to-one}
 use Rattle.turns.specs.Turns.{refused, turn}
+use Rattle.plans.specs.Plan.{next}
 use Rattle.job.specs.Job.{admitted}
 use Rattle.job.specs.declared.Job.{Job}
-use Rattle.units.specs.Table.{next}
-use Rattle.distortion_table.specs.Answer.{answer, turn-of}
+use Rattle.distortion_table.specs.Answer.{plan-of, state-of, answer, turn-of}
 use Rattle.distortion_table.proofs.turn.Statement.{statement}
 use Rattle.distortion_table.proofs.turn.Tie as tie
 
 -- by what the judging says
 judged-so :
     (job : Job) (cells : List Float) (allowance : ℕ) {r j : Judgement} → r ≡ j → verdict r ≡ verdict (admitted job (length cells))
-    → decided j (λ r. record { said = refused (number r); job = job; cells = cells }) (answer (job .camera) (job .width) (job .height) (turn (next (job .camera) (job .width) (job .height)) allowance record { at = job .at; cells = cells })) ≡ turn-of job cells allowance
+    → answer job (decided j (λ r. record { state = state-of job cells; said = refused (number r) }) (turn (next (plan-of job)) allowance (state-of job cells))) ≡ turn-of job cells allowance
 judged-so job cells allowance {r} e h =
-    ap (λ (j : Judgement). decided j (λ r. record { said = refused (number r); job = job; cells = cells }) (answer (job .camera) (job .width) (job .height) (turn (next (job .camera) (job .width) (job .height)) allowance record { at = job .at; cells = cells })))
+    ap (λ (j : Judgement). answer job (decided j (λ r. record { state = state-of job cells; said = refused (number r) }) (turn (next (plan-of job)) allowance (state-of job cells))))
     (sym e ∙ verdict-one-to-one r (admitted job (length cells)) h)
 
 work-requires : tie.Need-work-requires
@@ -35,7 +35,7 @@ returns-2 : tie.Need-returns-2
 returns-2 c =
     let a = c .before .before .before .before .before .before .before .before .before .args in
     rw (c .handed .ensures)
-    (ap (answer (a .job .camera) (a .job .width) (a .job .height)) (c .before .before .before .work .ensures) ∙ judged-so (a .job) (a .table .now) (a .allowance) (c .before .before .before .before .before .enum-told .given .1) (c .before .before .before .before .before .before .before .admitted .ensures))
+    (ap (answer (a .job)) (c .before .before .before .work .ensures) ∙ judged-so (a .job) (a .table .now) (a .allowance) (c .before .before .before .before .before .enum-told .given .1) (c .before .before .before .before .before .before .before .admitted .ensures))
 
 pub turn-spec : {M : Type 1} → statement M
 turn-spec =

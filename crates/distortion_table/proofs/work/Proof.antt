@@ -1,97 +1,92 @@
 -- `distortion_table::work` meets its contract. Assumes nothing.
-use mathlib.Core.Path.{sym, _∙_}
-use Prim.Native.Nat.{_-_, _*_, _≤_}
-use native.Mathlib.Nat.{le-trans, mul-le-mul, min-le-left, min-le-right}
+use mathlib.Core.Path.{_≡_, sym, ap, _∙_}
+use Prim.Native.Nat.{ℕ, _-_, min}
+use native.Mathlib.Nat.{min-le-left}
 use native.Mathlib.Omega.{arith}
 use lib.ListN.{length}
 use borrow.Author.Needs.{needs}
-use Rattle.camera.proofs.Laws.{limit-most}
+use Rattle.lens.specs.declared.Judgement.the-variants.{Taken}
 use Rattle.border.specs.Border.{samples}
-use Rattle.job.proofs.Taking.{is-admitted}
-use Rattle.distortion_table.proofs.Phases.{last-left, border-refused, border-on, border-done}
+use Rattle.turns.specs.Turns.{Turn, turn, met}
+use Rattle.plans.specs.Plan.{swept}
+use Rattle.plans.specs.declared.Progress.{Progress}
+use Rattle.plans.proofs.Phases.{border-refused, border-on, border-within, border-spent}
+use Rattle.sweep.specs.Sweep.{run}
+use Rattle.sweep.proofs.Runs.{run-is}
+use Rattle.job.specs.Job.{sweep-for, admitted}
+use Rattle.job.specs.declared.Job.{Job}
+use Rattle.distortion_table.specs.Answer.{plan-of}
+use Rattle.sweep.specs.Sweep.{told-refusal}
+use Rattle.distortion_table.proofs.Taking.{taking}
 use Rattle.distortion_table.proofs.work.Statement.{statement}
 use Rattle.distortion_table.proofs.work.Tie as tie
 
-samples-requires : tie.Need-samples-requires
-samples-requires c κs = is-admitted (c .before .before .args .job) (length (c .before .before .args .table .now)) (c .before .before .pre) .size
+-- what the sweep met, in units that the turn does
+swept-so :
+    (job : Job) (places : ℕ) → admitted job places ≡ Taken → (allowance count : ℕ) → count ≡ min allowance (samples (job .width) (job .height) - job .at .done)
+    → {t : Turn Progress} → t ≡ run (job .camera) (job .width) (job .height) allowance (job .at) → t ≡ met (turn (swept (sweep-for job)) count (job .at))
+swept-so job places h allowance count n e =
+    let k = taking job places h in
+    e ∙ run-is (job .camera) (job .width) (job .height) allowance (job .at) (k .taken-size) (k .few)
+    ∙ ap (λ (m : ℕ). met (turn (swept (sweep-for job)) m (job .at))) (sym n)
 
-samples-left-requires : tie.Need-samples-left-requires
-samples-left-requires c κs = search needs
+cast-samples : tie.Need-cast-samples
+cast-samples c = omega (arith, taking (c .before .before .args .job) (length (c .before .before .args .table .now)) (c .before .before .pre) .size .not-wider)
 
-least-requires : tie.Need-least-requires
-least-requires c κs = search needs
-
-sweep-requires : tie.Need-sweep-requires
-sweep-requires c κs =
-    let k = is-admitted (c .before .before .before .before .before .args .job) (length (c .before .before .before .before .before .args .table .now)) (c .before .before .before .before .before .pre) in
-    let j = c .before .before .before .before .before .args .job in
-    let n = c .before .before .samples .ensures in
-    let l = c .least .ensures in
-    let m = min-le-right (c .before .before .before .before .before .args .allowance) (c .before .samples-left .result) in
-    let room : c .least .result ≤ samples (j .width) (j .height) - j .at .done = omega (arith, l, m, c .before .samples-left .ensures, n) in
-    let few : j .at .updates ≤ 50 * 16388 = le-trans (k .updates) (mul-le-mul {n₂ = 50} {m₂ = 16388} (limit-most (j .camera)) (le-trans (min-le-right (j .at .done) (samples (j .width) (j .height))) (omega (arith, k .size .not-wider, k .size .not-higher)))) in
-    (k .size, room, omega (arith, k .size .not-wider, k .size .not-higher))
-
-enum-known-refusal : tie.Need-enum-known-refusal
-enum-known-refusal c = search needs
-
-enum-told : tie.Need-enum-told
-enum-told c = search needs
+cast-samples-2 : tie.Need-cast-samples-2
+cast-samples-2 c = omega (arith, taking (c .before .before .args .job) (length (c .before .before .args .table .now)) (c .before .before .pre) .size .not-higher)
 
 sub-cells : tie.Need-sub-cells
-sub-cells c = omega (arith, c .before .before .before .before .before .least .ensures, min-le-left (c .before .before .before .before .before .before .before .before .before .before .args .allowance) (c .before .before .before .before .before .before .samples-left .result))
+sub-cells c = omega (arith, c .before .before .before .before .before .due .ensures, min-le-left (c .before .before .before .before .before .before .before .before .before .args .allowance) (c .before .before .before .before .before .before .samples .result - c .before .before .before .before .before .before .before .before .before .args .job .at .done))
 
 cells-requires : tie.Need-cells-requires
 cells-requires c κs =
-    let j = c .before .before .before .before .before .before .before .before .before .before .args .job in
-    let k = is-admitted (c .before .before .before .before .before .before .before .before .before .before .args .job) (length (c .before .before .before .before .before .before .before .before .before .before .args .table .now)) (c .before .before .before .before .before .before .before .before .before .before .pre) in
-    let n = c .before .before .before .before .before .before .before .samples .ensures in
-    let l = c .before .before .before .before .before .least .ensures in
-    let less : c .before .before .before .before .before .least .result ≤ c .before .before .before .before .before .before .before .before .before .before .args .allowance = omega (arith, l, min-le-left (c .before .before .before .before .before .before .before .before .before .before .args .allowance) (c .before .before .before .before .before .before .samples-left .result)) in
-    let room : c .before .before .before .before .before .least .result ≤ samples (j .width) (j .height) - j .at .done = omega (arith, l, min-le-right (c .before .before .before .before .before .before .before .before .before .before .args .allowance) (c .before .before .before .before .before .before .samples-left .result), c .before .before .before .before .before .before .samples-left .ensures, n) in
-    let d = border-done (j .camera) (j .width) (j .height) (j .at) (c .before .before .before .before .before .before .before .before .before .before .args .table .now) (c .before .before .before .before .before .before .before .before .before .before .args .allowance) (c .before .before .before .before .before .least .result) less room (c .before .before .before .before .sweep .result) (c .before .before .before .before .sweep .ensures) (c .before .enum-told .given .1) in
-    record {
-      size = k .size;
-      not-past = omega (arith, d, room, k .not-past);
-      spent = λ h. omega (arith, d, l, last-left (c .before .before .before .before .before .before .before .before .before .before .args .allowance) (c .before .before .before .before .before .before .samples-left .result) (c .before .before .before .before .before .least .result) l (omega (arith, d, h, c .before .before .before .before .before .before .samples-left .ensures, n)));
-      places = k .long;
-    }
+    let a = c .before .before .before .before .before .before .before .before .before .args in
+    let j = a .job in
+    let k = taking j (length (a .table .now)) (c .before .before .before .before .before .before .before .before .before .pre) in
+    let n = c .before .before .before .before .before .before .samples .ensures in
+    let counted : c .before .before .before .before .before .due .result ≡ min (a .allowance) (samples (j .width) (j .height) - j .at .done) = rw (← n) (c .before .before .before .before .before .due .ensures) in
+    let s = c .before .before .before .before .sweep .result in
+    let r = ap told-refusal (c .before .enum-told .given .1) in (
+      n,
+      record {
+        size = k .size;
+        not-past = border-within (plan-of j) (j .at) (a .table .now) (a .allowance) (c .before .before .before .before .before .due .result) counted (s .at) (told-refusal (s .refusal)) (swept-so j (length (a .table .now)) (c .before .before .before .before .before .before .before .before .before .pre) (a .allowance) (c .before .before .before .before .before .due .result) counted (c .before .before .before .before .sweep .ensures)) (k .not-past) r;
+        spent = border-spent (plan-of j) (j .at) (a .table .now) (a .allowance) (c .before .before .before .before .before .due .result) counted (s .at) (told-refusal (s .refusal)) (swept-so j (length (a .table .now)) (c .before .before .before .before .before .before .before .before .before .pre) (a .allowance) (c .before .before .before .before .before .due .result) counted (c .before .before .before .before .sweep .ensures)) r;
+        places = k .long;
+      },
+    )
 
 returns : tie.Need-returns
 returns c =
-    let j = c .before .before .before .before .before .before .before .before .before .before .args .job in
-    let k = is-admitted (c .before .before .before .before .before .before .before .before .before .before .args .job) (length (c .before .before .before .before .before .before .before .before .before .before .args .table .now)) (c .before .before .before .before .before .before .before .before .before .before .pre) in
-    let n = c .before .before .before .before .before .before .before .samples .ensures in
-    let l = c .before .before .before .before .before .least .ensures in
-    let less : c .before .before .before .before .before .least .result ≤ c .before .before .before .before .before .before .before .before .before .before .args .allowance = omega (arith, l, min-le-left (c .before .before .before .before .before .before .before .before .before .before .args .allowance) (c .before .before .before .before .before .before .samples-left .result)) in
-    let room : c .before .before .before .before .before .least .result ≤ samples (j .width) (j .height) - j .at .done = omega (arith, l, min-le-right (c .before .before .before .before .before .before .before .before .before .before .args .allowance) (c .before .before .before .before .before .before .samples-left .result), c .before .before .before .before .before .before .samples-left .ensures, n) in
-    sym (border-refused (j .camera) (j .width) (j .height) (j .at) (c .before .before .before .before .before .before .before .before .before .before .args .table .now) (c .before .before .before .before .before .before .before .before .before .before .args .allowance) (c .before .before .before .before .before .least .result) less room (c .before .before .before .before .sweep .result) (c .before .before .before .before .sweep .ensures) _ (c .before .refusal .given .1))
-
-same-length : tie.Need-same-length
-same-length c = search needs
+    let a = c .before .before .before .before .before .before .before .before .before .args in
+    let j = a .job in
+    let s = c .before .before .before .before .sweep .result in
+    let counted : c .before .before .before .before .before .due .result ≡ min (a .allowance) (samples (j .width) (j .height) - j .at .done) = rw (← c .before .before .before .before .before .before .samples .ensures) (c .before .before .before .before .before .due .ensures) in
+    sym (border-refused (plan-of j) (j .at) (a .table .now) (a .allowance) (c .before .before .before .before .before .due .result) counted (s .at) (told-refusal (s .refusal)) (swept-so j (length (a .table .now)) (c .before .before .before .before .before .before .before .before .before .pre) (a .allowance) (c .before .before .before .before .before .due .result) counted (c .before .before .before .before .sweep .ensures)) _ (ap told-refusal (c .before .refusal .given .1)))
 
 returns-2 : tie.Need-returns-2
 returns-2 c =
-    let j = c .before .before .before .before .before .before .before .before .before .before .before .before .before .args .job in
-    let k = is-admitted (c .before .before .before .before .before .before .before .before .before .before .before .before .before .args .job) (length (c .before .before .before .before .before .before .before .before .before .before .before .before .before .args .table .now)) (c .before .before .before .before .before .before .before .before .before .before .before .before .before .pre) in
-    let n = c .before .before .before .before .before .before .before .before .before .before .samples .ensures in
-    let l = c .before .before .before .before .before .before .before .before .least .ensures in
-    let less : c .before .before .before .before .before .before .before .before .least .result ≤ c .before .before .before .before .before .before .before .before .before .before .before .before .before .args .allowance = omega (arith, l, min-le-left (c .before .before .before .before .before .before .before .before .before .before .before .before .before .args .allowance) (c .before .before .before .before .before .before .before .before .before .samples-left .result)) in
-    let room : c .before .before .before .before .before .before .before .before .least .result ≤ samples (j .width) (j .height) - j .at .done = omega (arith, l, min-le-right (c .before .before .before .before .before .before .before .before .before .before .before .before .before .args .allowance) (c .before .before .before .before .before .before .before .before .before .samples-left .result), c .before .before .before .before .before .before .before .before .before .samples-left .ensures, n) in
-    c .before .before .cells .ensures ∙ sym (border-on (j .camera) (j .width) (j .height) (j .at) (c .before .before .before .before .before .before .before .before .before .before .before .before .before .args .table .now) (c .before .before .before .before .before .before .before .before .before .before .before .before .before .args .allowance) (c .before .before .before .before .before .before .before .before .least .result) less room (c .before .before .before .before .before .before .before .sweep .result) (c .before .before .before .before .before .before .before .sweep .ensures) (c .before .before .before .before .enum-told .given .1))
+    let a = c .before .before .before .before .before .before .before .before .before .before .before .before .args in
+    let j = a .job in
+    let s = c .before .before .before .before .before .before .before .sweep .result in
+    let counted : c .before .before .before .before .before .before .before .before .due .result ≡ min (a .allowance) (samples (j .width) (j .height) - j .at .done) = rw (← c .before .before .before .before .before .before .before .before .before .samples .ensures) (c .before .before .before .before .before .before .before .before .due .ensures) in
+    c .before .before .cells .ensures
+    ∙ sym (border-on (plan-of j) (j .at) (a .table .now) (a .allowance) (c .before .before .before .before .before .before .before .before .due .result) counted (s .at) (told-refusal (s .refusal)) (swept-so j (length (a .table .now)) (c .before .before .before .before .before .before .before .before .before .before .before .before .pre) (a .allowance) (c .before .before .before .before .before .before .before .before .due .result) counted (c .before .before .before .before .before .before .before .sweep .ensures)) (ap told-refusal (c .before .before .before .before .enum-told .given .1)))
 
 pub work-spec : {M : Type 1} → statement M
 work-spec =
     tie.close
     (tie.spec
-    samples-requires
-    samples-left-requires
-    least-requires
-    sweep-requires
-    enum-known-refusal
-    enum-told
+    cast-samples
+    cast-samples-2
+    (λ c κs. search needs)
+    (λ c κs. search needs)
+    (λ c κs. search needs)
+    (λ c. search needs)
+    (λ c. search needs)
     sub-cells
     cells-requires
     returns
-    same-length
+    (λ c. search needs)
     returns-2)

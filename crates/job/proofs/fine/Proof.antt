@@ -1,30 +1,29 @@
 -- `job::fine` meets its contract. Assumes nothing.
-use mathlib.Core.Path.{refl}
+use mathlib.Core.Path.{refl, sym}
+use borrow.Author.Tests.{ne-eqb}
+use native.Mathlib.Omega.{arith}
 use borrow.Author.Needs.{needs}
-use Rattle.lens.proofs.Laws.{verdict-one-to-one}
+use Rattle.lens.specs.Refusal.{number}
+use Rattle.lens.proofs.Laws.{number-within, verdict-one-to-one}
 use Rattle.region.specs.Region.{wrong}
 use Rattle.job.proofs.fine.Statement.{statement}
 use Rattle.job.proofs.fine.Tie as tie
 
-increments-of-requires : tie.Need-increments-of-requires
-increments-of-requires c κs = search needs
-
-wrong-requires : tie.Need-wrong-requires
-wrong-requires c κs = search needs
-
-enum-told : tie.Need-enum-told
-enum-told c = search needs
-
-enum-told-2 : tie.Need-enum-told-2
-enum-told-2 c = search needs
-
 returns : tie.Need-returns
-returns c = let same = verdict-one-to-one (c .before .before .wrong .result) (wrong (c .before .before .before .increments-of .result)) (c .before .before .wrong .ensures) in rw (← c .before .before .before .increments-of .ensures, ← same, c .enum-told .given .1) refl
+returns c = search needs
 
 returns-2 : tie.Need-returns-2
-returns-2 c = let same = verdict-one-to-one (c .before .before .wrong .result) (wrong (c .before .before .before .increments-of .result)) (c .before .before .wrong .ensures) in rw (← c .before .before .before .increments-of .ensures, ← same, c .enum-told2 .given .1) refl
+returns-2 c =
+    let w = c .before .before .wrong in
+    let same = verdict-one-to-one (w .result) (wrong (c .before .before .before .increments-of .result)) (w .ensures) in
+    rw (c .before .before .before .before .if1 .left, ← c .before .before .before .increments-of .ensures, ← same, c .enum-told .given .1) refl
+
+returns-3 : tie.Need-returns-3
+returns-3 c =
+    let w = c .before .before .wrong in
+    let same = verdict-one-to-one (w .result) (wrong (c .before .before .before .increments-of .result)) (w .ensures) in
+    rw (c .before .before .before .before .if1 .left, ← c .before .before .before .increments-of .ensures, ← same, c .enum-told2 .given .1)
+    (sym (ne-eqb (number (c .enum-told2 .given .0 .0)) 0 (λ e. omega (arith, e, number-within (c .enum-told2 .given .0 .0)))))
 
 pub fine-spec : {M : Type 1} → statement M
-fine-spec =
-    tie.close
-    (tie.spec increments-of-requires wrong-requires enum-told enum-told-2 returns returns-2)
+fine-spec = tie.close (tie.spec returns (λ c κs. search needs) (λ c κs. search needs) (λ c. search needs) (λ c. search needs) returns-2 returns-3)

@@ -1,48 +1,38 @@
 -- `job::fresh` meets its contract. Assumes nothing.
-use mathlib.Core.Path.{refl}
-use borrow.Author.Tests.{not-true, not-false}
+use mathlib.Core.Path.{_≡_, refl, sym, ap, _∙_}
+use Prim.Native.Nat.{ℕ}
 use borrow.Author.Needs.{needs}
-use Rattle.job.specs.Job.{fresh}
+use Rattle.lens.specs.Judgement.{verdict, decided}
+use Rattle.lens.specs.declared.Judgement.{Judgement}
+use Rattle.lens.proofs.Laws.{verdict-one-to-one}
+use Rattle.region.specs.declared.Region.{Region}
+use Rattle.camera.specs.declared.Camera.{Camera}
+use Rattle.plans.specs.Plan.{nowhere}
+use Rattle.table_plans.specs.Tables.{opens-for}
+use Rattle.job.specs.Job.{fresh-job, fresh, told-started}
+use Rattle.job.specs.declared.Started.the-variants.{With, Refused}
 use Rattle.job.proofs.fresh.Statement.{statement}
 use Rattle.job.proofs.fresh.Tie as tie
 
-finite-parameters-requires : tie.Need-finite-parameters-requires
-finite-parameters-requires c κs = search needs
+-- by what the judging says
+judged-so :
+    (camera : Camera) (width height : ℕ) {region : Region} {r j : Judgement} → region ≡ nowhere → verdict r ≡ verdict (opens-for camera width height region) → r ≡ j
+    → told-started (decided j Refused (With (fresh-job camera width height))) ≡ told-started (fresh camera width height)
+unfolding fresh
+judged-so camera width height {region} {r} n h e =
+    ap (λ (j : Judgement). told-started (decided j Refused (With (fresh-job camera width height))))
+    (sym e ∙ verdict-one-to-one r (opens-for camera width height region) h ∙ ap (opens-for camera width height) n)
 
 returns : tie.Need-returns
-unfolding fresh
-returns c = rw (← c .before .finite-parameters .ensures, not-true (c .before .finite-parameters .result) (c .if1 .taken)) refl
-
-zero-focal-requires : tie.Need-zero-focal-requires
-zero-focal-requires c κs = search needs
+returns c =
+    let a = c .before .before .before .before .before .args in
+    judged-so (a .camera) (a .width) (a .height) (c .before .before .before .before .nowhere .ensures) (c .before .before .before .opens .ensures) (c .before .refusal .given .1)
 
 returns-2 : tie.Need-returns-2
-unfolding fresh
-returns-2 c = rw (← c .before .before .before .finite-parameters .ensures, not-false (c .before .before .before .finite-parameters .result) (c .before .before .if1 .left), ← c .before .zero-focal .ensures, c .if2 .taken) refl
-
-sized-requires : tie.Need-sized-requires
-sized-requires c κs = search needs
-
-returns-3 : tie.Need-returns-3
-unfolding fresh
-returns-3 c = rw (← c .before .before .before .before .before .finite-parameters .ensures, not-false (c .before .before .before .before .before .finite-parameters .result) (c .before .before .before .before .if1 .left), ← c .before .before .before .zero-focal .ensures, c .before .before .if2 .left, ← c .before .sized .ensures, not-true (c .before .sized .result) (c .if3 .taken)) refl
-
-begun-requires : tie.Need-begun-requires
-begun-requires c κs = search needs
-
-returns-4 : tie.Need-returns-4
-unfolding fresh
-returns-4 c = rw (← c .before .before .before .before .before .before .finite-parameters .ensures, not-false (c .before .before .before .before .before .before .finite-parameters .result) (c .before .before .before .before .before .if1 .left), ← c .before .before .before .before .zero-focal .ensures, c .before .before .before .if2 .left, ← c .before .before .sized .ensures, not-false (c .before .before .sized .result) (c .before .if3 .left), c .begun .ensures) refl
+returns-2 c =
+    let a = c .before .before .before .before .before .args in
+    rw (c .begun .ensures)
+    (judged-so (a .camera) (a .width) (a .height) (c .before .before .before .before .nowhere .ensures) (c .before .before .before .opens .ensures) (c .before .enum-told .given .1))
 
 pub fresh-spec : {M : Type 1} → statement M
-fresh-spec =
-    tie.close
-    (tie.spec
-    finite-parameters-requires
-    returns
-    zero-focal-requires
-    returns-2
-    sized-requires
-    returns-3
-    begun-requires
-    returns-4)
+fresh-spec = tie.close (tie.spec (λ c κs. search needs) (λ c κs. search needs) (λ c. search needs) (λ c. search needs) (λ c κs. search needs) returns returns-2)

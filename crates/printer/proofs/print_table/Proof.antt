@@ -1,9 +1,10 @@
 -- `printer::print_table` meets its contract. Assumes nothing.
 use mathlib.Core.Path.{_≡_, sym, ap, _∙_}
-use Rattle.region.proofs.Size.{is-sized}
+use Rattle.plans.specs.Plan.{nowhere}
+use Rattle.table_plans.proofs.Sound.{opened}
 use Rattle.job.specs.Job.{fresh}
 use Rattle.job.specs.declared.Started.{Started}
-use Rattle.distortion_table.proofs.Calls.{fresh-takes}
+use Rattle.distortion_table.proofs.Calls.{fresh-opens}
 use Rattle.job.proofs.Laws.{started-one-to-one}
 use Rattle.listing.specs.Placed.{written, placed-all}
 use Rattle.printer.specs.Printed.{sized-lines, started, table-lines}
@@ -15,7 +16,7 @@ print-sized-requires : tie.Need-print-sized-requires
 print-sized-requires c κs =
     let a = c .before .before .before .before .before .args in
     let same = started-one-to-one (c .before .before .before .fresh .result) (fresh (a .camera) (a .width) (a .height)) (c .before .before .before .fresh .ensures) in
-    is-sized (a .width) (a .height) (fresh-takes (a .camera) (a .width) (a .height) _ (sym same ∙ c .before .enum-told .given .1) .0 .size)
+    opened (a .camera) (a .width) (a .height) nowhere (fresh-opens (a .camera) (a .width) (a .height) _ (sym same ∙ c .before .enum-told .given .1) .0) .size
 
 returns : tie.Need-returns
 unfolding table-lines

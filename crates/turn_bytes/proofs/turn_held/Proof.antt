@@ -2,7 +2,7 @@
 use mathlib.Core.Path.{sym, _∙_}
 use denote.Ref.{now}
 use lib.ListN.{length}
-use Rattle.job.proofs.Taking.{is-admitted}
+use Rattle.distortion_table.proofs.Taking.{taking}
 use Rattle.given.specs.Given.{code}
 use Rattle.job_bytes.specs.declared.Found.the-variants.{Of}
 use Rattle.turn_bytes.proofs.Turning.{none-before, is-taken, as-judged, held-refused, held-taken}
@@ -18,7 +18,7 @@ returns c =
 all-units-requires : tie.Need-all-units-requires
 all-units-requires c κs =
     let a = c .before .before .before .before .before .before .before .args in
-    is-admitted (a .held) (length (now (a .table))) (is-taken (a .held) (now (a .table)) (now (a .answer)) (sym (as-judged (a .held) (now (a .table)) (now (a .answer)) (c .before .code .ensures) (c .before .before .verdict .ensures) (c .before .before .before .admitted .ensures)) ∙ c .if1 .left)) .size
+    taking (a .held) (length (now (a .table))) (is-taken (a .held) (now (a .table)) (now (a .answer)) (sym (as-judged (a .held) (now (a .table)) (now (a .answer)) (c .before .code .ensures) (c .before .before .verdict .ensures) (c .before .before .before .admitted .ensures)) ∙ c .if1 .left)) .size
 
 give-requires : tie.Need-give-requires
 give-requires c κs =

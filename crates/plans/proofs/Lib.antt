@@ -1,0 +1,13 @@
+pub mod Along
+pub mod AtBorder
+pub mod Counted
+pub mod Done
+pub mod Ends
+pub mod Filler
+pub mod Fits
+pub mod Laws
+pub mod Numbers
+pub mod Phases
+pub mod Reaching
+pub mod Same
+pub mod Written

@@ -1,0 +1,73 @@
+-- `sweep::units` meets its contract. The loop's invariant: the units left from here meet what all of them meet. Assumes nothing.
+use mathlib.Core.Path.{_≡_, refl, sym, ap, _∙_}
+use Prim.Native.Nat.{ℕ, _+_, _*_, _^_, _≤_, _<_}
+use native.Mathlib.Omega.{arith}
+use borrow.Author.Needs.{needs}
+use Rattle.camera.proofs.Laws.{updates-limit-judged, limit-most}
+use Rattle.turns.specs.Turns.{turn, met}
+use Rattle.turns.proofs.Laws.{met-none, met-refused, met-done}
+use Rattle.border.specs.Border.{border-at}
+use Rattle.plans.specs.Plan.{swept}
+use Rattle.plans.proofs.AtBorder.{swept-counts}
+use Rattle.table_plans.specs.Tables.{sweep-of}
+use Rattle.sweep.specs.Sweep.{told-swept}
+use Rattle.sweep.proofs.units.Statement.{statement}
+use Rattle.sweep.proofs.units.Tie as tie
+
+abbrev Inv-loop : tie.InvT-loop
+Inv-loop camera width height all count at₀ left₀ at left =
+    (at .done + left ≡ at₀ .done + left₀) × (left ≤ left₀) × (at .updates + 50 * left < 2 ^ 32)
+    × (met (turn (swept (sweep-of camera width height)) left at) ≡ met (turn (swept (sweep-of camera width height)) left₀ at₀))
+
+abbrev μ-loop : tie.MeasureT-loop
+μ-loop camera width height all count at₀ left₀ at left = left
+
+loop-holds : tie.Need-loop-holds Inv-loop μ-loop
+loop-holds c = (refl, omega arith, c .pre .3, refl)
+
+sweep-one-requires : tie.Need-sweep-one-requires Inv-loop μ-loop
+sweep-one-requires c κs = (c .before .before .pre .0, omega (arith, c .before .before .pre .1, c .before .before .pre .2), omega arith)
+
+returns : tie.Need-returns Inv-loop μ-loop
+returns c =
+    let a = c .before .before .before .before .before .before .args in
+    let l = c .before .before .before .before .before .loop in
+    let e = sym (c .before .before .before .sweep-one .ensures) ∙ ap told-swept (c .before .refusal .given .1) in
+    sym (met-refused (swept (sweep-of (a .camera) (a .width) (a .height))) (l .left) (l .at) (omega arith) _ e) ∙ l .inv .3
+
+loop-again : tie.Need-loop-again Inv-loop μ-loop
+loop-again c =
+    let a = c .before .before .before .before .before .before .args in
+    let l = c .before .before .before .before .before .loop in
+    let t = c .before .next .given .0 .0 in
+    let e = sym (c .before .before .before .sweep-one .ensures) ∙ ap told-swept (c .before .next .given .1) in
+    let n = swept-counts (sweep-of (a .camera) (a .width) (a .height)) (l .at) t e in (
+      omega (arith, n .units),
+      omega arith,
+      omega (arith, n .updates, updates-limit-judged (a .camera) (border-at (a .width) (a .height) (l .at .done)), limit-most (a .camera)),
+      sym (met-done (swept (sweep-of (a .camera) (a .width) (a .height))) (l .left) (l .at) (omega arith) t e) ∙ l .inv .3,
+    )
+
+returns-2 : tie.Need-returns-2 Inv-loop μ-loop
+returns-2 c =
+    let a = c .before .before .args in
+    let l = c .before .loop in
+    let z : l .left ≡ 0 = omega arith in
+    let s = swept (sweep-of (a .camera) (a .width) (a .height)) in
+    sym (ap (λ (n : ℕ). met (turn s n (l .at))) z ∙ met-none s (l .at)) ∙ l .inv .3
+
+pub units-spec : {M : Type 1} → statement M
+units-spec =
+    tie.close
+    (tie.spec
+    Inv-loop
+    μ-loop
+    loop-holds
+    sweep-one-requires
+    (λ c. search needs)
+    returns
+    (λ c. search needs)
+    (λ c. search needs)
+    (λ c. omega arith)
+    loop-again
+    returns-2)

@@ -1,0 +1,136 @@
+-- Which numbers a unit of our tables is refused with. Assumes nothing.
+use mathlib.Core.Path.{_≡_, refl, sym, ap, _∙_, subst}
+use mathlib.Core.Bool.{Bool, true, false, cond, false≢true, _&&_, _||_}
+use mathlib.Core.List.{List, [], _∷_}
+use Prim.Native.Nat.{ℕ}
+use native.Mathlib.Omega.{arith}
+use borrow.Author.Tests.{eqb-true}
+use lib.Dec.{eqb}
+use lib.Ieee.{Float, le}
+use lib.Ieee.Scale.{finite}
+use Rattle.root.specs.Root.{root}
+use Rattle.arctan.specs.Tangent.{tangent}
+use Rattle.arctan.specs.declared.Slope.{Slope}
+use Rattle.arctan.specs.declared.Slope.the-variants.{Is, TooSteep}
+use Rattle.narrow.specs.Narrow.{narrowed}
+use Rattle.lens.specs.Constants.{eps}
+use Rattle.lens.specs.Refusal.{number}
+use Rattle.lens.specs.declared.Distorted.the-variants as pixels
+use Rattle.lens.specs.declared.Judgement.{Judgement}
+use Rattle.lens.specs.declared.Judgement.the-variants as judged
+use Rattle.lens.specs.declared.Pixel.{Pixel}
+use Rattle.lens.specs.declared.Refusal.the-variants.{IncrementNotPositive, AnswerNotFinite}
+use Rattle.lens.specs.declared.Settled.{Settled}
+use Rattle.lens.specs.declared.Undistorted.{Undistorted}
+use Rattle.lens.specs.declared.Undistorted.the-variants as found
+use Rattle.region.specs.Region.{increments, flat, wrong}
+use Rattle.region.specs.declared.Increments.{Increments}
+use Rattle.region.specs.declared.Region.{Region}
+use Rattle.kannala_brandt.specs.KannalaBrandt as kb
+use Rattle.kannala_brandt.specs.declared.Reached.{Reached}
+use Rattle.camera.specs.Camera.{pixel-of, point-of, finite-point, distort-judged}
+use Rattle.camera.specs.declared.Camera.{Camera}
+use Rattle.camera.specs.declared.Camera.the-variants.{Affine, EnhancedUnified, KannalaBrandt, BrownConrady}
+use Rattle.plans.specs.Plan.{Content, numbers, none, State, next}
+use Rattle.plans.proofs.Numbers.{Told, Refusing, turn-says}
+use Rattle.turns.specs.Turns.{turn}
+use Rattle.cell.specs.Cell.{cell-point, f32, of-pixel, cell-by}
+use Rattle.table_plans.specs.Tables.{one-of, unit-numbers, f32-table}
+
+-- ---- one of some numbers
+
+abbrev pub Each : (ℕ → Type 0) → List ℕ → Type 0
+Each P [] = Unit {0}
+Each P (x ∷ xs) = P x × Each P xs
+
+-- what holds of each of them holds of it
+pub by-each : (P : ℕ → Type 0) (xs : List ℕ) (n : ℕ) → one-of n xs ≡ true → Each P xs → P n
+by-each P [] n e p = absurd (false≢true e)
+by-each P (x ∷ xs) n e p = go (λ h. by-each P xs n h (p .1)) (eqb n x) refl e
+  where
+    go : (one-of n xs ≡ true → P n) → (b : Bool) → eqb n x ≡ b → (b || one-of n xs) ≡ true → P n
+    go rest true q h = subst P (sym (eqb-true n x q)) (p .0)
+    go rest false q h = rest h
+
+abbrev pub Known : ℕ → Type 0
+Known n = one-of n unit-numbers ≡ true
+
+-- ---- a sample: 10 or 11
+
+abbrev FoundKnown : Undistorted → Type 0
+FoundKnown (found.At s) = Unit {0}
+FoundKnown (found.Refused r) = Known (number r)
+
+kb-known : (near : Bool) (slope : Slope) (point : Settled) (at : Reached) (rth un vn : Float) → FoundKnown (cond near (found.At point) (kb.outward slope at rth un vn))
+kb-known true slope point at rth un vn = tt
+kb-known false (Is t) point at rth un vn = tt
+kb-known false TooSteep point at rth un vn = refl
+
+point-known : (camera : Camera) (pixel : Pixel) → FoundKnown (point-of camera pixel)
+point-known (Affine p) pixel = tt
+point-known (EnhancedUnified p) pixel = tt
+point-known (KannalaBrandt p) pixel = kb-known (le (kb.rth2 p pixel) eps) (tangent (kb.newton p (root (kb.rth2 p pixel)) .th)) _ _ _ _ _
+point-known (BrownConrady p) pixel = tt
+
+finite-known : (u : Undistorted) → FoundKnown u → FoundKnown (finite-point u)
+finite-known (found.Refused r) h = h
+finite-known (found.At s) h = go (finite (s .point .0) && finite (s .point .1))
+  where
+    go : (f : Bool) → FoundKnown (cond f (found.At s) (found.Refused AnswerNotFinite))
+    go true = tt
+    go false = refl
+
+-- ---- the increments: 8 or 11
+
+abbrev JudgedKnown : Judgement → Type 0
+JudgedKnown judged.Taken = Unit {0}
+JudgedKnown (judged.Refused r) = Known (number r)
+
+wrong-known : (by : Increments) → JudgedKnown (wrong by)
+unfolding wrong
+wrong-known by = go (flat (by .0) || flat (by .1)) (finite (by .0) && finite (by .1))
+  where
+    go : (f g : Bool) → JudgedKnown (cond f (judged.Refused IncrementNotPositive) (cond g judged.Taken (judged.Refused AnswerNotFinite)))
+    go true g = refl
+    go false true = tt
+    go false false = refl
+
+-- ---- a cell: 11 or 12
+
+abbrev ContentKnown : Content Float → Type 0
+ContentKnown (numbers a b) = Unit {0}
+ContentKnown (none n) = Known n
+
+f32-known : (pixel : Pixel) → ContentKnown (f32 pixel)
+f32-known pixel = go (finite (narrowed (pixel .0)) && finite (narrowed (pixel .1)))
+  where
+    go : (h : Bool) → ContentKnown (cond h (numbers (narrowed (pixel .0)) (narrowed (pixel .1))) (none 12))
+    go true = tt
+    go false = refl
+
+cell-known : (camera : Camera) (region : Region) (by : Increments) (u v : ℕ) → ContentKnown (cell-by (distort-judged camera) f32 region by u v)
+unfolding cell-by
+cell-known camera region by u v = go (finite (cell-point region by u v .0) && finite (cell-point region by u v .1)) (finite (pixel .0) && finite (pixel .1))
+  where
+    pixel : Pixel
+    pixel = pixel-of camera (cell-point region by u v)
+
+    go : (f g : Bool) → ContentKnown (cond f (of-pixel f32 (cond g (pixels.At pixel) (pixels.Refused AnswerNotFinite))) (none 11))
+    go false g = refl
+    go true false = refl
+    go true true = f32-known pixel
+
+-- ---- a turn
+
+module _ (camera : Camera) (width height : ℕ) where
+  refusing : Refusing (f32-table camera width height) Known
+  refusing = record {
+    samples = λ pixel r e. subst FoundKnown e (finite-known (point-of camera pixel) (point-known camera pixel));
+    strictly = λ e. absurd (false≢true e);
+    increments = λ by r e. subst JudgedKnown e (wrong-known by);
+    cells = λ region u v n e. subst ContentKnown e (cell-known camera region (increments region width height) u v);
+  }
+
+  -- A turn that a unit refuses is refused with 8, 10, 11 or 12.
+  pub turn-known : (a : ℕ) (s : State Float) → Told Known (turn (next (f32-table camera width height)) a s .said)
+  turn-known = turn-says (f32-table camera width height) Known refusing

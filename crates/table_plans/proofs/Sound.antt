@@ -1,0 +1,128 @@
+-- The plans of our tables are sound: each engine's answers are finite and within its limit, and each refusal of a cell has a number. Assumes nothing.
+use mathlib.Core.Path.{_≡_, refl, sym, ap, _∙_, subst}
+use mathlib.Core.Bool.{Bool, true, false, cond, _&&_}
+use Prim.Native.Nat.{ℕ, _≤_, _<_}
+use native.Mathlib.Omega.{arith}
+use lib.Ieee.{Float}
+use lib.Ieee.Scale.{finite}
+use Rattle.narrow.specs.Narrow.{narrowed}
+use Rattle.lens.specs.Finite.{all-finite}
+use Rattle.lens.specs.Refusal.{number}
+use Rattle.lens.specs.Undistorted.{told}
+use Rattle.lens.specs.declared.Distorted.{Distorted}
+use Rattle.lens.specs.declared.Distorted.the-variants as pixels
+use Rattle.lens.specs.declared.Judgement.{Judgement}
+use Rattle.lens.specs.declared.Judgement.the-variants.{Taken}
+use Rattle.lens.specs.declared.Judgement.the-variants as judged
+use Rattle.lens.specs.declared.Pixel.{Pixel}
+use Rattle.lens.specs.declared.Point.{Point}
+use Rattle.lens.specs.declared.Refusal.the-variants.{NotFinite, ZeroFocalLength, WrongSize, AnswerNotFinite}
+use Rattle.lens.specs.declared.Settled.{Settled}
+use Rattle.lens.specs.declared.Undistorted.{Undistorted}
+use Rattle.lens.specs.declared.Undistorted.the-variants.{At, Refused}
+use Rattle.lens.proofs.Laws.{number-within}
+use Rattle.region.specs.Region.{four, increments}
+use Rattle.region.specs.Size.{sized, Sized}
+use Rattle.region.specs.declared.Increments.{Increments}
+use Rattle.region.specs.declared.Region.{Region}
+use Rattle.region.proofs.Size.{is-sized}
+use Rattle.camera.specs.Camera.{parameters, zero-focal, point-of, finite-point, limit}
+use Rattle.camera.specs.declared.Camera.{Camera}
+use Rattle.camera.proofs.Laws.{updates-limit-judged}
+use Rattle.plans.specs.Plan.{Content, numbers, none}
+use Rattle.plans.specs.Calls.{Sound}
+use Rattle.cell.specs.Cell.{cell-point, f32, of-pixel, cell-by}
+use Rattle.table_plans.specs.Tables.{Engine, engine-of, Border, corners-twice, opens-for, sweep-by, table-by, f32-table}
+
+-- an engine whose answers are finite and within its limit; a kind of cell whose refusals have a number
+pub record Sure (engine : Engine) : Type 0 where
+  pub limited : (pixel : Pixel) (settled : Settled) → engine .undistort pixel ≡ At settled → settled .updates ≤ engine .limit
+  pub points : (pixel : Pixel) (settled : Settled) → engine .undistort pixel ≡ At settled → (finite (settled .point .0) ≡ true) × (finite (settled .point .1) ≡ true)
+
+abbrev pub Telling : {X : Type 0} → (Pixel → Content X) → Type 0
+Telling kind = (pixel : Pixel) → kind pixel ≡ none 0 → ⊥
+
+-- ---- engines and kinds
+
+found-finite : (u : Undistorted) (s : Settled) → finite-point u ≡ At s → (finite (s .point .0) ≡ true) × (finite (s .point .1) ≡ true)
+found-finite (Refused r) s h = let z : _≡_ {A = ℕ} 0 1 = cc in absurd (omega arith)
+found-finite (At w) s h = go (finite (w .point .0)) refl (finite (w .point .1)) refl h
+  where
+    go : (p : Bool) → finite (w .point .0) ≡ p → (q : Bool) → finite (w .point .1) ≡ q → cond (p && q) (At w) (Refused AnswerNotFinite) ≡ At s → (finite (s .point .0) ≡ true) × (finite (s .point .1) ≡ true)
+    go true e true f k = let i : w ≡ s = cc in (sym (ap (λ (x : Settled). finite (x .point .0)) i) ∙ e, sym (ap (λ (x : Settled). finite (x .point .1)) i) ∙ f)
+    go true e false f k = let z : _≡_ {A = ℕ} 0 1 = cc in absurd (omega arith)
+    go false e q f k = let z : _≡_ {A = ℕ} 0 1 = cc in absurd (omega arith)
+
+pub engine-sure : (camera : Camera) → Sure (engine-of camera)
+engine-sure camera = record {
+  limited = λ pixel settled e. subst (λ (u : Undistorted). told u .settled .updates ≤ limit camera) e (updates-limit-judged camera pixel);
+  points = λ pixel settled e. found-finite (point-of camera pixel) settled e;
+}
+
+numbered : {X : Type 0} (r : ℕ) → 0 < r → _≡_ {A = Content X} (none r) (none 0) → ⊥
+numbered r h e = let z : r ≡ 0 = cc in omega (arith, h, z)
+
+not-numbers : {X : Type 0} (a b : X) → numbers a b ≡ none 0 → ⊥
+not-numbers a b e = let z : _≡_ {A = ℕ} 0 1 = cc in omega arith
+
+pub f32-telling : Telling f32
+f32-telling pixel = go (finite (narrowed (pixel .0)) && finite (narrowed (pixel .1)))
+  where
+    go : (b : Bool) → cond b (numbers (narrowed (pixel .0)) (narrowed (pixel .1))) (none 12) ≡ none 0 → ⊥
+    go true e = not-numbers (narrowed (pixel .0)) (narrowed (pixel .1)) e
+    go false e = numbered {X = Float} 12 (omega arith) e
+
+module _ {X : Type 0} (engine : Engine) (kind : Pixel → Content X) (t : Telling kind) where
+  telling-pixel : (d : Distorted) → of-pixel kind d ≡ none 0 → ⊥
+  telling-pixel (pixels.At pixel) e = t pixel e
+  telling-pixel (pixels.Refused r) e = numbered (number r) (number-within r .0) e
+
+  telling-cell : (region : Region) (by : Increments) (u v : ℕ) → cell-by (engine .distort) kind region by u v ≡ none 0 → ⊥
+  unfolding cell-by
+  telling-cell region by u v = go (finite (point .0) && finite (point .1))
+    where
+      point : Point
+      point = cell-point region by u v
+
+      go : (b : Bool) → cond b (of-pixel kind (engine .distort point)) (none 11) ≡ none 0 → ⊥
+      go true e = telling-pixel (engine .distort point) e
+      go false e = numbered 11 (omega arith) e
+
+-- ---- the plan
+
+module _ (camera : Camera) (width height : ℕ) where
+  abbrev by-tests : Bool → Bool → Bool → Judgement
+  by-tests g z s = cond g (cond z (judged.Refused ZeroFocalLength) (cond s Taken (judged.Refused WrongSize))) (judged.Refused NotFinite)
+
+  opens-alike : (q r : Region) → all-finite (four q) ≡ true → all-finite (four r) ≡ true → opens-for camera width height q ≡ opens-for camera width height r
+  unfolding opens-for
+  opens-alike q r e f = ap (λ (b : Bool). by-tests (all-finite (parameters camera) && b) (zero-focal camera) (sized width height)) (e ∙ sym f)
+
+  -- the tests that a record has passed which is opened for
+  pub record Opened (region : Region) : Type 0 where
+    pub numbers : (all-finite (parameters camera) && all-finite (four region)) ≡ true
+    pub focal : zero-focal camera ≡ false
+    pub taken-size : sized width height ≡ true
+    pub size : Sized width height
+
+  passed : (g z s : Bool) → by-tests g z s ≡ Taken → (g ≡ true) × (z ≡ false) × (s ≡ true)
+  passed true false true h = (refl, refl, refl)
+  passed true false false h = let z : _≡_ {A = ℕ} 0 1 = cc in absurd (omega arith)
+  passed true true s h = let z : _≡_ {A = ℕ} 0 1 = cc in absurd (omega arith)
+  passed false z s h = let z : _≡_ {A = ℕ} 0 1 = cc in absurd (omega arith)
+
+  pub opened : (region : Region) → opens-for camera width height region ≡ Taken → Opened region
+  unfolding opens-for
+  opened region h =
+      let p = passed (all-finite (parameters camera) && all-finite (four region)) (zero-focal camera) (sized width height) h in
+      record { numbers = p .0; focal = p .1; taken-size = p .2; size = is-sized width height (p .2) }
+
+  module _ {X : Type 0} (engine : Engine) (border : Border) (strict : Bool) (kind : Pixel → Content X) where
+    pub table-sound : Sure engine → Telling kind → 0 < border .samples → Sound (table-by (sweep-by camera engine border strict width height) engine kind)
+    table-sound s t h = record {
+      steady = record { bordered = h; limited = s .limited; points = s .points; alike = opens-alike };
+      refusals = λ region u v. telling-cell engine kind t region (increments region width height) u v;
+    }
+
+  pub f32-sound : Sound (f32-table camera width height)
+  f32-sound = table-sound (engine-of camera) (corners-twice width height) false f32 (engine-sure camera) f32-telling (omega arith)

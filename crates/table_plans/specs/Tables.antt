@@ -1,0 +1,92 @@
+-- The plans of a camera's tables: an engine, a border, a strict mark and a kind of cell make one. Definitions only.
+use mathlib.Core.Bool.{Bool, false, cond, _&&_, _||_}
+use mathlib.Core.List.{List, [], _∷_}
+use Prim.Native.Nat.{ℕ}
+use lib.Dec.{eqb}
+use lib.Ieee.{Float}
+use Rattle.lens.specs.Finite.{all-finite}
+use Rattle.lens.specs.declared.Distorted.{Distorted}
+use Rattle.lens.specs.declared.Judgement.{Judgement}
+use Rattle.lens.specs.declared.Judgement.the-variants.{Taken, Refused}
+use Rattle.lens.specs.declared.Pixel.{Pixel}
+use Rattle.lens.specs.declared.Point.{Point}
+use Rattle.lens.specs.declared.Refusal.the-variants.{NotFinite, ZeroFocalLength, WrongSize}
+use Rattle.lens.specs.declared.Undistorted.{Undistorted}
+use Rattle.region.specs.Region.{four, increments}
+use Rattle.region.specs.Size.{sized}
+use Rattle.region.specs.declared.Region.{Region}
+use Rattle.camera.specs.Camera.{parameters, zero-focal, distort-judged, undistort-judged, limit}
+use Rattle.camera.specs.declared.Camera.{Camera}
+use Rattle.border.specs.Border.{samples, border-at}
+use Rattle.plans.specs.Plan.{Content, Sweep, Plan}
+use Rattle.cell.specs.Cell.{f32, cell-by}
+
+-- ---- engines: what finds the point of a pixel and the pixel of a point, and the most updates that it makes
+
+pub record Engine : Type 0 where
+  pub undistort : Pixel → Undistorted
+  pub distort : Point → Distorted
+  pub limit : ℕ
+
+abbrev pub engine-of : Camera → Engine
+engine-of camera = record {
+  undistort = undistort-judged camera;
+  distort = distort-judged camera;
+  limit = limit camera;
+}
+
+-- ---- borders: how many samples, and the pixel of each
+
+pub record Border : Type 0 where
+  pub samples : ℕ
+  pub pixel-at : ℕ → Pixel
+
+-- top and bottom, then left and right, each from corner to corner
+abbrev pub corners-twice : ℕ → ℕ → Border
+corners-twice width height = record { samples = samples width height; pixel-at = border-at width height }
+
+-- ---- what refuses a record before its table is looked at: 4, 5, 6
+
+unfoldable pub opens-for : Camera → ℕ → ℕ → Region → Judgement
+opens-for camera width height region =
+    cond (all-finite (parameters camera) && all-finite (four region))
+    (cond (zero-focal camera) (Refused ZeroFocalLength)
+    (cond (sized width height) Taken (Refused WrongSize)))
+    (Refused NotFinite)
+
+-- ---- plans
+
+abbrev pub sweep-by : Camera → Engine → Border → Bool → ℕ → ℕ → Sweep
+sweep-by camera engine border strict width height = record {
+  width = width;
+  height = height;
+  samples = border .samples;
+  pixel-at = border .pixel-at;
+  sample = engine .undistort;
+  limit = engine .limit;
+  strict = strict;
+  opens = opens-for camera width height;
+}
+
+abbrev pub table-by : {X : Type 0} → Sweep → Engine → (Pixel → Content X) → Plan X
+table-by sweep engine kind = record {
+  sweep = sweep;
+  cell = λ region. cell-by (engine .distort) kind region (increments region (sweep .width) (sweep .height));
+}
+
+-- the sweep of every table, whatever its cells hold
+abbrev pub sweep-of : Camera → ℕ → ℕ → Sweep
+sweep-of camera width height = sweep-by camera (engine-of camera) (corners-twice width height) false width height
+
+-- the table of f32s
+abbrev pub f32-table : Camera → ℕ → ℕ → Plan Float
+f32-table camera width height = table-by (sweep-of camera width height) (engine-of camera) f32
+
+-- ---- what refuses a unit of it: 8, 10, 11, 12
+
+abbrev pub one-of : ℕ → List ℕ → Bool
+one-of n [] = false
+one-of n (x ∷ xs) = eqb n x || one-of n xs
+
+abbrev pub unit-numbers : List ℕ
+unit-numbers = 8 ∷ 10 ∷ 11 ∷ 12 ∷ []

@@ -1,3 +1,0 @@
-pub mod Owed
-pub mod Sweep
-pub mod Table

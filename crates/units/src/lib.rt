@@ -1,1 +1,0 @@
-// What the units of a table make of it, a sample of the border and then a cell at a time. There is nothing to run here: distortion_table runs the units, in two loops, and specs/ and proofs/ say what each of them comes to.

@@ -1,0 +1,64 @@
+#!/usr/bin/env python3
+"""Prints the table of docs/CONTRACTS.md that says which definitions a reader of demand 3's law has to believe, with their lines.
+
+Run from the project's root. `--check` compares it with the document and says where they differ (exit status 1)."""
+import re
+import sys
+
+TABLE = [
+    ("what is owed", "plans", "Built", ["Built", "Holding", "progress-of", "doable", "unit-number", "border-number",
+                                        "sample-number", "content-number", "content-at", "region-of", "edges-below",
+                                        "settled-at", "before-refused", "sum-below"]),
+    ("a sweep, a plan, a state", "plans", "Plan", ["Content", "Sweep", "Plan", "State", "nowhere", "begun", "fresh", "all-units",
+                                                   "found", "too-strict", "cells-done", "cell-in"]),
+    ("calls, and A", "plans", "Calls", ["samples-done", "possible", "sound", "admitted", "judged", "turn-of", "allowed", "Build"]),
+    ("what a turn does between two calls", "plans", "Plan", ["sampled", "with-region", "with-done", "closed", "after-sample",
+                                                            "swept", "beside", "put-in", "cell-unit", "next"]),
+    ("the same, of any units", "turns", "Turns", ["Next", "Said", "Turn", "ended", "spent", "turn"]),
+    ("our table's plan", "table_plans", "Tables", ["Engine", "engine-of", "Border", "corners-twice", "opens-for", "sweep-by",
+                                                  "table-by", "sweep-of", "f32-table"]),
+    ("a cell", "cell", "Cell", ["cell-point", "f32", "of-pixel", "cell-by"]),
+    ("the border", "border", "Border", ["before", "outside", "pixel", "pairs", "top-and-bottom", "left-and-right", "border",
+                                        "samples", "border-at"]),
+    ("edges and region", "border", "Edges", ["lowered", "raised", "widened", "edges-after", "mid", "doubled"]),
+    ("what is held", "distortion_table", "Held", ["Held", "held-state"]),
+]
+
+
+def lines_of(crate, name, wanted):
+    """The first and last line of each definition, comments above it aside."""
+    text = open(f"crates/{crate}/specs/{name}.antt", encoding="utf-8").read().split("\n")
+    found = {}
+    for i, line in enumerate(text):
+        m = re.match(r"( *)(?:abbrev |unfoldable )?pub (?:record |data )?([^\s:]+)", line)
+        if not m or m.group(2) not in wanted or line.lstrip().startswith("pub mod"):
+            continue
+        if m.group(2) in found:
+            continue
+        indent, j = len(m.group(1)), i + 1
+        while j < len(text) and text[j].strip() and (len(text[j]) - len(text[j].lstrip()) > indent
+                                                     or text[j].lstrip().startswith(m.group(2) + " ")
+                                                     or text[j].strip() in ("}", ")")):
+            j += 1
+        found[m.group(2)] = (i + 1, j)
+    missing = [w for w in wanted if w not in found]
+    if missing:
+        sys.exit(f"{crate}/{name}: no {missing}")
+    return [(w, *found[w]) for w in wanted]
+
+
+def table():
+    out = ["| | File | Definitions, with their lines |", "|---|---|---|"]
+    for what, crate, name, wanted in TABLE:
+        defs = ", ".join(f"`{w}` {a}-{b}" if a != b else f"`{w}` {a}" for w, a, b in lines_of(crate, name, wanted))
+        out.append(f"| {what} | {crate} specs/{name} | {defs} |")
+    return "\n".join(out)
+
+
+if __name__ == "__main__":
+    made = table()
+    if "--check" in sys.argv:
+        if made not in open("docs/CONTRACTS.md", encoding="utf-8").read():
+            sys.exit("docs/CONTRACTS.md has another table: run tools/believed.py and put it there")
+    else:
+        print(made)
