@@ -14,7 +14,7 @@ use lib.Ieee.Scale.{finite, overflow}
 use Rattle.exact.specs.Rounding.{Rounded, limit}
 use Rattle.exact.proofs.Rounding.{rounded}
 use Rattle.exact.proofs.Infinite.{stays-finite, goes-infinite}
-use Rattle.exact.proofs.Pattern.{unique, InUnits, in-units}
+use Rattle.exact.proofs.Pattern.{unique, InUnits, in-units, itself}
 use Rattle.exact.specs.Determined.{Determined}
 use Rattle.exact.proofs.is_finite.Reads as is-finite-contract
 use Rattle.exact.proofs.magnitude.Reads as magnitude-contract
@@ -105,6 +105,10 @@ rounding-monotone-below f a b c d B D h =
 -- Two values of a format with one sign and one size are one.
 pub value-unique : (f : Format) (x y : Float) (s : Bool) (a c : ℕ) → 0 < c → T (fits f x) → T (fits f y) → HasValue x s a c → HasValue y s a c → x ≡ y
 value-unique = unique
+
+-- A value of a format is rounded to itself.
+pub rounding-held : (f : Format) (s : Bool) (m : ℕ) (e : ℤ) → T (fits f (fin s m e)) → round f s (m * up e) (down e) ≡ fin s m e
+rounding-held = itself
 
 -- A finite value of a format is a whole number of its smallest value, 2 ^ -low: of at most prec binary digits, with zeros after them.
 pub value-in-units : (f : Format) (s : Bool) (m : ℕ) (e : ℤ) → T (fits f (fin s m e)) → InUnits f (fin s m e) s

@@ -1,4 +1,5 @@
 pub mod Determined
 pub mod F64
+pub mod Alike
 pub mod Fraction
 pub mod Rounding

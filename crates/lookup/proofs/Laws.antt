@@ -32,8 +32,7 @@ use Rattle.lookup.specs.Owed.{Apart, around, Answered}
 use Rattle.lookup.specs.Rows.{ahead, lookup-rows}
 use Rattle.lookup.proofs.Among.{cut}
 use Rattle.lookup.proofs.Steps.{taken, indices, inside-wide, inside-high}
-use Rattle.lookup.proofs.Zero.{same-finite}
-use Rattle.lookup.proofs.OnCell.{on, kept, first-of, both-finite}
+use Rattle.lookup.proofs.OnCell.{on, kept, same-finite, first-of, both-finite}
 use Rattle.lookup.proofs.lookup.Reads as lookup-contract
 
 -- ---- the contract permits one answer
