@@ -20,7 +20,7 @@ use Rattle.exact.specs.Fraction.{_≼_, _⊞_, over, whole, opposite, Within, e
 use Rattle.exact.proofs.Fractions.{value, over-proper, over-≼, ≼-≺-trans, ≈→≼, lt-≺, le-≼, within-same, exactly-proper}
 use Rattle.exact.proofs.Laws.{rounding-monotone}
 use Rattle.arctan.specs.Arctangent.{scale, unit, counted, back}
-use Rattle.arctan.proofs.Rounds.{plain, plain-finite, plain-exactly, value-plain, apart, over-≺, Rounds, round-near, scale-exact, unit-exact}
+use Rattle.arctan.proofs.Rounds.{plain, plain-finite, plain-exactly, value-plain, apart, over-≺, PlainNear, round-near, scale-exact, unit-exact}
 
 -- ---- a number that is not negative has no sign, or is -0
 
@@ -109,11 +109,11 @@ counted-near z f p lo hi = elim (no-sign z f p lo) [ inl q ↦ plain-counted z f
 
 -- ---- back: the product by 2 ^ -60 is exact, so it is as far off as the whole number's own rounding
 
-back-zero : Rounds (back 0) (over 128 (2 ^ 60)) (over 0 (2 ^ 60))
+back-zero : PlainNear (back 0) (over 128 (2 ^ 60)) (over 0 (2 ^ 60))
 unfolding back ofInt mul ofBits exactly over opposite _⊞_
 back-zero = record { plain = tt; near = record { not-above = record { holds = lit≤ tt }; not-below = record { holds = lit≤ tt } } }
 
-back-top : Rounds (back (2 ^ 61)) (over 128 (2 ^ 60)) (over (2 ^ 61) (2 ^ 60))
+back-top : PlainNear (back (2 ^ 61)) (over 128 (2 ^ 60)) (over (2 ^ 61) (2 ^ 60))
 unfolding back ofInt mul ofBits exactly over opposite _⊞_
 back-top = record { plain = tt; near = record { not-above = record { holds = lit≤ tt }; not-below = record { holds = lit≤ tt } } }
 
@@ -141,7 +141,7 @@ counted-in a c n u h =
     times' : n * c * 2 ^ 55 ≤ a * 1 * 2 ^ 55 + 2 ^ 62 * (c * 1) → n * (c * u) * u ≤ a * u * u + 128 * (c * u * u)
     times' h = let l : n * c ≤ a + 128 * c = omega arith in omega (arith, mul-le-mul-right (u * u) l)
 
-back-between : (n : ℕ) → 0 < n → n < 2 ^ 61 → Rounds (back n) (over 128 (2 ^ 60)) (over n (2 ^ 60))
+back-between : (n : ℕ) → 0 < n → n < 2 ^ 61 → PlainNear (back n) (over 128 (2 ^ 60)) (over n (2 ^ 60))
 unfolding back ofInt
 back-between n lo hi =
     let w = round binary64 false n 1 in
@@ -157,8 +157,8 @@ back-between n lo hi =
     less n h = omega arith
 
 -- up to 2 ^ 61 at most 128 units off
-pub back-near : (n : ℕ) → n ≤ 2 ^ 61 → Rounds (back n) (over 128 (2 ^ 60)) (over n (2 ^ 60))
+pub back-near : (n : ℕ) → n ≤ 2 ^ 61 → PlainNear (back n) (over 128 (2 ^ 60)) (over n (2 ^ 60))
 back-near n h = elim (eq-zero-or-pos n) [
-  | inl z ↦ subst (λ (n : ℕ). Rounds (back n) (over 128 (2 ^ 60)) (over n (2 ^ 60))) (sym z) back-zero
-  | inr p ↦ elim (eq-or-lt-of-le h) [ inl t ↦ subst (λ (n : ℕ). Rounds (back n) (over 128 (2 ^ 60)) (over n (2 ^ 60))) (sym t) back-top | inr l ↦ back-between n p l ]
+  | inl z ↦ subst (λ (n : ℕ). PlainNear (back n) (over 128 (2 ^ 60)) (over n (2 ^ 60))) (sym z) back-zero
+  | inr p ↦ elim (eq-or-lt-of-le h) [ inl t ↦ subst (λ (n : ℕ). PlainNear (back n) (over 128 (2 ^ 60)) (over n (2 ^ 60))) (sym t) back-top | inr l ↦ back-between n p l ]
 ]

@@ -9,6 +9,7 @@ use lib.IntN.{ℤ}
 use lib.Ieee.{Float, nan, inf, fin, binary64, up, down, level, fits, lt, le, eq, neg, ofBits}
 use lib.Ieee.Fits.{div-fits, neg-fits, down-pos, and-i}
 use lib.Ieee.Bits.{is-true}
+use Rattle.exact.proofs.Operations.{neg-finite}
 use Rattle.exact.proofs.Tests.{below-zero, plus-not-below, zero-not-below}
 use lib.Ieee.Scale.{finite}
 use Rattle.exact.specs.F64.{f64, _⊕_, _⊖_, _⊘_}
@@ -151,12 +152,6 @@ enough = record { holds = lit≤ tt }
 
 bounded : {a : Fraction} {r : Float} → Good a r → Angle false a r
 bounded g = record { number = g .0; within = within-wider (unit-proper 1129) enough (g .1) }
-
-pub neg-finite : (r : Float) → T (finite r) → T (finite (neg r))
-unfolding neg
-neg-finite nan t = t
-neg-finite (inf s) t = t
-neg-finite (fin s m e) t = tt
 
 turned : {a : Fraction} {r : Float} → Angle false a r → Angle true a (neg r)
 turned {a} {r} g = record { number = neg-finite r (g .number); within = rw (exactly-neg r) (within-opposite (g .within)) }

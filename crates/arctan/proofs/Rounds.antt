@@ -95,14 +95,14 @@ half-le t l h =
     more l t h = omega arith
 
 -- x is finite and has no sign, and lies within ε of v
-pub record Rounds (x : Float) (ε v : Fraction) : Type 0 where
+pub record PlainNear (x : Float) (ε v : Fraction) : Type 0 where
   pub plain : T (plain x)
   pub near : Within ε (exactly x) v
 
 small : (a c w l : ℕ) → 2 * a < w * c → w ≤ l → a < l * c
 small a c w l h k = omega (arith, mul-le-mul-right c k)
 
-pub round-near : (a c t : ℕ) → 0 < c → t ≤ 100 → 2 * a < 2 ^ t * c → Rounds (round binary64 false a c) (over (2 ^ t) (2 ^ 55)) (over a c)
+pub round-near : (a c t : ℕ) → 0 < c → t ≤ 100 → 2 * a < 2 ^ t * c → PlainNear (round binary64 false a c) (over (2 ^ t) (2 ^ 55)) (over a c)
 round-near a c t C t≤ h =
     let r = rounded binary64 false a c C in
     let f = rounding-finite binary64 false a c C (small a c (2 ^ t) (limit binary64) h (le-trans (pow-mono t≤) (lit≤ tt))) in
@@ -116,12 +116,12 @@ pub over-≺ : (a c b d : ℕ) → (over a c ≺ over b d) ↔ (a * d < b * c)
 unfolding over
 over-≺ a c b d = (λ h. omega arith, λ h. omega arith)
 
-as-rounded : (z : Float) (v : Fraction) (a c t : ℕ) → z ≡ round binary64 false a c → v ≈ over a c → 0 < c → t ≤ 100 → v ≺ over (2 ^ t) 2 → Rounds z (over (2 ^ t) (2 ^ 55)) v
+as-rounded : (z : Float) (v : Fraction) (a c t : ℕ) → z ≡ round binary64 false a c → v ≈ over a c → 0 < c → t ≤ 100 → v ≺ over (2 ^ t) 2 → PlainNear z (over (2 ^ t) (2 ^ 55)) v
 as-rounded z v a c t e q C t≤ h =
     let P = over-proper a c C in
     let l = over-≺ a c (2 ^ t) 2 .0 (≼-≺-trans P (≈→≼ (≈-sym q)) h) in
     let r = round-near a c t C t≤ (omega arith) in
-    subst (λ (x : Float). Rounds x (over (2 ^ t) (2 ^ 55)) v) (sym e) (record { plain = r .plain; near = within-sym (within-same P q (within-sym (r .near))) })
+    subst (λ (x : Float). PlainNear x (over (2 ^ t) (2 ^ 55)) v) (sym e) (record { plain = r .plain; near = within-sym (within-same P q (within-sym (r .near))) })
 
 -- ---- the sum
 
@@ -134,7 +134,7 @@ unfolding add
 sum-is (fin false m e) (fin false n d) p q = refl
 
 -- below 2 ^ t / 2 it is at most 2 ^ (t - 55) off: 2 ^ -53 below 2, and 2 ^ -52 below 4
-pub sum-near : (x y : Float) (t : ℕ) → T (plain x) → T (plain y) → t ≤ 100 → exactly x ⊞ exactly y ≺ over (2 ^ t) 2 → Rounds (x ⊕ y) (over (2 ^ t) (2 ^ 55)) (exactly x ⊞ exactly y)
+pub sum-near : (x y : Float) (t : ℕ) → T (plain x) → T (plain y) → t ≤ 100 → exactly x ⊞ exactly y ≺ over (2 ^ t) 2 → PlainNear (x ⊕ y) (over (2 ^ t) (2 ^ 55)) (exactly x ⊞ exactly y)
 sum-near x y t p q t≤ h =
     as-rounded (x ⊕ y) (exactly x ⊞ exactly y) (num x * den y + num y * den x) (den x * den y) t (sum-is x y p q)
     (rw (plain-exactly x p, plain-exactly y q) (over-sum (num x) (den x) (num y) (den y))) (mul-pos (den-pos x) (den-pos y)) t≤ h
@@ -158,7 +158,7 @@ difference-is (fin false m e) (fin false n d) p q h =
     cond-no (ltb a b) (round binary64 true (b - a) c) (round binary64 false (a - b) c) (le→nltb a b h)
 
 pub difference-near : (x y : Float) (t : ℕ) → T (plain x) → T (plain y) → t ≤ 100 → exactly y ≼ exactly x → exactly x ⊟ exactly y ≺ over (2 ^ t) 2
-    → Rounds (x ⊖ y) (over (2 ^ t) (2 ^ 55)) (exactly x ⊟ exactly y)
+    → PlainNear (x ⊖ y) (over (2 ^ t) (2 ^ 55)) (exactly x ⊟ exactly y)
 difference-near x y t p q t≤ o h =
     let l = in-order x y p q o in
     as-rounded (x ⊖ y) (exactly x ⊟ exactly y) (num x * den y - num y * den x) (den x * den y) t (difference-is x y p q l)
@@ -182,7 +182,7 @@ quotient-is (fin false m e) (fin false n d) p q h =
     differs n h e = omega arith
 
 pub quotient-near : (x y : Float) (t : ℕ) → T (plain x) → T (plain y) → t ≤ 100 → whole 0 ≺ exactly y → exactly x ⧄ exactly y ≺ over (2 ^ t) 2
-    → Rounds (x ⊘ y) (over (2 ^ t) (2 ^ 55)) (exactly x ⧄ exactly y)
+    → PlainNear (x ⊘ y) (over (2 ^ t) (2 ^ 55)) (exactly x ⧄ exactly y)
 quotient-near x y t p q t≤ o h =
     let n = num-above y q o in
     as-rounded (x ⊘ y) (exactly x ⧄ exactly y) (num x * den y) (num y * den x) t (quotient-is x y p q n)

@@ -13,7 +13,7 @@ use Rattle.arctan.specs.Series.{A, tangentBound, limit}
 use Rattle.arctan.specs.Owed.{Leads}
 use Rattle.arctan.specs.Arctangent.{arctangent}
 use Rattle.arctan.specs.Tangent.{near, close}
-use Rattle.arctan.proofs.Rounds.{plain, plain-finite, plain-low, above-plain, over-≺, Rounds, sum-near, difference-near}
+use Rattle.arctan.proofs.Rounds.{plain, plain-finite, plain-low, above-plain, over-≺, PlainNear, sum-near, difference-near}
 use Rattle.arctan.proofs.Pieces.{u, unit-proper}
 use Rattle.arctan.proofs.Near.{Good, at-zero, finite-zero, forward-finite, when-not-below, same-itself, not-below}
 
@@ -109,10 +109,10 @@ module _ (t theta : Float) (b : Between theta) (f : T (fits binary64 t)) (p : Pa
   flat : T (plain theta)
   flat = above-plain theta (b .number) (≺-≼-trans (exactly-proper theta) (over-≺ 0 1 1 (2 ^ 20) .1 (lit≤ tt)) (b .low))
 
-  sum : Rounds (theta ⊕ near) (over (2 ^ 2) (2 ^ 55)) (exactly theta ⊞ exactly near)
+  sum : PlainNear (theta ⊕ near) (over (2 ^ 2) (2 ^ 55)) (exactly theta ⊞ exactly near)
   sum = sum-near theta near 2 flat near-plain (lit≤ tt) (more-under (exactly-proper theta) (b .high))
 
-  difference : Rounds (theta ⊖ near) (over (2 ^ 2) (2 ^ 55)) (exactly theta ⊟ exactly near)
+  difference : PlainNear (theta ⊖ near) (over (2 ^ 2) (2 ^ 55)) (exactly theta ⊟ exactly near)
   difference = difference-near theta near 2 flat near-plain (lit≤ tt)
       (≼-trans (over-proper 1 (2 ^ 20) (lit≤ tt)) near-tiny (b .low)) (less-under (exactly-proper theta) (b .high))
 

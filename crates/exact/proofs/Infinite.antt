@@ -63,7 +63,7 @@ doubled p v w c e =
 under : (x y u p v w : ℕ) → 2 * x ≤ 2 * y + u → y < p → u ≤ v → 2 * p + v ≡ 2 * w → x < w
 under x y u p v w n h l e = omega arith
 
-has-value : (x : Float) (s : Bool) (a c : ℕ) → HasValue x s a c → T (finite x)
+pub has-value : (x : Float) (s : Bool) (a c : ℕ) → HasValue x s a c → T (finite x)
 has-value nan s a c h = h
 has-value (inf t) s a c h = h
 has-value (fin t m e) s a c h = tt

@@ -6,3 +6,4 @@ pub mod Rounding
 pub mod Infinite
 pub mod Laws
 pub mod Fractions
+pub mod Operations

@@ -238,12 +238,15 @@ unfolding fits
 unsigned f s zero e t = t
 unsigned f s (suc m) e t = t
 
+-- the units of a value are fewer than those of the least power of two past the largest number
+pub units-small : (f : Format) (s : Bool) (m : ℕ) (e : ℤ) (t : T (fits f (fin s m e))) → in-units f s m e t .digits * 2 ^ in-units f s m e t .zeros < 2 ^ (low f + suc (emax f))
+units-small f s m e t =
+    lt-of-mul-lt-mul-right (down e)
+    (lt-of-lt-of-le (subst (λ (x : ℕ). x < 2 ^ suc (emax f) * down e * 2 ^ low f) (in-units f s m e t .value .1) (mul-lt-mul-of-pos-right (in-range f m e (unsigned f s m e t)) (pow-pos (low f))))
+    (le-of-eq (mul-right-comm (2 ^ suc (emax f)) (down e) (2 ^ low f) ∙ ap (λ (x : ℕ). x * down e) (mul-comm (2 ^ suc (emax f)) (2 ^ low f) ∙ sym (pow-add 2 (low f) (suc (emax f)))))))
+
 pub itself : (f : Format) (s : Bool) (m : ℕ) (e : ℤ) → T (fits f (fin s m e)) → round f s (m * up e) (down e) ≡ fin s m e
 itself f s m e t =
     let u = in-units f s m e t in
-    let small : u .digits * 2 ^ u .zeros < 2 ^ (low f + suc (emax f)) =
-    lt-of-mul-lt-mul-right (down e)
-    (lt-of-lt-of-le (subst (λ (x : ℕ). x < 2 ^ suc (emax f) * down e * 2 ^ low f) (u .value .1) (mul-lt-mul-of-pos-right (in-range f m e (unsigned f s m e t)) (pow-pos (low f))))
-    (le-of-eq (mul-right-comm (2 ^ suc (emax f)) (down e) (2 ^ low f) ∙ ap (λ (x : ℕ). x * down e) (mul-comm (2 ^ suc (emax f)) (2 ^ low f) ∙ sym (pow-add 2 (low f) (suc (emax f))))))) in
     unique f (round f s (m * up e) (down e)) (fin s m e) s (m * up e) (down e) (down-pos e) (round-fits f s (m * up e) (down e)) t
-    (round-exact f s (m * up e) (down e) (u .digits) (u .zeros) (down-pos e) (u .few) small (u .value .1)) (refl, refl)
+    (round-exact f s (m * up e) (down e) (u .digits) (u .zeros) (down-pos e) (u .few) (units-small f s m e t) (u .value .1)) (refl, refl)

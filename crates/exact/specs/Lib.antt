@@ -3,3 +3,4 @@ pub mod F64
 pub mod Alike
 pub mod Fraction
 pub mod Rounding
+pub mod Operations
