@@ -78,10 +78,12 @@ pub record Between (theta : Float) : Type 0 where
   pub high : exactly theta ≼ limit
 
 -- what lies between a rounded sum and a rounded difference
-around : {a s d : Fraction} (theta n e : Fraction) → Proper s → Proper d → Proper e → a ≼ s → d ≼ a → Within e s (theta ⊞ n) → Within e d (theta ⊟ n) → Within (n ⊞ e) a theta
-around {a} {s} {d} theta n e ps pd pe h l v w = record {
-  not-above = move a theta (n ⊞ e) .1 (rw (⊞-assoc theta n e) at (≼-trans ps h (move s (theta ⊞ n) e .0 (v .not-above))));
-  not-below = move theta a (n ⊞ e) .1 (rw (⊞-left-comm n a e) at (move theta n (a ⊞ e) .0 (≼-trans (⊞-proper pd pe) (move (theta ⊟ n) d e .0 (w .not-below)) (⊞-mono l (≼-refl e)))));
+around : {a s d : Fraction} (theta n e : Fraction) → Proper a → Proper theta → Proper e → a ≼ s → d ≼ a → Within e s (theta ⊞ n) → Within e d (theta ⊟ n) → Within (n ⊞ e) a theta
+around {a} {s} {d} theta n e pa pt pe h l v w = record {
+  left = pa;
+  right = pt;
+  not-above = move a theta (n ⊞ e) .1 (rw (⊞-assoc theta n e) at (≼-trans (v .left) h (move s (theta ⊞ n) e .0 (v .not-above))));
+  not-below = move theta a (n ⊞ e) .1 (rw (⊞-left-comm n a e) at (move theta n (a ⊞ e) .0 (≼-trans (⊞-proper (w .left) pe) (move (theta ⊟ n) d e .0 (w .not-below)) (⊞-mono l (≼-refl e)))));
 }
 
 -- the bound covers the test, its rounding and the arctangent's own error
@@ -120,8 +122,8 @@ module _ (t theta : Float) (b : Between theta) (f : T (fits binary64 t)) (p : Pa
   guess-leads = record {
     number = p .number;
     side = rw at-zero at (le-≼ (f64 0) t finite-zero (p .number) .0 (p .side));
-    within = within-wider (⊞-proper (unit-proper 1129) (⊞-proper (exactly-proper near) step-proper)) in-all (within-trans (exactly-proper (arctangent t)) (within-sym (good .1))
-        (around (exactly theta) (exactly near) (over (2 ^ 2) (2 ^ 55)) (exactly-proper (theta ⊕ near)) (exactly-proper (theta ⊖ near)) step-proper
+    within = within-wider (⊞-proper (unit-proper 1129) (⊞-proper (exactly-proper near) step-proper)) in-all (within-trans (within-sym (good .1))
+        (around (exactly theta) (exactly near) (over (2 ^ 2) (2 ^ 55)) (exactly-proper (arctangent t)) (exactly-proper theta) step-proper
         (≺→≼ (lt-≺ (arctangent t) (theta ⊕ near) (good .0) (plain-finite (theta ⊕ near) (sum .plain)) .0 (p .under)))
         (≺→≼ (lt-≺ (theta ⊖ near) (arctangent t) (plain-finite (theta ⊖ near) (difference .plain)) (good .0) .0 (p .above)))
         (sum .near) (difference .near)));

@@ -17,7 +17,7 @@ use lib.Ieee.Scale.{finite}
 use Rattle.exact.specs.F64.{_⊕_, _⊖_, _⊗_, _⊘_, isZero}
 use Rattle.exact.specs.Fraction.{Fraction, Proper, _≼_, _≺_, _≈_, over, whole, opposite, _⊞_, _⊟_, _⊠_, _⧄_, signed, Within, exactly, halfUnits}
 use Rattle.exact.specs.Operations.{Rounds, Bounded, half-place, least-normal, Held, Unchanged}
-use Rattle.exact.proofs.Fractions.{value, over-proper, over-≼, over-≈, over-⊞, over-⊠, opposite-cong, opposite-⊞, opposite-opposite, signed-proper, opposite-proper, exactly-proper, ⊞-proper, ⊟-proper, ⊠-proper, ⧄-proper, ⊞-cong, ⊠-mono, ≼-trans, ≈→≼, ≈-sym, ≈-trans, within-sym, within-same, within-wider, near-finite, halfUnits-proper, exactly-neg}
+use Rattle.exact.proofs.Fractions.{value, over-proper, over-≼, over-≈, over-⊞, over-⊠, opposite-cong, opposite-⊞, opposite-opposite, signed-proper, opposite-proper, exactly-proper, ⊞-proper, ⊟-proper, ⊠-proper, ⧄-proper, ⊞-cong, ⊠-mono, ≼-trans, ≈→≼, ≈-sym, ≈-trans, within-to, within-wider, near-finite, halfUnits-proper, exactly-neg}
 use Rattle.exact.proofs.Rounding.{rounded}
 use Rattle.exact.proofs.Pattern.{in-units, units-small}
 use Rattle.exact.proofs.Infinite.{has-value}
@@ -209,9 +209,9 @@ rounds-near {x} {v} {B} P r f h n =
     let a = r .top in
     let c = r .bottom in
     let near = rounded binary64 s a c (r .some) in
-    let w = near-finite near (subst (λ (y : Float). T (finite y)) (r .is) f) in
+    let w = near-finite (r .some) near (subst (λ (y : Float). T (finite y)) (r .is) f) in
     let wide = within-wider (halfUnits-proper binary64 (near .last)) (last-place B a c (near .last) (r .some) (sized s v B a c P (r .value) h) n (near .place)) w in
-    subst (λ (y : Float). Within (B ⊠ half-place) (exactly y) v) (sym (r .is)) (within-sym (within-same (signed-proper s (over-proper a c (r .some))) (r .value) (within-sym wide)))
+    subst (λ (y : Float). Within (B ⊠ half-place) (exactly y) v) (sym (r .is)) (within-to P (≈-sym (r .value)) wide)
 
 -- So of each operation: where it gives a number, that lies within 2^-53 times B of the exact result, B being such a bound on the exact result.
 pub sum-near : (x y : Float) {B : Fraction} → T (finite (x ⊕ y)) → Bounded B (exactly x ⊞ exactly y) → least-normal ≼ B → Within (B ⊠ half-place) (exactly (x ⊕ y)) (exactly x ⊞ exactly y)

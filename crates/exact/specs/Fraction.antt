@@ -77,9 +77,11 @@ abbrev pub signed : Bool → Fraction → Fraction
 signed false a = a
 signed true a = opposite a
 
--- ---- nearness: a and b are at most ε apart
+-- ---- nearness: a and b are numbers, at most ε apart
 
 pub record Within (ε a b : Fraction) : Type 0 where
+  pub left : Proper a
+  pub right : Proper b
   pub not-above : a ⊟ b ≼ ε
   pub not-below : b ⊟ a ≼ ε
 
