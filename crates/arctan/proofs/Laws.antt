@@ -1,8 +1,9 @@
--- What a caller may hold of arctangent and tangent, stated over their definitions, which stay shut, and over their contracts. Assumes nothing.
+-- What a caller may hold of arctangent and tangent without looking into their definitions, and of their contracts. Assumes nothing.
 use mathlib.Core.Path.{_≡_, refl, sym, ap, _∙_, subst}
 use mathlib.Core.Logic.{_⊎_, inl, inr, _↔_}
 use mathlib.Core.Bool.{Bool, true, false, not, cond}
 use Prim.Native.Nat.{ℕ, zero, suc, _*_}
+use native.Mathlib.Omega.{arith}
 use lib.Dec.{T}
 use lib.IntN.{ℤ}
 use lib.Ieee.{Float, nan, inf, fin, binary64, up, down, fits, neg, lt, le, eq}
@@ -11,7 +12,7 @@ use Rattle.exact.specs.F64.{magnitude}
 use Rattle.exact.specs.Fraction.{Fraction, over, _≼_, _≺_}
 use Rattle.exact.proofs.Fractions.{≼-or-≺}
 use Rattle.arctan.specs.Series.{Arctangent, limit}
-use Rattle.arctan.specs.Owed.{Answered, Tangent, falling}
+use Rattle.arctan.specs.Owed.{slope-number, Past, Answered, Tangent, falling}
 use Rattle.arctan.specs.Tangent.{steep, limitEnd, tangent}
 use Rattle.arctan.specs.declared.Slope.{Slope}
 use Rattle.arctan.specs.declared.Slope.the-variants.{Is, TooSteep}
@@ -88,6 +89,16 @@ tangent-refused-past s m e f = (λ r. past r (≼-or-≺ a limit), λ h. subst (
     past : tangent (fin s m e) ≡ TooSteep → (a ≼ limit) ⊎ (limit ≺ a) → limit ≺ a
     past r (inl h) = absurd (subst (λ (x : Slope). Answered true s a x) r (subst (λ (t : Bool). Answered t s a (tangent (fin s m e))) (at-most h) (tangent-near (fin s m e) f)))
     past r (inr h) = h
+
+ten : (r : Slope) → slope-number r ≡ 10 → r ≡ TooSteep
+ten (Is t) h = absurd (omega arith)
+ten TooSteep h = refl
+
+-- So the number told is 10 exactly of an angle that is a number past 3/2 in size, and 0 of every other.
+pub tangent-number : (theta : Float) → T (fits binary64 theta) → (slope-number (tangent theta) ≡ 10) ↔ Past theta
+tangent-number nan f = (λ h. absurd (omega (arith, rw tangent-nan at h)), λ h. absurd h)
+tangent-number (inf s) f = (λ h. absurd (omega (arith, rw (tangent-infinite s) at h)), λ h. absurd h)
+tangent-number (fin s m e) f = let past = tangent-refused-past s m e f in (λ h. past .0 (ten (tangent (fin s m e)) h), λ h. ap slope-number (past .1 h))
 
 both-signs : (s : Bool) (t : Float) → cond (not s) (neg t) t ≡ neg (cond s (neg t) t)
 both-signs true t = sym (twice-turned t)

@@ -1,4 +1,5 @@
--- The tangent as the code works it out. It is shut to other crates: they know it by its laws (proofs/Laws.antt), above all that the series leads back from it. Definitions only.
+-- The tangent as the code works it out, so that its contract can name one answer. No other crate unfolds what stands here:
+-- they know it by its laws (proofs/Laws.antt), above all that the series leads back from it. Definitions only.
 use mathlib.Core.Bool.{Bool, false, cond}
 use Prim.Native.Nat.{ℕ, zero, suc, _+_, _^_}
 use lib.IntN.{pos}

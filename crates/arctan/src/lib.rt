@@ -238,8 +238,8 @@ fn steep(theta: f64) -> f64
 // The largest angle that has a tangent here.
 const LIMIT: f64 = 1.5;
 
-// The tangent of theta, for an angle of at most the limit in size; a larger one is refused with the number 10. A NaN and
-// the infinities give a NaN, and a zero itself.
+// The tangent of theta, for an angle of at most the limit in size; a larger one is too steep, refusal 10. A NaN and the
+// infinities give a NaN, and a zero itself.
 pub fn tangent(theta: f64) -> Slope
     ensures is { λ r. ⌜ r ≡ tangent theta ⌝ }
     ensures near { λ r. ⌜ Tangent theta r ⌝ }
