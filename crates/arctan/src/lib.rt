@@ -14,7 +14,7 @@ ghost use Rattle.arctan.specs.Arctangent.{Countable, counted, angle, bac
 ghost use Rattle.arctan.specs.Tangent.{close, sine, cosine, grid, digits, halved, found, steep, tangent};
 ghost use Rattle.arctan.specs.Owed.{Tangent};
 
-// The odd reciprocals 1, 1/3, 1/5, .., 1/47, counted in 2^-60 and cut.
+// The odd reciprocals 1, 1/3, 1/5, .., 1/47, counted in 2^-60 and cut: 2^60 / (2k + 1).
 const RECIPROCALS: [u64; 24] = [
     1152921504606846976,
     384307168202282325,
