@@ -26,7 +26,7 @@ abbrev pub falling : Slope → Slope
 falling (Is t) = Is (neg t)
 falling TooSteep = TooSteep
 
--- t is a number that has the sign s or is zero, and A leads back from its size to within the bound of the angle's size a
+-- t is a number that has the sign s or is zero, and A leads from its size back to within the bound of the angle's, a
 pub record Leads (s : Bool) (a : Fraction) (t : Float) : Type 0 where
   pub number : T (finite t)
   pub side : whole 0 ≼ signed s (exactly t)

@@ -1,4 +1,5 @@
--- Fractions of whole numbers, exactly: what a bound on a rounded number is stated in. An operator in a box is the exact operation, and rounds nothing. Definitions only.
+-- Fractions of whole numbers, exactly: what a bound on a rounded number is stated in. An operator in a box is the exact
+-- operation, and rounds nothing. Definitions only.
 use mathlib.Core.Path.{_≡_}
 use mathlib.Core.Bool.{Bool, true, false}
 use Prim.Native.Nat.{ℕ, zero, suc, _+_, _-_, _*_, _^_, _≤_, _<_}

@@ -21,7 +21,7 @@ use Rattle.exact.proofs.Fractions.{over-≼, over-≈, lt-≺, eq-≈, ≈-tran
 use Rattle.lens.specs.Constants.{zeros}
 use Rattle.lens.specs.Finite.{all-finite}
 use Rattle.region.specs.Size.{float}
-use Rattle.lookup.specs.Lookup.{outside, whole-part, fraction, beside, spot, between, blended, cell, number-at}
+use Rattle.lookup.specs.Lookup.{outside, whole-part, fraction, neighbour, spot, between, blended, cell, number-at}
 use Rattle.lookup.specs.Owed.{around, Same}
 use Rattle.lookup.proofs.Among.{float-finite, float-exactly}
 use Rattle.lookup.proofs.Steps.{first-finite, rest-finite}
@@ -187,12 +187,12 @@ module _ (table : List Float) (held : (n : ℕ) → T (fits binary32 (getD table
   cell-fits p q = held (2 * (q * width + p) + k)
 
   from : (p q : ℕ) → Float
-  from p q = blended (cell table width k p q) (cell table width k (beside p width) q) (cell table width k p (beside q height)) (cell table width k (beside p width) (beside q height)) (fraction i) (fraction j)
+  from p q = blended (cell table width k p q) (cell table width k (neighbour p width) q) (cell table width k p (neighbour q height)) (cell table width k (neighbour p width) (neighbour q height)) (fraction i) (fraction j)
 
   pub kept : all-finite (around table width height u v k) ≡ true → Same (cell table width k u v) (number-at table width k (spot i width) (spot j height))
   unfolding number-at spot from
   kept h =
       let c = cell table width k in
-      let there = first-of-all (c u v) (c (beside u width) v) (c u (beside v height)) (c (beside u width) (beside v height)) (fraction i) (fraction j) (cell-fits u v) (cell-fits (beside u width) v) (cell-fits u (beside v height)) (cell-fits (beside u width) (beside v height)) h (across .rest) (down .rest) in
+      let there = first-of-all (c u v) (c (neighbour u width) v) (c u (neighbour v height)) (c (neighbour u width) (neighbour v height)) (fraction i) (fraction j) (cell-fits u v) (cell-fits (neighbour u width) v) (cell-fits u (neighbour v height)) (cell-fits (neighbour u width) (neighbour v height)) h (across .rest) (down .rest) in
       let along : Same (c u v) (from (whole-part i) v) = subst (λ (p : ℕ). Same (c u v) (from p v)) (sym (across .part)) there in
       subst (λ (q : ℕ). Same (c u v) (from (whole-part i) q)) (sym (down .part)) along

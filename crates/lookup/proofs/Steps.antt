@@ -24,21 +24,21 @@ use Rattle.region.specs.declared.Increments.{Increments}
 use Rattle.region.specs.declared.Region.{Region}
 use Rattle.region.proofs.Size.{is-sized}
 use Rattle.lookup.specs.Asked.{Number, Inside, Whole, Reaches, Taken}
-use Rattle.lookup.specs.Lookup.{index, outside, spot, whole-part, pixel-at, looked-up, spread, given}
+use Rattle.lookup.specs.Lookup.{index, outside, spot, whole-part, pixel-at, looked-up, spread, admitted}
 use Rattle.lookup.proofs.Among.{cut, steps, index-number}
 
 -- ---- 4, 6 and 7, by what the tests say
 
-pub given-so : (places : ℕ) (region : Region) (width height : ℕ) (point : Point) {f g s m : Bool}
+pub admitted-so : (places : ℕ) (region : Region) (width height : ℕ) (point : Point) {f g s m : Bool}
     → f ≡ not (all-finite (four region)) → g ≡ not (all-finite (point .0 ∷ point .1 ∷ [])) → s ≡ not (sized width height) → m ≡ eqb places (2 * (width * height))
-    → cond (f || g) (call.Refused NotFinite) (cond s (call.Refused WrongSize) (cond m call.Taken (call.Refused WrongLength))) ≡ given places region width height point
-unfolding given
-given-so places region width height point f g s m = rw (f, g, s, m) refl
+    → cond (f || g) (call.Refused NotFinite) (cond s (call.Refused WrongSize) (cond m call.Taken (call.Refused WrongLength))) ≡ admitted places region width height point
+unfolding admitted
+admitted-so places region width height point f g s m = rw (f, g, s, m) refl
 
 -- ---- a call that they leave
 
-pub taken : (places : ℕ) (region : Region) (width height : ℕ) (point : Point) → given places region width height point ≡ call.Taken → Taken places region width height point
-unfolding given
+pub taken : (places : ℕ) (region : Region) (width height : ℕ) (point : Point) → admitted places region width height point ≡ call.Taken → Taken places region width height point
+unfolding admitted
 taken places region width height point =
     go (all-finite (four region)) refl (all-finite (point .0 ∷ point .1 ∷ [])) refl (sized width height) refl (eqb places (2 * (width * height))) refl
   where

@@ -1,4 +1,5 @@
--- The rows of the refusal table (docs/RULES.md, 5.1) that a lookup can meet, in the order they are tried. The laws hold it to them. Definitions only.
+-- The rows of the refusal table (docs/RULES.md, 5.1) that a lookup can meet, in the order they are tried. The laws hold
+-- it to them. Definitions only.
 use mathlib.Core.Bool.{not, _&&_, _||_}
 use mathlib.Core.List.{List, [], _∷_, _++_}
 use Prim.Native.Nat.{ℕ, _*_}

@@ -1,11 +1,11 @@
-// The pixel at a point between the cells of a lens table. It is ours: the Rust's lookup interpolates in f32, with other bits.
+// The pixel at a point between the cells of a lens table. It is ours: the Rust's works in f32, with other bits.
 ghost use mathlib.Core.Path.{_≡_};
 ghost use Prim.Native.Nat.{_+_, _*_, _<_};
 ghost use lib.Dec.{eqb};
 ghost use lib.ListN.{length};
 ghost use Rattle.lens.specs.Distorted.{told-pixel};
 ghost use Rattle.region.specs.Size.{Sized};
-ghost use Rattle.lookup.specs.Lookup.{index, outside, beside, spot, between, blended, cell, number-at, pixel-at, looked-up, spread, given, lookup};
+ghost use Rattle.lookup.specs.Lookup.{index, outside, neighbour, spot, between, blended, cell, number-at, pixel-at, looked-up, spread, admitted, lookup};
 ghost use Rattle.lookup.specs.Asked.{Number, Inside, Reaches, Whole, Taken};
 use lens::Distorted;
 use lens::Judgement;
@@ -14,7 +14,8 @@ use lens::Point;
 use lens::Refusal;
 use region::Region;
 
-// Where an index lies, across or down: the cell of its whole part, that cell's neighbour, and how far it is from the one to the other.
+// Where an index lies, across or down: the cell of its whole part, that cell's neighbour, and how far it is from the
+// one to the other.
 struct Spot {
     first: usize,
     second: usize,
@@ -40,10 +41,10 @@ fn outside(i: f64, cells: usize) -> bool
     }
 }
 
-// The neighbour of cell n: the next, or the last.
-fn beside(n: usize, cells: usize) -> usize
+// The cell after cell n; after the last one that cell itself.
+fn neighbour(n: usize, cells: usize) -> usize
     requires { ⌜ n < cells ⌝ }
-    ensures { λ r. ⌜ r ≡ beside n cells ⌝ }
+    ensures { λ r. ⌜ r ≡ neighbour n cells ⌝ }
 {
     if n + 1 < cells { n + 1 } else { cells - 1 }
 }
@@ -56,7 +57,7 @@ fn spot_of(i: f64, cells: usize) -> Spot
     let first = std::num::truncating_f64_to_u64(i) as usize;
     Spot {
         first,
-        second: beside(first, cells),
+        second: neighbour(first, cells),
         part: i - region::float(first),
     }
 }
@@ -68,7 +69,7 @@ fn between(c: f64, d: f64, a: f64) -> f64
     c + a * (d - c)
 }
 
-// Between four numbers: across on both rows, then downwards.
+// Among four numbers: across in each row, and from what the upper row gives to what the lower does.
 fn blended(c00: f64, c10: f64, c01: f64, c11: f64, a: f64, b: f64) -> f64
     ensures { λ r. ⌜ r ≡ blended c00 c10 c01 c11 a b ⌝ }
 {
@@ -150,8 +151,8 @@ fn measured(places: usize, width: usize, height: usize) -> bool
 }
 
 // 4, then 6, then 7.
-fn given(places: usize, region: Region, width: usize, height: usize, point: Point) -> Judgement
-    ensures { λ r. ⌜ r ≡ given places region width height point ⌝ }
+fn admitted(places: usize, region: Region, width: usize, height: usize, point: Point) -> Judgement
+    ensures { λ r. ⌜ r ≡ admitted places region width height point ⌝ }
 {
     if !region::finite_region(region) {
         return Judgement::Refused(Refusal::NotFinite);
@@ -173,7 +174,7 @@ fn given(places: usize, region: Region, width: usize, height: usize, point: Poin
 pub fn lookup(table: &[f32], region: Region, width: usize, height: usize, point: Point) -> Distorted
     ensures { λ r. ⌜ told-pixel r ≡ told-pixel (lookup (now (table .entry)) region width height point) ⌝ }
 {
-    match given(table.len(), region, width, height, point) {
+    match admitted(table.len(), region, width, height, point) {
         Judgement::Refused(refusal) => Distorted::Refused(refusal),
         Judgement::Taken => spread(table, region, width, height, point),
     }
