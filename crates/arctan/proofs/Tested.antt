@@ -1,6 +1,6 @@
 -- A guess that passes its test lies within 2 ^ -44 of the angle (`guess-leads`): between theta - 2 ^ -46 and theta + 2 ^ -46, each rounded once, lies its arctangent. Assumes nothing.
 use mathlib.Core.Path.{_≡_, refl, sym, subst}
-use mathlib.Core.Bool.{Bool, true, false, cond, false≢true}
+use mathlib.Core.Bool.{Bool, true, false, _&&_, false≢true}
 use Prim.Native.Nat.{zero, suc, _^_}
 use lib.Dec.{T, lit≤}
 use lib.Ieee.{Float, nan, inf, fin, binary64, fits, lt, le, eq, ofBits}
@@ -36,7 +36,7 @@ arctangent-good x f n h =
     (forward-finite x f n (rw at-zero at (le-≼ (f64 0) x finite-zero n .0 h)))
 
 -- ---- what the test says
-both-true : (b c : Bool) → cond b c false ≡ true → (b ≡ true) × (c ≡ true)
+both-true : (b c : Bool) → (b && c) ≡ true → (b ≡ true) × (c ≡ true)
 both-true true c h = (refl, h)
 both-true false c h = absurd (false≢true h)
 
@@ -52,10 +52,10 @@ holds e = subst T (sym e) tt
 pub passed : (t theta : Float) → close t theta ≡ true → Passed t theta
 unfolding close
 passed t theta h =
-    let a = both-true (finite t) (cond (le (f64 0) t) (cond (lt (theta ⊖ near) (arctangent t)) (lt (arctangent t) (theta ⊕ near)) false) false) h in
-    let b = both-true (le (f64 0) t) (cond (lt (theta ⊖ near) (arctangent t)) (lt (arctangent t) (theta ⊕ near)) false) (a .1) in
-    let c = both-true (lt (theta ⊖ near) (arctangent t)) (lt (arctangent t) (theta ⊕ near)) (b .1) in
-    record { number = holds (a .0); side = holds (b .0); above = holds (c .0); under = holds (c .1) }
+    let c = both-true (finite t && le (f64 0) t && lt (theta ⊖ near) (arctangent t)) (lt (arctangent t) (theta ⊕ near)) h in
+    let b = both-true (finite t && le (f64 0) t) (lt (theta ⊖ near) (arctangent t)) (c .0) in
+    let a = both-true (finite t) (le (f64 0) t) (b .0) in
+    record { number = holds (a .0); side = holds (a .1); above = holds (b .1); under = holds (c .1) }
 
 -- ---- where the tests stand
 near-plain : T (plain near)

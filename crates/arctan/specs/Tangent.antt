@@ -1,6 +1,6 @@
 -- The tangent as the code works it out, so that its contract can name one answer. No other crate unfolds what stands
 -- here: they know it by its laws (proofs/Laws.antt), above all that the series leads back from it. Definitions only.
-use mathlib.Core.Bool.{Bool, false, cond}
+use mathlib.Core.Bool.{Bool, cond, _&&_}
 use Prim.Native.Nat.{ℕ, zero, suc, _+_, _^_}
 use lib.IntN.{pos}
 use lib.Ieee.{Float, nan, binary64, neg, lt, le, ofInt}
@@ -16,7 +16,7 @@ near = f64 0x3d10_0000_0000_0000
 
 -- t is a number that is not negative, and its arctangent lies between theta - 2 ^ -46 and theta + 2 ^ -46
 unfoldable pub close : Float → Float → Bool
-close t theta = cond (finite t) (cond (le (f64 0) t) (cond (lt (theta ⊖ near) (arctangent t)) (lt (arctangent t) (theta ⊕ near)) false) false) false
+close t theta = finite t && le (f64 0) t && lt (theta ⊖ near) (arctangent t) && lt (arctangent t) (theta ⊕ near)
 
 -- ---- the guess: the sine over the cosine, each by the first terms of its series. Nothing rests on it: it is tested.
 unfoldable pub sine : Float → Float

@@ -155,13 +155,9 @@ const NEAR: f64 = 1.4210854715202004e-14;
 fn close(t: f64, theta: f64) -> bool
     ensures { λ r. ⌜ r ≡ close t theta ⌝ }
 {
-    if exact::is_finite(t) {
-        if 0.0 <= t {
-            let a = arctangent(t);
-            if theta - NEAR < a {
-                return a < theta + NEAR;
-            }
-        }
+    if exact::is_finite(t) && 0.0 <= t {
+        let a = arctangent(t);
+        return theta - NEAR < a && a < theta + NEAR;
     }
     false
 }

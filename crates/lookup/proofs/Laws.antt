@@ -2,7 +2,7 @@
 use mathlib.Core.Path.{_≡_, refl, sym, _∙_}
 use mathlib.Core.Logic.{_↔_}
 use mathlib.Core.Bool.{Bool, true, false, not, cond, _||_, _&&_, true≢false, false≢true}
-use mathlib.Core.List.{List, [], _∷_}
+use mathlib.Core.List.{List}
 use Prim.Native.Nat.{ℕ, _+_, _-_, _*_, _<_}
 use native.Mathlib.Nat.{min-le-right}
 use native.Mathlib.Omega.{arith}
@@ -113,7 +113,7 @@ module _ (table : List Float) (region : Region) (width height : ℕ) (point : Po
       let by = increments region width height in
       let pixel = pixel-at table width (spot i width) (spot j height) in
       in-order
-      (not (all-finite (four region)) || not (all-finite (point .0 ∷ point .1 ∷ [])))
+      (not (all-finite (four region)) || not (finite (point .0) && finite (point .1)))
       (sized width height)
       (eqb (length table) (2 * (width * height)))
       (flat (by .0) || flat (by .1))
@@ -130,7 +130,7 @@ module _ (table : List Float) (region : Region) (width height : ℕ) (point : Po
       let pixel = pixel-at table width (spot i width) (spot j height) in
       rw lookup-number
       (nine
-      (not (all-finite (four region)) || not (all-finite (point .0 ∷ point .1 ∷ [])))
+      (not (all-finite (four region)) || not (finite (point .0) && finite (point .1)))
       (sized width height)
       (eqb (length table) (2 * (width * height)))
       (flat (by .0) || flat (by .1))
@@ -144,7 +144,7 @@ module _ (table : List Float) (region : Region) (width height : ℕ) (point : Po
   judged h =
       let by = increments region width height in
       passed
-      (not (all-finite (four region)) || not (all-finite (point .0 ∷ point .1 ∷ [])))
+      (not (all-finite (four region)) || not (finite (point .0) && finite (point .1)))
       (sized width height)
       (eqb (length table) (2 * (width * height)))
       (flat (by .0) || flat (by .1))

@@ -1,9 +1,10 @@
 -- Lookup: the pixel at a point between the cells of a table. Definitions only.
-use mathlib.Core.Bool.{Bool, not, cond, _||_}
-use mathlib.Core.List.{List, [], _∷_}
+use mathlib.Core.Bool.{Bool, not, cond, _&&_, _||_}
+use mathlib.Core.List.{List}
 use Prim.Native.Nat.{ℕ, _+_, _-_, _*_, min}
 use lib.Dec.{eqb}
 use lib.Ieee.{Float, nan, lt, toUnsigned}
+use lib.Ieee.Scale.{finite}
 use lib.ListN.{length, getD}
 use Rattle.exact.specs.F64.{_⊕_, _⊖_, _⊗_, _⊘_}
 use Rattle.lens.specs.Constants.{zeros}
@@ -102,7 +103,7 @@ spread table region width height point =
 -- and first of all 4, 6 and 7, of a table with so many places
 unfoldable pub admitted : ℕ → Region → ℕ → ℕ → Point → Judgement
 admitted places region width height point =
-    cond (not (all-finite (four region)) || not (all-finite (point .0 ∷ point .1 ∷ []))) (call.Refused NotFinite)
+    cond (not (all-finite (four region)) || not (finite (point .0) && finite (point .1))) (call.Refused NotFinite)
     (cond (not (sized width height)) (call.Refused WrongSize)
     (cond (eqb places (2 * (width * height))) call.Taken (call.Refused WrongLength)))
 

@@ -19,7 +19,7 @@ use Rattle.lookup.specs.Lookup.{index-across, index-down, outside, spot,
 abbrev pub ahead : ℕ → Region → ℕ → ℕ → Point → List Row
 ahead places region width height point =
     let by = increments region width height in
-    (4 when not (all-finite (four region)) || not (all-finite (point .0 ∷ point .1 ∷ [])))
+    (4 when not (all-finite (four region)) || not (finite (point .0) && finite (point .1)))
     ∷ (6 when not (sized width height))
     ∷ (7 when not (eqb places (2 * (width * height))))
     ∷ (8 when flat (by .0) || flat (by .1))

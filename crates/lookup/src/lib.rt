@@ -34,11 +34,7 @@ fn outside(i: f64, cells: usize) -> bool
     requires { ⌜ 0 < cells ⌝ }
     ensures { λ r. ⌜ r ≡ outside i cells ⌝ }
 {
-    if i < 0.0 {
-        true
-    } else {
-        region::float(cells - 1) < i
-    }
+    i < 0.0 || region::float(cells - 1) < i
 }
 
 // The cell after cell n; after the last one that cell itself.
@@ -115,10 +111,7 @@ fn looked_up(table: &[f32], width: usize, height: usize, i: f64, j: f64) -> Dist
     requires { ⌜ Whole (length (now table)) width height × Number i × Number j ⌝ }
     ensures { λ r. ⌜ r ≡ looked-up (now (table .entry)) width height i j ⌝ }
 {
-    if outside(i, width) {
-        return Distorted::Refused(Refusal::OutsideTable);
-    }
-    if outside(j, height) {
+    if outside(i, width) || outside(j, height) {
         return Distorted::Refused(Refusal::OutsideTable);
     }
     lens::finite_pixel(pixel_at(table, width, spot_of(i, width), spot_of(j, height)))
@@ -154,10 +147,7 @@ fn measured(places: usize, width: usize, height: usize) -> bool
 fn admitted(places: usize, region: Region, width: usize, height: usize, point: Point) -> Judgement
     ensures { λ r. ⌜ r ≡ admitted places region width height point ⌝ }
 {
-    if !region::finite_region(region) {
-        return Judgement::Refused(Refusal::NotFinite);
-    }
-    if !lens::all_finite(&[point.0, point.1]) {
+    if !region::finite_region(region) || !lens::both_finite(point.0, point.1) {
         return Judgement::Refused(Refusal::NotFinite);
     }
     if !region::sized(width, height) {

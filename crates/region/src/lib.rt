@@ -75,25 +75,18 @@ pub fn increments_of(region: Region, width: usize, height: usize) -> Increments
 fn flat(x: f64) -> bool
     ensures { λ r. ⌜ r ≡ flat x ⌝ }
 {
-    if exact::is_finite(x) { x <= 0.0 } else { false }
+    exact::is_finite(x) && x <= 0.0
 }
 
 // What is wrong with increments: 8, then 11.
 pub fn wrong(by: Increments) -> Judgement
     ensures { λ r. ⌜ verdict r ≡ verdict (wrong by) ⌝ }
 {
-    if flat(by.0) {
+    if flat(by.0) || flat(by.1) {
         return Judgement::Refused(Refusal::IncrementNotPositive);
     }
-    if flat(by.1) {
-        return Judgement::Refused(Refusal::IncrementNotPositive);
-    }
-    if exact::is_finite(by.0) {
-        if exact::is_finite(by.1) {
-            Judgement::Taken
-        } else {
-            Judgement::Refused(Refusal::AnswerNotFinite)
-        }
+    if lens::both_finite(by.0, by.1) {
+        Judgement::Taken
     } else {
         Judgement::Refused(Refusal::AnswerNotFinite)
     }
