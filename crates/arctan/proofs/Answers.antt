@@ -10,6 +10,7 @@ use lib.Ieee.Scale.{finite}
 use Rattle.exact.specs.F64.{magnitude, _⊘_}
 use Rattle.exact.specs.Fraction.{Fraction, over, signed, exactly, _≼_, _≺_}
 use Rattle.exact.proofs.Fractions.{over-proper, ≼-trans, ≺→≼, opposite-opposite, exactly-neg, within-sym, within-wider}
+use Rattle.exact.proofs.Operations.{neg-finite}
 use Rattle.exact.proofs.Tests.{below-zero, plus-not-below}
 use Rattle.arctan.specs.Arctangent.{tiny}
 use Rattle.arctan.specs.Series.{atMost, limit}
@@ -20,7 +21,7 @@ use Rattle.arctan.specs.declared.Slope.the-variants.{Is}
 use Rattle.arctan.proofs.Compared.{le-says, le-denies, below-tiny, from-tiny}
 use Rattle.arctan.proofs.Pieces.{unit-proper}
 use Rattle.arctan.proofs.Cases.{at-most, not-at-most}
-use Rattle.arctan.proofs.Near.{near-zero, neg-finite, zero-tiny, not-below, plus-not-negative, plus-held, at-plus}
+use Rattle.arctan.proofs.Near.{near-zero, zero-tiny, not-below, plus-not-negative, plus-held, at-plus}
 use Rattle.arctan.proofs.Choice.{steep-guess, steep-search, tangent-tiny, tangent-minus, tangent-plus, tangent-refused}
 use Rattle.arctan.proofs.Tested.{Between, bound, passed, guess-leads}
 use Rattle.arctan.proofs.Searched.{search-leads}

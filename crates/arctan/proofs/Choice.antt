@@ -1,6 +1,6 @@
 -- Which way a definition goes, by its tests: the tests of `close`, `halved`, `steep` and `tangent`. Assumes nothing.
-use mathlib.Core.Path.{_≡_, sym, ap, _∙_}
-use mathlib.Core.Bool.{Bool, true, false, cond}
+use mathlib.Core.Path.{_≡_, refl, sym, ap, _∙_}
+use mathlib.Core.Bool.{Bool, true, false, cond, _&&_}
 use Prim.Native.Nat.{ℕ, _+_}
 use lib.Ieee.{Float, nan, lt, le, neg}
 use lib.Ieee.Scale.{finite}
@@ -17,30 +17,10 @@ pub no-way : {X : Type 0} {b : Bool} (x y : X) → b ≡ false → cond b x y �
 no-way x y e = ap (λ (t : Bool). cond t x y) e
 
 -- ---- close
-module _ (t theta a : Float) (e : a ≡ arctangent t) (n : finite t ≡ true) (z : le (f64 0) t ≡ true) where
-  abbrev above : Bool
-  above = lt (theta ⊖ near) (arctangent t)
-
-  abbrev under : Bool
-  under = lt (arctangent t) (theta ⊕ near)
-
-  opened : close t theta ≡ cond above under false
-  unfolding close
-  opened = yes-way (cond (le (f64 0) t) (cond above under false) false) false n ∙ yes-way (cond above under false) false z
-
-  pub close-within : lt (theta ⊖ near) a ≡ true → lt a (theta ⊕ near) ≡ close t theta
-  close-within h = ap (λ (x : Float). lt x (theta ⊕ near)) e ∙ sym (opened ∙ yes-way under false (ap (λ (x : Float). lt (theta ⊖ near) x) (sym e) ∙ h))
-
-  pub close-below : lt (theta ⊖ near) a ≡ false → false ≡ close t theta
-  close-below h = sym (opened ∙ no-way under false (ap (λ (x : Float). lt (theta ⊖ near) x) (sym e) ∙ h))
-
-pub close-negative : (t theta : Float) → finite t ≡ true → le (f64 0) t ≡ false → false ≡ close t theta
+pub close-so : (t theta : Float) {n z l : Bool} {r : Float}
+    → n ≡ finite t → z ≡ le (f64 0) t → r ≡ arctangent t → l ≡ lt (theta ⊖ near) r → (n && z && l && lt r (theta ⊕ near)) ≡ close t theta
 unfolding close
-close-negative t theta n z = sym (yes-way _ false n ∙ no-way _ false z)
-
-pub close-infinite : (t theta : Float) → finite t ≡ false → false ≡ close t theta
-unfolding close
-close-infinite t theta n = sym (no-way _ false n)
+close-so t theta n z r l = rw (l, n, z, r) refl
 
 -- ---- halved
 pub halved-up : (low width : ℕ) (theta : Float) → le (arctangent (grid (low + width))) theta ≡ true → low + width ≡ halved low width theta

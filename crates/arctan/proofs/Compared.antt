@@ -10,7 +10,6 @@ use lib.Pow.{pow-add, pow-pos, shl-lt}
 use lib.Ieee.{Float, binary64, lt, le, ofBits, fits}
 use lib.Ieee.Scale.{finite}
 use lib.Ieee.Positive.{num, den, den-pos, value→cross}
-use Rattle.exact.specs.F64.{f64}
 use Rattle.exact.specs.Fraction.{_≼_, _≺_, over, whole, exactly}
 use Rattle.exact.proofs.Fractions.{whole-proper, exactly-proper, over-≼, ≼-or-≺, ≼-≺-trans, ≺-≼-trans, lt-≺, le-≼}
 use Rattle.exact.proofs.Pattern.{exponent-lt}

@@ -17,10 +17,10 @@ use lib.Ieee.Nearest.{div-same}
 use lib.Ieee.Positive.{num, den, den-pos}
 use Rattle.exact.specs.F64.{_⊗_}
 use Rattle.exact.specs.Fraction.{_≼_, _⊞_, over, whole, opposite, Within, exactly}
-use Rattle.exact.proofs.Fractions.{value, over-proper, over-≼, ≼-≺-trans, ≈→≼, lt-≺, le-≼, within-same, exactly-proper}
+use Rattle.exact.proofs.Fractions.{value, over-≼, ≼-≺-trans, ≈→≼, lt-≺, le-≼, within-same, exactly-proper}
 use Rattle.exact.proofs.Laws.{rounding-monotone}
 use Rattle.arctan.specs.Arctangent.{scale, unit, counted, back}
-use Rattle.arctan.proofs.Rounds.{plain, plain-finite, plain-exactly, value-plain, apart, over-≺, Rounds, round-near, scale-exact, unit-exact}
+use Rattle.arctan.proofs.Rounds.{plain, plain-finite, plain-exactly, value-plain, apart, together, over-≺, PlainNear, round-near, scale-exact, unit-exact}
 
 -- ---- a number that is not negative has no sign, or is -0
 
@@ -74,11 +74,11 @@ pub record Counted (z : Float) : Type 0 where
 -- -0 is counted 0
 zero-counted : Counted (fin true 0 (pos 0))
 unfolding counted toUnsigned mul ofBits lt exactly over opposite _⊞_
-zero-counted = record { above = tt; under = tt; most = lit≤ tt; near = record { not-above = record { holds = lit≤ tt }; not-below = record { holds = lit≤ tt } } }
+zero-counted = record { above = tt; under = tt; most = lit≤ tt; near = record { left = record { above = lit≤ tt }; right = record { above = lit≤ tt }; not-above = record { holds = lit≤ tt }; not-below = record { holds = lit≤ tt } } }
 
 -- s is n / d counted in 1 / u, cut
-cut-near : (n d s u : ℕ) → s * d ≤ n * u → n * u < s * d + d → Within (over 1 u) (over s u) (over n d)
-cut-near n d s u h k = apart 1 u s u n d .1 (omega (arith, mul-le-mul-right u h), omega (arith, mul-le-mul-right u k))
+cut-near : (n d s u : ℕ) → 0 < d → 0 < u → s * d ≤ n * u → n * u < s * d + d → Within (over 1 u) (over s u) (over n d)
+cut-near n d s u D U h k = together 1 u s u n d U D (omega (arith, mul-le-mul-right u h)) (omega (arith, mul-le-mul-right u k))
 
 -- with no sign
 plain-counted : (z : Float) → T (fits binary64 z) → T (plain z) → exactly z ≼ over 1 2 → Counted z
@@ -95,7 +95,7 @@ plain-counted z f p h =
       above = above-minus-one (z ⊗ scale) w;
       under = under-top (z ⊗ scale) (n * 2 ^ 60) d (den-pos z) t v;
       most = rw e (div-le-of-le-mul d (half n d l));
-      near = rw (e, plain-exactly z p) (cut-near n d (n * 2 ^ 60 / d) (2 ^ 60) (div-mul-le-self (n * 2 ^ 60) d) (lt-div-mul-add (den-pos z)));
+      near = rw (e, plain-exactly z p) (cut-near n d (n * 2 ^ 60 / d) (2 ^ 60) (den-pos z) (pow-pos 60) (div-mul-le-self (n * 2 ^ 60) d) (lt-div-mul-add (den-pos z)));
     }
   where
     few : (n d : ℕ) → n * 2 ≤ 1 * d → 0 < d → n * 2 ^ 60 < 2 ^ 64 * d
@@ -109,13 +109,13 @@ counted-near z f p lo hi = elim (no-sign z f p lo) [ inl q ↦ plain-counted z f
 
 -- ---- back: the product by 2 ^ -60 is exact, so it is as far off as the whole number's own rounding
 
-back-zero : Rounds (back 0) (over 128 (2 ^ 60)) (over 0 (2 ^ 60))
+back-zero : PlainNear (back 0) (over 128 (2 ^ 60)) (over 0 (2 ^ 60))
 unfolding back ofInt mul ofBits exactly over opposite _⊞_
-back-zero = record { plain = tt; near = record { not-above = record { holds = lit≤ tt }; not-below = record { holds = lit≤ tt } } }
+back-zero = record { plain = tt; near = record { left = record { above = lit≤ tt }; right = record { above = lit≤ tt }; not-above = record { holds = lit≤ tt }; not-below = record { holds = lit≤ tt } } }
 
-back-top : Rounds (back (2 ^ 61)) (over 128 (2 ^ 60)) (over (2 ^ 61) (2 ^ 60))
+back-top : PlainNear (back (2 ^ 61)) (over 128 (2 ^ 60)) (over (2 ^ 61) (2 ^ 60))
 unfolding back ofInt mul ofBits exactly over opposite _⊞_
-back-top = record { plain = tt; near = record { not-above = record { holds = lit≤ tt }; not-below = record { holds = lit≤ tt } } }
+back-top = record { plain = tt; near = record { left = record { above = lit≤ tt }; right = record { above = lit≤ tt }; not-above = record { holds = lit≤ tt }; not-below = record { holds = lit≤ tt } } }
 
 one-rounded : round binary64 false 1 1 ≡ fin false 1 (pos 0)
 unfolding round
@@ -130,10 +130,10 @@ from-one n h p = le-≼ (fin false 1 (pos 0)) (round binary64 false n 1) tt p .0
     up-to n h = omega arith
 
 -- a whole number and its rounding, both counted in 1 / u
-counted-in : (a c n u : ℕ) → Within (over (2 ^ 62) (2 ^ 55)) (over a c) (over n 1) → Within (over 128 u) (over a (c * u)) (over n u)
-counted-in a c n u h =
-    let k = apart (2 ^ 62) (2 ^ 55) a c n 1 .0 h in
-    apart 128 u a (c * u) n u .1 (times (k .0), times' (k .1))
+counted-in : (a c n u : ℕ) → 0 < c → 0 < u → Within (over (2 ^ 62) (2 ^ 55)) (over a c) (over n 1) → Within (over 128 u) (over a (c * u)) (over n u)
+counted-in a c n u C U h =
+    let k = apart (2 ^ 62) (2 ^ 55) a c n 1 h in
+    together 128 u a (c * u) n u (mul-pos C U) U (times (k .0)) (times' (k .1))
   where
     times : a * 1 * 2 ^ 55 ≤ n * c * 2 ^ 55 + 2 ^ 62 * (c * 1) → a * u * u ≤ n * (c * u) * u + 128 * (c * u * u)
     times h = let l : a ≤ n * c + 128 * c = omega arith in omega (arith, mul-le-mul-right (u * u) l)
@@ -141,7 +141,7 @@ counted-in a c n u h =
     times' : n * c * 2 ^ 55 ≤ a * 1 * 2 ^ 55 + 2 ^ 62 * (c * 1) → n * (c * u) * u ≤ a * u * u + 128 * (c * u * u)
     times' h = let l : n * c ≤ a + 128 * c = omega arith in omega (arith, mul-le-mul-right (u * u) l)
 
-back-between : (n : ℕ) → 0 < n → n < 2 ^ 61 → Rounds (back n) (over 128 (2 ^ 60)) (over n (2 ^ 60))
+back-between : (n : ℕ) → 0 < n → n < 2 ^ 61 → PlainNear (back n) (over 128 (2 ^ 60)) (over n (2 ^ 60))
 unfolding back ofInt
 back-between n lo hi =
     let w = round binary64 false n 1 in
@@ -149,16 +149,16 @@ back-between n lo hi =
     let v = unit-exact w (round-fits binary64 false n 1) (r .plain) (from-one n lo (plain-finite w (r .plain))) in
     record {
       plain = value-plain (w ⊗ unit) (num w) (den w * 2 ^ 60) v;
-      near = within-same (over-proper (num w) (den w * 2 ^ 60) (mul-pos (den-pos w) (pow-pos 60))) (value (w ⊗ unit) false (num w) (den w * 2 ^ 60) v)
-          (counted-in (num w) (den w) n (2 ^ 60) (rw (plain-exactly w (r .plain)) at (r .near)));
+      near = within-same (exactly-proper (w ⊗ unit)) (value (w ⊗ unit) false (num w) (den w * 2 ^ 60) v)
+          (counted-in (num w) (den w) n (2 ^ 60) (den-pos w) (pow-pos 60) (rw (plain-exactly w (r .plain)) at (r .near)));
     }
   where
     less : (n : ℕ) → n < 2 ^ 61 → 2 * n < 2 ^ 62 * 1
     less n h = omega arith
 
 -- up to 2 ^ 61 at most 128 units off
-pub back-near : (n : ℕ) → n ≤ 2 ^ 61 → Rounds (back n) (over 128 (2 ^ 60)) (over n (2 ^ 60))
+pub back-near : (n : ℕ) → n ≤ 2 ^ 61 → PlainNear (back n) (over 128 (2 ^ 60)) (over n (2 ^ 60))
 back-near n h = elim (eq-zero-or-pos n) [
-  | inl z ↦ subst (λ (n : ℕ). Rounds (back n) (over 128 (2 ^ 60)) (over n (2 ^ 60))) (sym z) back-zero
-  | inr p ↦ elim (eq-or-lt-of-le h) [ inl t ↦ subst (λ (n : ℕ). Rounds (back n) (over 128 (2 ^ 60)) (over n (2 ^ 60))) (sym t) back-top | inr l ↦ back-between n p l ]
+  | inl z ↦ subst (λ (n : ℕ). PlainNear (back n) (over 128 (2 ^ 60)) (over n (2 ^ 60))) (sym z) back-zero
+  | inr p ↦ elim (eq-or-lt-of-le h) [ inl t ↦ subst (λ (n : ℕ). PlainNear (back n) (over 128 (2 ^ 60)) (over n (2 ^ 60))) (sym t) back-top | inr l ↦ back-between n p l ]
 ]

@@ -17,9 +17,9 @@ use Rattle.arctan.proofs.Cases.{up-low, up-mid, A-up, A-past, P-proper,
 -- ---- two that are in order
 
 -- they are as far apart as their difference says
-apart : {a b : Fraction} → a ≼ b → Within (b ⊟ a) a b
+apart : {a b : Fraction} → Proper a → Proper b → a ≼ b → Within (b ⊟ a) a b
 unfolding _⊞_ opposite
-apart {a} {b} h = record { not-above = record { holds = omega (arith, mul-le-mul-right (a .under * b .under) (h .holds)) }; not-below = ≼-refl (b ⊟ a) }
+apart {a} {b} pa pb h = record { left = pa; right = pb; not-above = record { holds = omega (arith, mul-le-mul-right (a .under * b .under) (h .holds)) }; not-below = ≼-refl (b ⊟ a) }
 
 -- rest-low, the other way round
 in-order : {a b : Fraction} → whole 0 ≼ b ⊟ a → a ≼ b
@@ -118,10 +118,10 @@ add-up a b c = omega arith
 regroup : (a b c d : Fraction) → a ⊞ b ⊞ (c ⊞ d) ≡ a ⊞ c ⊞ (b ⊞ d)
 regroup a b c d = simp (⊞-assoc, ⊞-left-comm)
 
-joined : (m n : ℕ) {a b c x y z : Fraction} → Proper a → Proper b → Proper c → Proper y → Within (reach m a b) x y → Within (reach n b c) y z → Within (reach (m + n) a c) x z
-joined m n {a} {b} {c} pa pb pc py v w =
+joined : (m n : ℕ) {a b c x y z : Fraction} → Proper a → Proper b → Proper c → Within (reach m a b) x y → Within (reach n b c) y z → Within (reach (m + n) a c) x z
+joined m n {a} {b} {c} pa pb pc v w =
     within-wider (⊞-proper (reach-proper m pa pb) (reach-proper n pb pc))
-    (rw regroup (≈→≼ (⊞-cong (add-up a b c) (over-⊞ m n (2 ^ 60))))) (within-trans py v w)
+    (rw regroup (≈→≼ (⊞-cong (add-up a b c) (over-⊞ m n (2 ^ 60))))) (within-trans v w)
 
 -- a wider gap, and more units
 wider : {m n : ℕ} {a b x y : Fraction} (c d : Fraction) → Proper a → Proper b → b ⊟ a ≼ d ⊟ c → m ≤ n → Within (reach m a b) x y → Within (reach n c d) x y
@@ -150,7 +150,7 @@ G-growth : {a b c d : Fraction} → Proper a → Proper b → Proper c → Prope
 G-growth {a} {b} {c} {d} pa pb pc pd l h k g =
     let z = ⊠-proper (whole-proper 2) (⊟-proper pd pc) in
     within-wider (⊞-proper z z) (twice (d ⊟ c) (2 ^ 60))
-    (slope pa l (≼-trans pb h k) pb (≼-trans pa l h) k z (within-wider (⊟-proper pb pa) g (apart h)))
+    (slope pa l (≼-trans pb h k) pb (≼-trans pa l h) k z (within-wider (⊟-proper pb pa) g (apart pa pb h)))
 
 -- up to 2/5 A is G itself, and c and d are a and b
 once : {z : Fraction} → whole 0 ≼ z → z ≼ whole 2 ⊠ z
@@ -177,20 +177,20 @@ middle-proper px l = ⊟-proper P-proper (G-proper (quotient-proper px (thirds l
 middle-growth : {a b : Fraction} → Proper a → Proper b → over 2 5 ≼ a → a ≼ b → b ≼ whole 1 → Within (reach 0 a b) (middle a) (middle b)
 middle-growth {a} {b} pa pb l h k =
     let m = ≼-trans pa l h in
-    within-sym (within-rest P (G-growth (quotient-proper pb (thirds m)) (quotient-proper pa (thirds l)) pa pb
+    within-sym (within-rest P-proper (G-growth (quotient-proper pb (thirds m)) (quotient-proper pa (thirds l)) pa pb
     (quotient-low pb (thirds m) k) (q-falls pa pb (fifths-low l) h) (quotient-high pa (thirds l)) (q-near pa pb (fifths-low l) h)))
 
 -- ---- A up to 1, with the seam at 2/5
 
 two-fifths : Within (over 1 (2 ^ 60)) (G (over 2 5)) (middle (over 2 5))
 unfolding P G sum term power over _⊞_ _⊠_ _⧄_ opposite
-two-fifths = record { not-above = record { holds = lit≤ tt }; not-below = record { holds = lit≤ tt } }
+two-fifths = record { left = G-proper (over-proper 2 5 (lit≤ tt)); right = middle-proper (over-proper 2 5 (lit≤ tt)) (≼-refl (over 2 5)); not-above = record { holds = lit≤ tt }; not-below = record { holds = lit≤ tt } }
 
 past-fifths : {a b : Fraction} → Proper a → Proper b → whole 0 ≼ a → a ≼ over 2 5 → over 2 5 ≼ b → b ≼ whole 1 → Within (reach 1 a b) (G a) (middle b)
 past-fifths pa pb l h k m =
     let c = over-proper 2 5 (lit≤ tt) in
-    joined 0 1 pa c pb (G-proper c) (low-growth pa c l h (≼-refl (over 2 5)))
-    (joined 1 0 c c pb (middle-proper c (≼-refl (over 2 5))) (seam 1 (over 2 5) two-fifths) (middle-growth c pb (≼-refl (over 2 5)) k m))
+    joined 0 1 pa c pb (low-growth pa c l h (≼-refl (over 2 5)))
+    (joined 1 0 c c pb (seam 1 (over 2 5) two-fifths) (middle-growth c pb (≼-refl (over 2 5)) k m))
 
 pub up-growth : {a b : Fraction} → Proper a → Proper b → whole 0 ≼ a → a ≼ b → b ≼ whole 1 → Within (whole 4 ⊠ (b ⊟ a) ⊞ over 1 (2 ^ 60)) (upToOne a) (upToOne b)
 up-growth {a} {b} pa pb l h k = of (≼-or-≺ a (over 2 5)) (≼-or-≺ b (over 2 5))
@@ -211,7 +211,7 @@ high-growth {a} {b} pa pb l h =
     let m = ≼-trans pa l h in
     let ia = inverse-proper pa l in
     let ib = inverse-proper pb m in
-    within-sym (within-rest (P ⊞ P) (wider a b ib ia (inverse-near pa pb l h) (lit≤ tt) (up-growth ib ia (inverse-low pb m) (inverse-falls pa pb l h) (inverse-one pa l))))
+    within-sym (within-rest (⊞-proper P-proper P-proper) (wider a b ib ia (inverse-near pa pb l h) (lit≤ tt) (up-growth ib ia (inverse-low pb m) (inverse-falls pa pb l h) (inverse-one pa l))))
 
 -- A is proper: its denominator is above 0
 up-proper : {x : Fraction} → Proper x → x ≼ whole 1 → Proper (upToOne x)
@@ -227,22 +227,14 @@ A-proper {x} px = elim (≼-or-≺ x (whole 1)) [
 
 at-one : Within (over 0 (2 ^ 60)) (upToOne (whole 1)) (mirror (whole 1))
 unfolding upToOne P G sum term power over _⊞_ _⊠_ _⧄_ opposite
-at-one = record { not-above = record { holds = lit≤ tt }; not-below = record { holds = lit≤ tt } }
-
-up-one-proper : Proper (upToOne (whole 1))
-unfolding upToOne P G sum term power over _⊞_ _⊠_ _⧄_ opposite
-up-one-proper = record { above = lit≤ tt }
-
-mirror-one-proper : Proper (mirror (whole 1))
-unfolding upToOne P G sum term power over _⊞_ _⊠_ _⧄_ opposite
-mirror-one-proper = record { above = lit≤ tt }
+at-one = record { left = record { above = lit≤ tt }; right = record { above = lit≤ tt }; not-above = record { holds = lit≤ tt }; not-below = record { holds = lit≤ tt } }
 
 past-one : {a b : Fraction} → Proper a → Proper b → whole 0 ≼ a → a ≼ whole 1 → whole 1 ≼ b → Within (reach 2 a b) (upToOne a) (mirror b)
 past-one pa pb l h k =
     let o = whole-proper 1 in
     let e = ≼-refl (whole 1) in
-    joined 1 1 pa o pb up-one-proper (up-growth pa o l h e)
-    (joined 0 1 o o pb mirror-one-proper (seam 0 (whole 1) at-one) (high-growth o pb e k))
+    joined 1 1 pa o pb (up-growth pa o l h e)
+    (joined 0 1 o o pb (seam 0 (whole 1) at-one) (high-growth o pb e k))
 
 pub growth : {a b : Fraction} → Proper a → Proper b → whole 0 ≼ a → a ≼ b → Within (whole 4 ⊠ (b ⊟ a) ⊞ over 2 (2 ^ 60)) (A a) (A b)
 growth {a} {b} pa pb l h = of (≼-or-≺ a (whole 1)) (≼-or-≺ b (whole 1))

@@ -1,8 +1,9 @@
--- What a caller may hold of arctangent and tangent, stated over their definitions, which stay shut, and over their contracts. Assumes nothing.
+-- What a caller may hold of arctangent and tangent without looking into their definitions, and of their contracts. Assumes nothing.
 use mathlib.Core.Path.{_≡_, refl, sym, ap, _∙_, subst}
 use mathlib.Core.Logic.{_⊎_, inl, inr, _↔_}
 use mathlib.Core.Bool.{Bool, true, false, not, cond}
 use Prim.Native.Nat.{ℕ, zero, suc, _*_}
+use native.Mathlib.Omega.{arith}
 use lib.Dec.{T}
 use lib.IntN.{ℤ}
 use lib.Ieee.{Float, nan, inf, fin, binary64, up, down, fits, neg, lt, le, eq}
@@ -10,8 +11,8 @@ use Rattle.exact.specs.Determined.{Determined}
 use Rattle.exact.specs.F64.{magnitude}
 use Rattle.exact.specs.Fraction.{Fraction, over, _≼_, _≺_}
 use Rattle.exact.proofs.Fractions.{≼-or-≺}
-use Rattle.arctan.specs.Series.{Arctangent, limit}
-use Rattle.arctan.specs.Owed.{Answered, Tangent, falling}
+use Rattle.arctan.specs.Series.{Arctangent, atMost, limit}
+use Rattle.arctan.specs.Owed.{slope-number, Past, Answered, Tangent, falling}
 use Rattle.arctan.specs.Tangent.{steep, limitEnd, tangent}
 use Rattle.arctan.specs.declared.Slope.{Slope}
 use Rattle.arctan.specs.declared.Slope.the-variants.{Is, TooSteep}
@@ -61,7 +62,8 @@ arctangent-determined κ a s s' r r' p q = p .0 ∙ sym (q .0)
 
 -- ---- tangent
 
--- The series leads back: for every theta that an f64 can be, up to 3/2 in size, the tangent is a t of theta's sign with A of its size within 2 ^ -38 of theta's; past it there is none; a NaN and the infinities give NaN.
+-- The series leads back: for every theta that an f64 can be, up to 3/2 in size, the tangent is a t of theta's sign with
+-- A of its size within 2 ^ -38 of theta's; past it there is none; a NaN and the infinities give NaN.
 pub tangent-within : (theta : Float) → T (fits binary64 theta) → Tangent theta (tangent theta)
 tangent-within = tangent-near
 
@@ -80,20 +82,35 @@ tangent-zero s e = sym (tangent-tiny (fin s 0 e) (zero-tiny false e))
 
 -- It is refused exactly past 3/2.
 pub tangent-refused-past : (s : Bool) (m : ℕ) (e : ℤ) → T (fits binary64 (fin s m e)) → (tangent (fin s m e) ≡ TooSteep) ↔ (limit ≺ over (m * up e) (down e))
-tangent-refused-past s m e f = (λ r. past r (≼-or-≺ a limit), λ h. subst (λ (t : Bool). Answered t s a (tangent (fin s m e))) (not-at-most h) (tangent-near (fin s m e) f))
+tangent-refused-past s m e f = (λ r. past r (≼-or-≺ a limit), λ h. owed (not-at-most h))
   where
     a : Fraction
     a = over (m * up e) (down e)
 
+    owed : {t : Bool} → atMost a limit ≡ t → Answered t s a (tangent (fin s m e))
+    owed h = subst (λ (t : Bool). Answered t s a (tangent (fin s m e))) h (tangent-near (fin s m e) f)
+
     past : tangent (fin s m e) ≡ TooSteep → (a ≼ limit) ⊎ (limit ≺ a) → limit ≺ a
-    past r (inl h) = absurd (subst (λ (x : Slope). Answered true s a x) r (subst (λ (t : Bool). Answered t s a (tangent (fin s m e))) (at-most h) (tangent-near (fin s m e) f)))
+    past r (inl h) = absurd (subst (λ (x : Slope). Answered true s a x) r (owed (at-most h)))
     past r (inr h) = h
+
+ten : (r : Slope) → slope-number r ≡ 10 → r ≡ TooSteep
+ten (Is t) h = absurd (omega arith)
+ten TooSteep h = refl
+
+-- So the number told is 10 exactly of an angle that is a number past 3/2 in size, and 0 of every other.
+pub tangent-number : (theta : Float) → T (fits binary64 theta) → (slope-number (tangent theta) ≡ 10) ↔ Past theta
+tangent-number nan f = (λ h. absurd (omega (arith, rw tangent-nan at h)), λ h. absurd h)
+tangent-number (inf s) f = (λ h. absurd (omega (arith, rw (tangent-infinite s) at h)), λ h. absurd h)
+tangent-number (fin s m e) f = let past = tangent-refused-past s m e f in (λ h. past .0 (ten (tangent (fin s m e)) h), λ h. ap slope-number (past .1 h))
 
 both-signs : (s : Bool) (t : Float) → cond (not s) (neg t) t ≡ neg (cond s (neg t) t)
 both-signs true t = sym (twice-turned t)
 both-signs false t = refl
 
-number-odd : (s : Bool) (m : ℕ) (e : ℤ) (b : Bool) → lt (fin false m e) tiny ≡ b → (c : Bool) → le (fin false m e) limitEnd ≡ c → tangent (fin (not s) m e) ≡ falling (tangent (fin s m e))
+number-odd :
+    (s : Bool) (m : ℕ) (e : ℤ) (b : Bool) → lt (fin false m e) tiny ≡ b → (c : Bool) → le (fin false m e) limitEnd ≡ c
+    → tangent (fin (not s) m e) ≡ falling (tangent (fin s m e))
 unfolding magnitude neg
 number-odd s m e true h c k = sym (tangent-tiny (fin (not s) m e) h) ∙ ap falling (tangent-tiny (fin s m e) h)
 number-odd s m e false h true k = sym (with-sign (not s) m e h k) ∙ ap Is (both-signs s (steep (fin false m e))) ∙ ap falling (with-sign s m e h k)

@@ -9,18 +9,19 @@ use lib.IntN.{ℤ}
 use lib.Ieee.{Float, nan, inf, fin, binary64, up, down, level, fits, lt, le, eq, neg, ofBits}
 use lib.Ieee.Fits.{div-fits, neg-fits, down-pos, and-i}
 use lib.Ieee.Bits.{is-true}
+use Rattle.exact.proofs.Operations.{neg-finite}
 use Rattle.exact.proofs.Tests.{below-zero, plus-not-below, zero-not-below}
 use lib.Ieee.Scale.{finite}
 use Rattle.exact.specs.F64.{f64, _⊕_, _⊖_, _⊘_}
 use Rattle.exact.specs.Fraction.{Fraction, Proper, Within, over, whole, exactly, opposite, _≼_, _≈_, _⊞_, _⊟_, _⊠_, _⧄_}
-use Rattle.exact.proofs.Fractions.{over-proper, whole-proper, exactly-proper, ⊠-proper, ⊟-proper, ⊞-proper, ≼-trans, ≺→≼, ≈-sym, ≈-trans, ≈-refl, ≈-≼, ≼-≈, ≡→≈, ⊞-zero, ⊞-cong, opposite-cong, ⊠-mono, ⊠-comm, ⊠-not-negative, over-≼, le-≼, exactly-neg, within-sym, within-wider, within-opposite, within-refl}
+use Rattle.exact.proofs.Fractions.{over-proper, whole-proper, exactly-proper, ⊠-proper, ⊟-proper, ⊞-proper, ≼-trans, ≺→≼, ≈-sym, ≈-trans, ≈-refl, ≈-≼, ≼-≈, ≡→≈, ⊞-zero, ⊞-cong, opposite-cong, ⊠-mono, ⊠-comm, ⊠-not-negative, over-≼, le-≼, exactly-neg, within-sym, within-to, within-wider, within-opposite, within-refl}
 use Rattle.arctan.specs.Series.{G, P, A, Angle, Arctangent, arctangentBound}
 use Rattle.arctan.specs.Whole.{quarter, half}
 use Rattle.arctan.specs.Arctangent.{angle, back, one, forward, arctangent, tiny, two-fifths, five-halves}
 use Rattle.arctan.proofs.Compared.{below-tiny, below-fifths, from-fifths, up-to-one, past-one, below-halves, from-halves}
 use Rattle.arctan.proofs.Reduced.{Piece, up-to-one-near, past-one-near, inverse-same, inverse-between, from-halves-near, infinite-near}
 use Rattle.arctan.proofs.Rise.{G-proper, G-zero, small}
-use Rattle.arctan.proofs.Pieces.{u, unit-proper, to, alone, from-quarter, past-quarter, from-half}
+use Rattle.arctan.proofs.Pieces.{u, unit-proper, alone, from-quarter, past-quarter, from-half}
 use Rattle.arctan.proofs.Cases.{P-proper, A-low, A-mid, A-high, A-far, two-less-one, quotient-proper, inverse-proper}
 
 -- a number within 1129 of 2 ^ -60 of a
@@ -51,10 +52,9 @@ standing p e q = record {
   number = p .number;
   low = p .low;
   high = p .high;
-  near = to (p .proper) e (p .near);
-  proper = q;
-  from = ≼-≈ (p .proper) (p .from) e;
-  to = ≈-≼ (p .proper) (≈-sym e) (p .to);
+  near = within-to q e (p .near);
+  from = ≼-≈ (p .near .right) (p .from) e;
+  to = ≈-≼ (p .near .right) (≈-sym e) (p .to);
 }
 
 -- ---- of an x that is a number and not negative
@@ -80,8 +80,7 @@ module _ (x : Float) (f : T (fits binary64 x)) (n : T (finite x)) (l : whole 0 �
         number = n;
         low = l;
         high = ≼-trans fifths a (over-≼ 2 5 1 2 .1 (lit≤ tt));
-        near = within-refl (exactly x) (over-≼ 0 1 399 (2 ^ 60) .1 (lit≤ tt));
-        proper = proper;
+        near = within-refl proper (over-≼ 0 1 399 (2 ^ 60) .1 (lit≤ tt));
         from = l;
         to = ≼-trans fifths a (over-≼ 2 5 3 7 .1 (lit≤ tt));
       }
@@ -105,7 +104,7 @@ module _ (x : Float) (f : T (fits binary64 x)) (n : T (finite x)) (l : whole 0 �
       let W = (whole 1 ⊟ whole 1 ⧄ exactly x) ⧄ (whole 1 ⊞ whole 1 ⧄ exactly x) in
       let w : Proper W = quotient-proper (inverse-proper proper (≺→≼ past)) (≼-trans (over-proper 2 5 (lit≤ tt)) (over-≼ 1 3 2 5 .1 (lit≤ tt)) (≺→≼ two)) in
       let r = past-quarter (div-fits binary64 (x ⊖ one) (x ⊕ one)) (standing (third t s) (inverse-same x n past) w) in
-      (r .0, rw (A-high past two) (to (⊞-proper P-proper (G-proper w)) (≈-sym (two-less-one P (G W))) (r .1)))
+      (r .0, rw (A-high past two) (within-to (⊟-proper (⊞-proper P-proper P-proper) (⊟-proper P-proper (G-proper w))) (≈-sym (two-less-one P (G W))) (r .1)))
 
   pub fourth : T (not (lt x five-halves)) → Piece (one ⊘ x) (whole 1 ⧄ exactly x)
   fourth t = from-halves-near x n (from-halves x n t) .0
@@ -138,7 +137,7 @@ half-of-nothing : Good (P ⊞ P) (back (half - angle (one ⊘ inf false)))
 half-of-nothing =
     let pp = ⊞-proper P-proper P-proper in
     let r = from-half (div-fits binary64 one (inf false)) infinite-near in
-    (r .0, to (⊟-proper pp (G-proper (whole-proper 0))) (less-nothing pp) (r .1))
+    (r .0, within-to pp (less-nothing pp) (r .1))
 
 forward-infinite : Good (P ⊞ P) (forward (inf false))
 unfolding forward lt le ofBits
@@ -151,12 +150,6 @@ enough = record { holds = lit≤ tt }
 
 bounded : {a : Fraction} {r : Float} → Good a r → Angle false a r
 bounded g = record { number = g .0; within = within-wider (unit-proper 1129) enough (g .1) }
-
-pub neg-finite : (r : Float) → T (finite r) → T (finite (neg r))
-unfolding neg
-neg-finite nan t = t
-neg-finite (inf s) t = t
-neg-finite (fin s m e) t = tt
 
 turned : {a : Fraction} {r : Float} → Angle false a r → Angle true a (neg r)
 turned {a} {r} g = record { number = neg-finite r (g .number); within = rw (exactly-neg r) (within-opposite (g .within)) }

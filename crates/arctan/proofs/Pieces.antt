@@ -9,12 +9,12 @@ use lib.Pow.{pow-pos}
 use lib.Ieee.{Float, binary64, fits}
 use lib.Ieee.Scale.{finite}
 use Rattle.exact.specs.Fraction.{Fraction, Proper, Within, over, exactly, opposite, power, _≼_, _≈_, _⊞_, _⊟_, _⊠_, _⧄_}
-use Rattle.exact.proofs.Fractions.{over-proper, ≼-trans, ⊠-proper, ⊞-proper, ⊟-proper, ≈→≼, ≈-sym, over-≼, over-⊞, within-sym, within-wider, within-trans, within-same, within-⊞, within-opposite}
+use Rattle.exact.proofs.Fractions.{over-proper, ≼-trans, ⊞-proper, ≈→≼, ≈-sym, over-≼, over-⊞, within-wider, within-trans, within-same, within-to, within-⊞, within-opposite}
 use Rattle.arctan.specs.Series.{G, P, sum, term}
 use Rattle.arctan.specs.Arctangent.{Countable, counted, angle, back}
 use Rattle.arctan.specs.Whole.{quarter, half}
-use Rattle.arctan.proofs.Horner.{H-proper}
-use Rattle.arctan.proofs.Rise.{nested}
+use Rattle.arctan.proofs.Rise.{nested, G-proper}
+use Rattle.arctan.proofs.Cases.{P-proper}
 use Rattle.arctan.proofs.Rounds.{plain-finite}
 use Rattle.arctan.proofs.Counts.{counted-near, back-near}
 use Rattle.arctan.proofs.Reduced.{Piece, piece-counted}
@@ -28,12 +28,8 @@ pub unit-proper : (e : ℕ) → Proper (u e)
 unit-proper e = over-proper e (2 ^ 60) (pow-pos 60)
 
 -- two distances in 2 ^ -60, added
-pub both : {a b c : Fraction} (d e : ℕ) → Proper b → Within (u d) a b → Within (u e) b c → Within (u (d + e)) a c
-both d e p v w = within-wider (⊞-proper (unit-proper d) (unit-proper e)) (≈→≼ (over-⊞ d e (2 ^ 60))) (within-trans p v w)
-
--- a distance to one of two that are the same
-pub to : {ε a b c : Fraction} → Proper b → b ≈ c → Within ε a b → Within ε a c
-to p e w = within-sym (within-same p (≈-sym e) (within-sym w))
+pub both : {a b c : Fraction} (d e : ℕ) → Within (u d) a b → Within (u e) b c → Within (u (d + e)) a c
+both d e v w = within-wider (⊞-proper (unit-proper d) (unit-proper e)) (≈→≼ (over-⊞ d e (2 ^ 60))) (within-trans v w)
 
 pub countable : {z : Float} {a : Fraction} → Piece z a → Countable z
 countable p = record { number = p .number; low = p .low; high = p .high }
@@ -45,18 +41,17 @@ pub angle-near : {z : Float} {a : Fraction} → T (fits binary64 z) → Piece z 
 angle-near {z} {a} f p =
     let C = counted-near z f (p .number) (p .low) (p .high) in (
       le-trans (series-small (counted z)) (C .most),
-      to (⊠-proper (p .proper) (H-proper 24 0 (⊠-proper (p .proper) (p .proper)))) (≈-sym (nested a (p .proper)))
-          (series-near (counted z) (C .most) (p .proper) (p .from) (half-high p) (piece-counted z f p)),
+      within-to (G-proper (p .near .right)) (≈-sym (nested a (p .near .right))) (series-near (counted z) (C .most) (p .from) (half-high p) (piece-counted z f p)),
     )
 
 -- ---- a quarter and a half of pi, cut
 pub quarter-near : Within (u 1) (u quarter) P
 unfolding P G sum term power over _⊞_ _⊠_ _⧄_ opposite
-quarter-near = record { not-above = record { holds = lit≤ tt }; not-below = record { holds = lit≤ tt } }
+quarter-near = record { left = unit-proper quarter; right = P-proper; not-above = record { holds = lit≤ tt }; not-below = record { holds = lit≤ tt } }
 
 pub half-near : Within (u 1) (u half) (P ⊞ P)
 unfolding P G sum term power over _⊞_ _⊠_ _⧄_ opposite
-half-near = record { not-above = record { holds = lit≤ tt }; not-below = record { holds = lit≤ tt } }
+half-near = record { left = unit-proper half; right = ⊞-proper P-proper P-proper; not-above = record { holds = lit≤ tt }; not-below = record { holds = lit≤ tt } }
 
 -- ---- sums and differences of counts
 sum-of : (a b : ℕ) → u (a + b) ≈ u a ⊞ u b
@@ -80,7 +75,7 @@ spread m n v w = within-wider (⊞-proper (unit-proper m) (unit-proper n)) (≈�
 
 -- ---- the f64 of a count near an angle
 made : (n d : ℕ) (a : Fraction) → n ≤ 2 ^ 61 → Within (u d) (u n) a → T (finite (back n)) × Within (u (128 + d)) (exactly (back n)) a
-made n d a h w = let b = back-near n h in (plain-finite (back n) (b .plain), both 128 d (unit-proper n) (b .near) w)
+made n d a h w = let b = back-near n h in (plain-finite (back n) (b .plain), both 128 d (b .near) w)
 
 -- ---- the four ways an angle is put together, from z that stands for a
 module _ {z : Float} {a : Fraction} (f : T (fits binary64 z)) (p : Piece z a) where
@@ -93,14 +88,14 @@ module _ {z : Float} {a : Fraction} (f : T (fits binary64 z)) (p : Piece z a) wh
   pub from-quarter : T (finite (back (quarter - angle z))) × Within (u 1129) (exactly (back (quarter - angle z))) (P ⊟ G a)
   from-quarter =
       made (quarter - angle z) 1001 (P ⊟ G a) (omega arith)
-      (within-same (⊟-proper (unit-proper quarter) (unit-proper (angle z))) (difference (angle z) quarter (2 ^ 60) (le-trans (near-a .0) (lit≤ tt))) (spread 1 1000 quarter-near (within-opposite (near-a .1))))
+      (within-same (unit-proper (quarter - angle z)) (difference (angle z) quarter (2 ^ 60) (le-trans (near-a .0) (lit≤ tt))) (spread 1 1000 quarter-near (within-opposite (near-a .1))))
 
   pub past-quarter : T (finite (back (quarter + angle z))) × Within (u 1129) (exactly (back (quarter + angle z))) (P ⊞ G a)
   past-quarter =
       made (quarter + angle z) 1001 (P ⊞ G a) (omega (arith, near-a .0))
-      (within-same (⊞-proper (unit-proper quarter) (unit-proper (angle z))) (sum-of quarter (angle z)) (spread 1 1000 quarter-near (near-a .1)))
+      (within-same (unit-proper (quarter + angle z)) (sum-of quarter (angle z)) (spread 1 1000 quarter-near (near-a .1)))
 
   pub from-half : T (finite (back (half - angle z))) × Within (u 1129) (exactly (back (half - angle z))) (P ⊞ P ⊟ G a)
   from-half =
       made (half - angle z) 1001 (P ⊞ P ⊟ G a) (omega arith)
-      (within-same (⊟-proper (unit-proper half) (unit-proper (angle z))) (difference (angle z) half (2 ^ 60) (le-trans (near-a .0) (lit≤ tt))) (spread 1 1000 half-near (within-opposite (near-a .1))))
+      (within-same (unit-proper (half - angle z)) (difference (angle z) half (2 ^ 60) (le-trans (near-a .0) (lit≤ tt))) (spread 1 1000 half-near (within-opposite (near-a .1))))

@@ -12,9 +12,9 @@ use lib.Ieee.Scale.{finite}
 use lib.Ieee.Positive.{num, den, den-pos}
 use Rattle.exact.specs.F64.{_⊕_, _⊖_, _⊘_}
 use Rattle.exact.specs.Fraction.{Fraction, Proper, _≼_, _≺_, _≈_, over, whole, _⊞_, _⊟_, opposite, _⊠_, _⧄_, Within, exactly}
-use Rattle.exact.proofs.Fractions.{over-proper, whole-proper, exactly-proper, ⊞-proper, ⊟-proper, ⧄-proper, ≼-refl, ≈-refl, ≡→≈, ⊠-one, within-refl, over-≼, over-⊠, over-⊞, ≼-trans, ≼-≺-trans, ≺-≼-trans, ≺→≼, ≈→≼, ≈-sym, ≈-trans, within-sym, within-same, within-trans, within-wider}
+use Rattle.exact.proofs.Fractions.{over-proper, whole-proper, exactly-proper, ⊞-proper, ⊟-proper, ⧄-proper, ≼-refl, ≈-refl, ≡→≈, ⊠-one, within-refl, over-≼, over-⊠, over-⊞, ≼-trans, ≼-≺-trans, ≺-≼-trans, ≺→≼, ≈→≼, ≈-sym, ≈-trans, within-to, within-trans, within-wider}
 use Rattle.arctan.specs.Arctangent.{one, counted}
-use Rattle.arctan.proofs.Rounds.{plain, plain-finite, plain-exactly, plain-low, above-plain, apart, over-≺, over-sum, over-difference, over-quotient, num-above, sum-near, difference-near, quotient-near}
+use Rattle.arctan.proofs.Rounds.{plain, plain-finite, plain-exactly, plain-low, above-plain, apart, together, over-≺, over-sum, over-difference, over-quotient, num-above, sum-near, difference-near, quotient-near}
 use Rattle.arctan.proofs.Counts.{counted-near}
 use Rattle.arctan.proofs.Compared.{one-plain, one-is}
 
@@ -29,12 +29,12 @@ moved-down : (u a w b k s c : ℕ) → b ≤ w → 2 * k ≤ s → k * a * 2 ^ 5
     → k * (w * a) * 2 ^ 55 * c ≤ (u * b * s * 2 ^ 55 + 8 * (w * a * s)) * c
 moved-down u a w b k s c h m p q = omega (arith, mul-le-mul-right (b * s) p, mul-le-mul-right (k * a) q, mul-le-mul-right (b * c * a) m, mul-le-mul-right (a * s * c) h)
 
-perturbed : (u a w b k s c : ℕ) → 0 < c → b ≤ w → 2 * k ≤ s → Within (over 4 (2 ^ 55)) (over u a) (over k c) → Within (over 8 (2 ^ 55)) (over w b) (over s c)
+perturbed : (u a w b k s c : ℕ) → 0 < c → 0 < w * a → 0 < s → b ≤ w → 2 * k ≤ s → Within (over 4 (2 ^ 55)) (over u a) (over k c) → Within (over 8 (2 ^ 55)) (over w b) (over s c)
     → Within (over 8 (2 ^ 55)) (over (u * b) (w * a)) (over k s)
-perturbed u a w b k s c C h m x y =
-    let x' = apart 4 (2 ^ 55) u a k c .0 x in
-    let y' = apart 8 (2 ^ 55) w b s c .0 y in
-    apart 8 (2 ^ 55) (u * b) (w * a) k s .1 (le-of-mul-le-mul-right (moved-up u a w b k s c h m (x' .0) (y' .1)) C, le-of-mul-le-mul-right (moved-down u a w b k s c h m (x' .1) (y' .0)) C)
+perturbed u a w b k s c C W S h m x y =
+    let x' = apart 4 (2 ^ 55) u a k c x in
+    let y' = apart 8 (2 ^ 55) w b s c y in
+    together 8 (2 ^ 55) (u * b) (w * a) k s W S (le-of-mul-le-mul-right (moved-up u a w b k s c h m (x' .0) (y' .1)) C) (le-of-mul-le-mul-right (moved-down u a w b k s c h m (x' .1) (y' .0)) C)
 
 -- ---- what a piece's argument z is to the exact one, v
 
@@ -43,13 +43,8 @@ pub record Piece (z : Float) (v : Fraction) : Type 0 where
   pub low : whole 0 ≼ exactly z
   pub high : exactly z ≼ over 1 2
   pub near : Within (over 399 (2 ^ 60)) (exactly z) v
-  pub proper : Proper v
   pub from : whole 0 ≼ v
   pub to : v ≼ over 3 7
-
--- nearness to a number by another name
-within-to : {ε a b c : Fraction} → Proper b → b ≈ c → Within ε a b → Within ε a c
-within-to B h k = within-sym (within-same B (≈-sym h) (within-sym k))
 
 half-high : (n d k s : ℕ) → 0 < s → 7 * k ≤ 3 * s → n * s * 2 ^ 55 ≤ k * d * 2 ^ 55 + 10 * (d * s) → n * 2 ≤ 1 * d
 half-high n d k s S h l = le-of-mul-le-mul-right (omega (arith, mul-le-mul-right d h)) S
@@ -61,9 +56,8 @@ finish z v k s p N e S h w =
     record {
       number = plain-finite z p;
       low = plain-low z p;
-      high = rw (plain-exactly z p) (over-≼ (num z) (den z) 1 2 .1 (half-high (num z) (den z) k s S h (apart 10 (2 ^ 55) (num z) (den z) k s .0 (rw (plain-exactly z p) at w) .0)));
-      near = within-to P (≈-sym e) (within-wider (over-proper 10 (2 ^ 55) (pow-pos 55)) (over-≼ 10 (2 ^ 55) 399 (2 ^ 60) .1 (lit≤ tt)) w);
-      proper = N;
+      high = rw (plain-exactly z p) (over-≼ (num z) (den z) 1 2 .1 (half-high (num z) (den z) k s S h (apart 10 (2 ^ 55) (num z) (den z) k s (rw (plain-exactly z p) at w) .0)));
+      near = within-to N (≈-sym e) (within-wider (over-proper 10 (2 ^ 55) (pow-pos 55)) (over-≼ 10 (2 ^ 55) 399 (2 ^ 60) .1 (lit≤ tt)) w);
       from = ≼-trans P (over-≼ 0 1 k s .1 (omega arith)) (≈→≼ (≈-sym e));
       to = ≼-trans P (≈→≼ e) (over-≼ k s 3 7 .1 (omega arith));
     }
@@ -85,19 +79,19 @@ divided x y v k s c p q N e C h m nx ny =
     let b = den y in
     let nx' : Within (over 4 (2 ^ 55)) (over u a) (over k c) = rw (plain-exactly x p) at nx in
     let ny' : Within (over 8 (2 ^ 55)) (over w b) (over s c) = rw (plain-exactly y q) at ny in
-    let l = at-one w b s c C h (apart 8 (2 ^ 55) w b s c .0 ny' .1) in
+    let l = at-one w b s c C h (apart 8 (2 ^ 55) w b s c ny' .1) in
     let W = lt-of-lt-of-le (den-pos y) l in
     let WA = mul-pos W (den-pos x) in
     let S = positive c s C h in
-    let n = perturbed u a w b k s c C l (half k s m) nx' ny' in
+    let n = perturbed u a w b k s c C WA S l (half k s m) nx' ny' in
     let o : whole 0 ≺ exactly y = rw (plain-exactly y q) (over-≺ 0 1 w b .1 (above w b W)) in
     let D = ⧄-proper (exactly-proper x) o in
     let is : exactly x ⧄ exactly y ≈ over (u * b) (w * a) = rw (plain-exactly x p, plain-exactly y q) (over-quotient u a w b) in
-    let l' = under-one (u * b) (w * a) k s WA S m (apart 8 (2 ^ 55) (u * b) (w * a) k s .0 n .0) in
+    let l' = under-one (u * b) (w * a) k s WA S m (apart 8 (2 ^ 55) (u * b) (w * a) k s n .0) in
     let r = quotient-near x y 1 p q (lit≤ tt) o (≼-≺-trans D (≈→≼ is) (over-≺ (u * b) (w * a) 2 2 .1 l')) in
     finish (x ⊘ y) v k s (r .plain) N e S m
     (within-wider (⊞-proper (over-proper 2 (2 ^ 55) (pow-pos 55)) (over-proper 8 (2 ^ 55) (pow-pos 55))) (≈→≼ (over-⊞ 2 8 (2 ^ 55)))
-    (within-trans (over-proper (u * b) (w * a) WA) (within-to D is (r .near)) n))
+    (within-trans (within-to (over-proper (u * b) (w * a) WA) is (r .near)) n))
   where
     positive : (c s : ℕ) → 0 < c → 7 * c ≤ 5 * s → 0 < s
     positive c s h k = omega arith
@@ -156,7 +150,7 @@ thrice p q P Q h k l m =
     let y = sum-near p q 3 P Q (lit≤ tt) (≼-≺-trans S (≈→≼ plus-is) (over-≺ (a * d + b * c) (c * d) (2 ^ 3) 2 .1 (g .more))) in
     let above : whole 0 ≺ exactly p ⊞ exactly q = ≺-≼-trans S (over-≺ 0 1 (a * d + b * c) (c * d) .1 (some (c * d) (a * d + b * c) C (g .wide))) (≈→≼ (≈-sym plus-is)) in
     divided (p ⊖ q) (p ⊕ q) ((exactly p ⊟ exactly q) ⧄ (exactly p ⊞ exactly q)) (a * d - b * c) (a * d + b * c) (c * d) (x .plain) (y .plain) (⧄-proper M above)
-    (rw (eP, eQ) (ratio a c b d (a * d - b * c) gap)) C (g .wide) (g .narrow) (within-to M minus-is (x .near)) (within-to S plus-is (y .near))
+    (rw (eP, eQ) (ratio a c b d (a * d - b * c) gap)) C (g .wide) (g .narrow) (within-to (over-proper (a * d - b * c) (c * d) C) minus-is (x .near)) (within-to (over-proper (a * d + b * c) (c * d) C) plus-is (y .near))
   where
     some : (z s : ℕ) → 0 < z → 7 * z ≤ 5 * s → 0 * z < s * 1
     some z s h k = omega arith
@@ -226,7 +220,7 @@ pub infinite-near : Piece (one ⊘ inf false) (whole 0)
 infinite-near =
     rw infinite-is
     (finish (fin false 0 (pos 0)) (whole 0) 0 1 tt (whole-proper 0) (≈-refl (whole 0)) (zero-lt-suc 0) (lit≤ tt)
-    (rw zero-is (within-refl (whole 0) (over-≼ 0 1 10 (2 ^ 55) .1 (lit≤ tt)))))
+    (rw zero-is (within-refl (whole-proper 0) (over-≼ 0 1 10 (2 ^ 55) .1 (lit≤ tt)))))
 
 -- ---- between 1 and 5/2 the argument is that of 1 / x, which lies between 2/5 and 1
 
@@ -273,4 +267,4 @@ inverse-between x f lo hi =
 pub piece-counted : (z : Float) {v : Fraction} → T (fits binary64 z) → Piece z v → Within (over 400 (2 ^ 60)) (over (counted z) (2 ^ 60)) v
 piece-counted z f g =
     within-wider (⊞-proper (over-proper 1 (2 ^ 60) (pow-pos 60)) (over-proper 399 (2 ^ 60) (pow-pos 60))) (≈→≼ (over-⊞ 1 399 (2 ^ 60)))
-    (within-trans (exactly-proper z) (counted-near z f (g .number) (g .low) (g .high) .near) (g .near))
+    (within-trans (counted-near z f (g .number) (g .low) (g .high) .near) (g .near))

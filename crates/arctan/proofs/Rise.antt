@@ -7,7 +7,7 @@ use native.Mathlib.Nat.{mul-one, mul-zero, add-zero, zero-add, sub-zero, mul-pos
 use native.Mathlib.Numerals.{add-one}
 use native.Mathlib.Omega.{arith}
 use Rattle.exact.specs.Fraction.{Fraction, Proper, _≼_, _≈_, over, whole, _⊞_, opposite, _⊟_, _⊠_, _⧄_, power, signed, Within}
-use Rattle.exact.proofs.Fractions.{over-proper, whole-proper, ⊞-proper, ⊠-proper, ⧄-proper, power-proper, signed-proper, ≼-refl, ≼-trans, ≼-antisym, ≈→≼, ≈-sym, ≈-refl, ≈-≼, ≼-≈, ≈-trans, ⊞-comm, ⊞-assoc, ⊞-zero, ⊞-mono, ⊞-cong, opposite-opposite, opposite-⊞, opposite-cong, move, ⊠-comm, ⊠-assoc, ⊠-one, ⊠-⊞, ⊠-not-negative, ⊠-mono, ⊠-cong, opposite-⊠, over-≼, within-sym, within-refl, within-wider, within-trans, within-same, within-opposite, within-⊞, within-⊠}
+use Rattle.exact.proofs.Fractions.{over-proper, whole-proper, ⊞-proper, ⊟-proper, ⊠-proper, ⧄-proper, power-proper, signed-proper, ≼-refl, ≼-trans, ≼-antisym, ≈→≼, ≈-sym, ≈-refl, ≈-≼, ≼-≈, ≈-trans, ⊞-comm, ⊞-assoc, ⊞-zero, ⊞-mono, ⊞-cong, opposite-opposite, opposite-⊞, opposite-cong, move, ⊠-comm, ⊠-assoc, ⊠-one, ⊠-⊞, ⊠-not-negative, ⊠-mono, ⊠-cong, opposite-⊠, over-≼, within-refl, within-wider, within-trans, within-same, within-to, within-opposite, within-⊞, within-⊠}
 use Rattle.arctan.specs.Series.{terms, alternates, term, sum, G}
 use Rattle.arctan.proofs.Horner.{odd, H, odd-proper, H-proper, zero-⊞, one-⊠, rest-high, part, half-one, H-low, H-high}
 
@@ -45,21 +45,23 @@ power-square x (suc n) =
     rw (power-square x n, ← ⊠-assoc, e)
 
 -- how far from a the rest is when b is taken off
-pub off : {a b : Fraction} → Proper a → whole 0 ≼ b → Within b (a ⊟ b) a
-off {a} {b} A h = record {
+pub off : {a b : Fraction} → Proper a → Proper b → whole 0 ≼ b → Within b (a ⊟ b) a
+off {a} {b} A B h = record {
+  left = ⊟-proper A B;
+  right = A;
   not-above = move (a ⊟ b) a b .1 (≼-trans A (rest-high h) (rw ⊞-zero at (⊞-mono (≼-refl a) h)));
   not-below = move a (a ⊟ b) b .1 (rw (⊞-comm (a ⊟ b) b) (move a b (a ⊟ b) .0 (≼-refl (a ⊟ b))));
 }
 
 -- ε is no less than nothing if anything is within it
-pub within-low : {ε a b : Fraction} → Proper a → Proper b → Within ε a b → whole 0 ≼ ε
+pub within-low : {ε a b : Fraction} → Within ε a b → whole 0 ≼ ε
 unfolding over _⊞_ opposite
-within-low {ε} A B h =
-    let g : ε .minus ≤ ε .plus = le-of-mul-le-mul-right (omega (arith, h .not-above .holds, h .not-below .holds)) (mul-pos (A .above) (B .above)) in
+within-low {ε} h =
+    let g : ε .minus ≤ ε .plus = le-of-mul-le-mul-right (omega (arith, h .not-above .holds, h .not-below .holds)) (mul-pos (h .left .above) (h .right .above)) in
     omega arith
 
-pub within-rest : {ε a b : Fraction} (c : Fraction) → Within ε a b → Within ε (c ⊟ a) (c ⊟ b)
-within-rest c h = rw zero-⊞ at (within-⊞ (within-refl c (≼-refl (whole 0))) (within-opposite h))
+pub within-rest : {ε a b c : Fraction} → Proper c → Within ε a b → Within ε (c ⊟ a) (c ⊟ b)
+within-rest C h = rw zero-⊞ at (within-⊞ (within-refl C (≼-refl (whole 0))) (within-opposite h))
 
 -- ---- numbers in 0..m
 
@@ -76,25 +78,22 @@ wider : {m n x : Fraction} → Proper m → m ≼ n → In m x → In n x
 wider M h X = record { proper = X .proper; low = X .low; high = ≼-trans M (X .high) h }
 
 -- a factor of at most m
-within-scale : {ε m a b c : Fraction} → Proper ε → Proper a → Proper b → In m c → Within ε a b → Within (ε ⊠ m) (a ⊠ c) (b ⊠ c)
-within-scale {ε} {m} {c = c} E A B C h =
-    within-wider (⊠-proper E (C .proper)) (rw (⊠-comm ε c, ⊠-comm ε m) (⊠-mono (within-low A B h) (C .high)))
-    (within-⊠ A B (C .proper) (C .low) h)
+within-scale : {ε m a b c : Fraction} → Proper ε → In m c → Within ε a b → Within (ε ⊠ m) (a ⊠ c) (b ⊠ c)
+within-scale {ε} {m} {c = c} E C h = within-wider (⊠-proper E (C .proper)) (rw (⊠-comm ε c, ⊠-comm ε m) (⊠-mono (within-low h) (C .high))) (within-⊠ (C .proper) (C .low) h)
 
 -- a c - b d is (a - b) c + b (c - d)
-within-products : {ε m a b c d : Fraction} → Proper ε → Proper a → In m b → In m c → Proper d → Within ε a b → Within ε c d → Within (ε ⊠ m ⊞ ε ⊠ m) (a ⊠ c) (b ⊠ d)
-within-products {b = b} {c} {d} E A B C D h k =
-    within-trans (⊠-proper (B .proper) (C .proper)) (within-scale E A (B .proper) C h) (rw (⊠-comm b c, ⊠-comm b d) (within-scale E (C .proper) D B k))
+within-products : {ε m a b c d : Fraction} → Proper ε → In m b → In m c → Within ε a b → Within ε c d → Within (ε ⊠ m ⊞ ε ⊠ m) (a ⊠ c) (b ⊠ d)
+within-products {b = b} {c} {d} E B C h k = within-trans (within-scale E C h) (rw (⊠-comm b c, ⊠-comm b d) (within-scale E B k))
 
 two-halves : (a : Fraction) → a ⊠ 1/2 ⊞ a ⊠ 1/2 ≈ a
 unfolding over _⊠_ _⊞_
 two-halves a = omega arith
 
 -- a product of two that are at most 1/2 is no further off than either
-within-halves : {ε a b c d : Fraction} → Proper ε → Proper a → In 1/2 b → In 1/2 c → Proper d → Within ε a b → Within ε c d → Within ε (a ⊠ c) (b ⊠ d)
-within-halves {ε} E A B C D h k =
+within-halves : {ε a b c d : Fraction} → Proper ε → In 1/2 b → In 1/2 c → Within ε a b → Within ε c d → Within ε (a ⊠ c) (b ⊠ d)
+within-halves {ε} E B C h k =
     let half = ⊠-proper E (over-proper 1 2 (omega arith)) in
-    within-wider (⊞-proper half half) (≈→≼ (two-halves ε)) (within-products E A B C D h k)
+    within-wider (⊞-proper half half) (≈→≼ (two-halves ε)) (within-products E B C h k)
 
 -- ---- G is x times 24 levels
 
@@ -165,7 +164,7 @@ unfolding H
 near-one n {y} Y =
     let h = below n 0 Y in
     within-wider (⊠-proper (Y .proper) (h .proper)) (rw (⊠-comm y (H n 1 y)) (part (Y .low) (half-one (h .high))))
-    (off (whole-proper 1) (⊠-not-negative (Y .low) (h .low)))
+    (off (whole-proper 1) (⊠-proper (Y .proper) (h .proper)) (⊠-not-negative (Y .low) (h .low)))
 
 module _ {x : Fraction} (X : Proper x) (low : whole 0 ≼ x) (high : x ≼ over 1 2) where
   here : In 1/2 x
@@ -185,8 +184,7 @@ module _ {x : Fraction} (X : Proper x) (low : whole 0 ≼ x) (high : x ≼ over 
   small =
       let y = x ⊠ x in
       let h = H terms 0 y in
-      within-same (⊠-proper X (levels .proper)) (nested x X)
-      (rw (⊠-comm y x, ⊠-comm h x, one-⊠) at (within-⊠ (levels .proper) (whole-proper 1) X low (near-one 23 (square here))))
+      within-same (G-proper X) (nested x X) (rw (⊠-comm y x, ⊠-comm h x, one-⊠) at (within-⊠ X low (near-one 23 (square here))))
 
 pub G-zero : G (whole 0) ≈ whole 0
 G-zero =
@@ -199,8 +197,8 @@ G-zero =
 -- a level grows no faster than y: by the halves of y and of the level below
 H-slope : {ε y z : Fraction} (n k : ℕ) → Proper ε → In 1/2 y → In 1/2 z → Within ε y z → Within ε (H n k y) (H n k z)
 unfolding H
-H-slope zero k E Y Z h = within-refl (whole 0) (within-low (Y .proper) (Z .proper) h)
-H-slope (suc n) k E Y Z h = within-rest (odd k) (within-halves E (Y .proper) Z (below n k Y) (below n k Z .proper) h (H-slope n (suc k) E Y Z h))
+H-slope zero k E Y Z h = within-refl (whole-proper 0) (within-low h)
+H-slope (suc n) k E Y Z h = within-rest (odd-proper k) (within-halves E Z (below n k Y) h (H-slope n (suc k) E Y Z h))
 
 -- a h - b h' is (a - b) h + b (h - h'), where h is at most 1, b too, and h - h' at most a - b
 pub slope : {ε a b : Fraction} → Proper a → whole 0 ≼ a → a ≼ over 1 2 → Proper b → whole 0 ≼ b → b ≼ over 1 2 → Proper ε → Within ε a b → Within (ε ⊞ ε) (G a) (G b)
@@ -208,8 +206,7 @@ slope {a = a} {b} A al ah B bl bh E h =
     let a-in = here A al ah in
     let b-in = here B bl bh in
     let ha = levels A al ah in
-    let hb = levels B bl bh in
     let b-one = wider (over-proper 1 2 (omega arith)) (over-≼ 1 2 1 1 .1 (omega arith)) b-in in
-    let squares = within-halves E A b-in a-in B h h in
-    let products = rw ⊠-one at (within-products E A b-one ha (hb .proper) h (H-slope terms 0 E (square a-in) (square b-in) squares)) in
-    within-sym (within-same (⊠-proper B (hb .proper)) (nested b B) (within-sym (within-same (⊠-proper A (ha .proper)) (nested a A) products)))
+    let squares = within-halves E b-in a-in h h in
+    let products = rw ⊠-one at (within-products E b-one ha h (H-slope terms 0 E (square a-in) (square b-in) squares)) in
+    within-to (G-proper B) (≈-sym (nested b B)) (within-same (G-proper A) (nested a A) products)

@@ -15,8 +15,8 @@ use lib.Ieee.Bits.{cond-no}
 use lib.Ieee.Positive.{num, den, den-pos, first-pos, value→cross}
 use Rattle.exact.specs.F64.{_⊕_, _⊖_, _⊗_, _⊘_}
 use Rattle.exact.specs.Rounding.{limit}
-use Rattle.exact.specs.Fraction.{Fraction, _≼_, _≺_, _≈_, over, whole, _⊞_, _⊟_, opposite, _⊠_, _⧄_, Within, exactly, halfUnits}
-use Rattle.exact.proofs.Fractions.{value, over-proper, over-≼, over-⊠, ≼-≺-trans, ≈→≼, ≈-sym, within-sym, within-same, within-wider, near-finite, halfUnits-proper}
+use Rattle.exact.specs.Fraction.{Fraction, Proper, _≼_, _≺_, _≈_, over, whole, _⊞_, _⊟_, opposite, _⊠_, _⧄_, Within, exactly, halfUnits}
+use Rattle.exact.proofs.Fractions.{value, over-proper, over-≼, over-⊠, ≼-≺-trans, ≈→≼, ≈-sym, within-to, within-wider, near-finite, halfUnits-proper, exactly-proper, ⊞-proper, ⊟-proper, ⧄-proper}
 use Rattle.exact.proofs.Pattern.{exponent-lt, InUnits, in-units, in-range, rescaled}
 use Rattle.exact.proofs.Rounding.{rounded}
 use Rattle.exact.proofs.Laws.{rounding-finite}
@@ -67,10 +67,13 @@ above-plain (fin false m e) p h = tt
 
 -- ---- nearness of two such fractions, in whole numbers
 
-pub apart : (e u a c b d : ℕ) → Within (over e u) (over a c) (over b d) ↔ ((a * d * u ≤ b * c * u + e * (c * d)) × (b * c * u ≤ a * d * u + e * (c * d)))
+pub apart : (e u a c b d : ℕ) → Within (over e u) (over a c) (over b d) → (a * d * u ≤ b * c * u + e * (c * d)) × (b * c * u ≤ a * d * u + e * (c * d))
 unfolding over _⊞_ opposite
-apart e u a c b d =
-    (λ h. (omega (arith, h .not-above .holds), omega (arith, h .not-below .holds)), λ h. record { not-above = record { holds = omega arith }; not-below = record { holds = omega arith } })
+apart e u a c b d h = (omega (arith, h .not-above .holds), omega (arith, h .not-below .holds))
+
+pub together : (e u a c b d : ℕ) → 0 < c → 0 < d → a * d * u ≤ b * c * u + e * (c * d) → b * c * u ≤ a * d * u + e * (c * d) → Within (over e u) (over a c) (over b d)
+unfolding over _⊞_ opposite
+together e u a c b d C D h k = record { left = record { above = C }; right = record { above = D }; not-above = record { holds = omega arith }; not-below = record { holds = omega arith } }
 
 -- ---- a fraction a / c below 2 ^ t / 2, rounded: the last place is at most 2 ^ (t - 54)
 
@@ -95,20 +98,20 @@ half-le t l h =
     more l t h = omega arith
 
 -- x is finite and has no sign, and lies within ε of v
-pub record Rounds (x : Float) (ε v : Fraction) : Type 0 where
+pub record PlainNear (x : Float) (ε v : Fraction) : Type 0 where
   pub plain : T (plain x)
   pub near : Within ε (exactly x) v
 
 small : (a c w l : ℕ) → 2 * a < w * c → w ≤ l → a < l * c
 small a c w l h k = omega (arith, mul-le-mul-right c k)
 
-pub round-near : (a c t : ℕ) → 0 < c → t ≤ 100 → 2 * a < 2 ^ t * c → Rounds (round binary64 false a c) (over (2 ^ t) (2 ^ 55)) (over a c)
+pub round-near : (a c t : ℕ) → 0 < c → t ≤ 100 → 2 * a < 2 ^ t * c → PlainNear (round binary64 false a c) (over (2 ^ t) (2 ^ 55)) (over a c)
 round-near a c t C t≤ h =
     let r = rounded binary64 false a c C in
     let f = rounding-finite binary64 false a c C (small a c (2 ^ t) (limit binary64) h (le-trans (pow-mono t≤) (lit≤ tt))) in
     record {
       plain = value-plain (round binary64 false a c) (grid binary64 a c) (2 ^ 1074) (round-val binary64 a c (round-under binary64 a c f));
-      near = within-wider (halfUnits-proper binary64 (r .last)) (half-le t (r .last) (last-le a c t (r .last) h (r .place))) (near-finite r f);
+      near = within-wider (halfUnits-proper binary64 (r .last)) (half-le t (r .last) (last-le a c t (r .last) h (r .place))) (near-finite C r f);
     }
 
 -- the same of a float that is such a rounding, and of a number that is the fraction
@@ -116,12 +119,12 @@ pub over-≺ : (a c b d : ℕ) → (over a c ≺ over b d) ↔ (a * d < b * c)
 unfolding over
 over-≺ a c b d = (λ h. omega arith, λ h. omega arith)
 
-as-rounded : (z : Float) (v : Fraction) (a c t : ℕ) → z ≡ round binary64 false a c → v ≈ over a c → 0 < c → t ≤ 100 → v ≺ over (2 ^ t) 2 → Rounds z (over (2 ^ t) (2 ^ 55)) v
-as-rounded z v a c t e q C t≤ h =
+as-rounded : (z : Float) (v : Fraction) (a c t : ℕ) → Proper v → z ≡ round binary64 false a c → v ≈ over a c → 0 < c → t ≤ 100 → v ≺ over (2 ^ t) 2 → PlainNear z (over (2 ^ t) (2 ^ 55)) v
+as-rounded z v a c t N e q C t≤ h =
     let P = over-proper a c C in
     let l = over-≺ a c (2 ^ t) 2 .0 (≼-≺-trans P (≈→≼ (≈-sym q)) h) in
     let r = round-near a c t C t≤ (omega arith) in
-    subst (λ (x : Float). Rounds x (over (2 ^ t) (2 ^ 55)) v) (sym e) (record { plain = r .plain; near = within-sym (within-same P q (within-sym (r .near))) })
+    subst (λ (x : Float). PlainNear x (over (2 ^ t) (2 ^ 55)) v) (sym e) (record { plain = r .plain; near = within-to N (≈-sym q) (r .near) })
 
 -- ---- the sum
 
@@ -134,9 +137,9 @@ unfolding add
 sum-is (fin false m e) (fin false n d) p q = refl
 
 -- below 2 ^ t / 2 it is at most 2 ^ (t - 55) off: 2 ^ -53 below 2, and 2 ^ -52 below 4
-pub sum-near : (x y : Float) (t : ℕ) → T (plain x) → T (plain y) → t ≤ 100 → exactly x ⊞ exactly y ≺ over (2 ^ t) 2 → Rounds (x ⊕ y) (over (2 ^ t) (2 ^ 55)) (exactly x ⊞ exactly y)
+pub sum-near : (x y : Float) (t : ℕ) → T (plain x) → T (plain y) → t ≤ 100 → exactly x ⊞ exactly y ≺ over (2 ^ t) 2 → PlainNear (x ⊕ y) (over (2 ^ t) (2 ^ 55)) (exactly x ⊞ exactly y)
 sum-near x y t p q t≤ h =
-    as-rounded (x ⊕ y) (exactly x ⊞ exactly y) (num x * den y + num y * den x) (den x * den y) t (sum-is x y p q)
+    as-rounded (x ⊕ y) (exactly x ⊞ exactly y) (num x * den y + num y * den x) (den x * den y) t (⊞-proper (exactly-proper x) (exactly-proper y)) (sum-is x y p q)
     (rw (plain-exactly x p, plain-exactly y q) (over-sum (num x) (den x) (num y) (den y))) (mul-pos (den-pos x) (den-pos y)) t≤ h
 
 -- ---- the difference of y from an x that is no smaller
@@ -158,10 +161,10 @@ difference-is (fin false m e) (fin false n d) p q h =
     cond-no (ltb a b) (round binary64 true (b - a) c) (round binary64 false (a - b) c) (le→nltb a b h)
 
 pub difference-near : (x y : Float) (t : ℕ) → T (plain x) → T (plain y) → t ≤ 100 → exactly y ≼ exactly x → exactly x ⊟ exactly y ≺ over (2 ^ t) 2
-    → Rounds (x ⊖ y) (over (2 ^ t) (2 ^ 55)) (exactly x ⊟ exactly y)
+    → PlainNear (x ⊖ y) (over (2 ^ t) (2 ^ 55)) (exactly x ⊟ exactly y)
 difference-near x y t p q t≤ o h =
     let l = in-order x y p q o in
-    as-rounded (x ⊖ y) (exactly x ⊟ exactly y) (num x * den y - num y * den x) (den x * den y) t (difference-is x y p q l)
+    as-rounded (x ⊖ y) (exactly x ⊟ exactly y) (num x * den y - num y * den x) (den x * den y) t (⊟-proper (exactly-proper x) (exactly-proper y)) (difference-is x y p q l)
     (rw (plain-exactly x p, plain-exactly y q) (over-difference (num x) (den x) (num y) (den y) (num x * den y - num y * den x) (add-sub-of-le l))) (mul-pos (den-pos x) (den-pos y)) t≤ h
 
 -- ---- the quotient by a y above zero
@@ -182,10 +185,10 @@ quotient-is (fin false m e) (fin false n d) p q h =
     differs n h e = omega arith
 
 pub quotient-near : (x y : Float) (t : ℕ) → T (plain x) → T (plain y) → t ≤ 100 → whole 0 ≺ exactly y → exactly x ⧄ exactly y ≺ over (2 ^ t) 2
-    → Rounds (x ⊘ y) (over (2 ^ t) (2 ^ 55)) (exactly x ⧄ exactly y)
+    → PlainNear (x ⊘ y) (over (2 ^ t) (2 ^ 55)) (exactly x ⧄ exactly y)
 quotient-near x y t p q t≤ o h =
     let n = num-above y q o in
-    as-rounded (x ⊘ y) (exactly x ⧄ exactly y) (num x * den y) (num y * den x) t (quotient-is x y p q n)
+    as-rounded (x ⊘ y) (exactly x ⧄ exactly y) (num x * den y) (num y * den x) t (⧄-proper (exactly-proper x) o) (quotient-is x y p q n)
     (rw (plain-exactly x p, plain-exactly y q) (over-quotient (num x) (den x) (num y) (den y))) (mul-pos n (den-pos x)) t≤ h
 
 -- ---- a product by a power of two, exact where nothing is lost at either end

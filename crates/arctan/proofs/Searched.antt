@@ -187,6 +187,8 @@ module _ (theta : Float) (b : Between theta) where
       let grown = move (A (at m)) (A (at n)) (reach (at n) (at m)) .0 (growth (at-proper n) (at-proper m) (at-low n (less n h)) (in-order n h) .not-below) in
       let past = ≼-trans (⊞-proper (A-proper (at-proper m)) (unit-proper 1129)) g (⊞-mono grown (≼-refl (u 1129))) in
       record {
+        left = A-proper (at-proper n);
+        right = exactly-proper theta;
         not-above = ≼-trans (unit-proper 1129) (move (A (at n)) (exactly theta) (u 1129) .1 l) bound;
         not-below = ≼-trans (⊞-proper (reach-proper n m) (unit-proper 1129)) (move (exactly theta) (A (at n)) (reach (at n) (at m) ⊞ u 1129) .1 (rw (⊞-assoc (A (at n)) (reach (at n) (at m)) (u 1129)) at past)) (apart-little n h);
       }

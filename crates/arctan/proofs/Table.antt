@@ -1,13 +1,12 @@
--- The rule of the table of reciprocals (specs/Whole.antt): the entry at k is 2 ^ 60 / (2 * k + 1), cut. One test goes over the whole table, antt computes it, and one law (`passed`) turns it into the rule at each entry.
--- Assumes nothing.
-use mathlib.Core.Bool.{Bool, true, _&&_}
+-- What the rule of the table of reciprocals (specs/Whole.antt) says of its entries: the one at k is 2 ^ 60 / (2 * k + 1), cut, so that its product with 2 * k + 1 is at most 2 ^ 60 and that of the next
+-- number is above it. That the code's table follows the rule is computed, in the proof of `nested`. Assumes nothing.
 use mathlib.Core.List.{List, [], _∷_}
-use Prim.Native.Nat.{ℕ, zero, suc, _+_, _*_, _^_, _≤_, _<_}
-use native.Mathlib.Nat.{add-suc, suc-add, add-zero, zero-add}
-use lib.Dec.{T, leb, ltb, leb→le, ltb→lt}
-use lib.Ieee.Fits.{and-l, and-r}
+use Prim.Native.Nat.{ℕ, zero, suc, _+_, _*_, _/_, _^_, _≤_, _<_}
+use native.Mathlib.Nat.{add-suc, suc-add, add-zero, zero-add, div-mul-le-self, lt-div-mul-add}
+use native.Mathlib.Omega.{arith}
 use lib.ListN.{drop}
-use Rattle.arctan.specs.Whole.{reciprocals}
+use Rattle.arctan.specs.Series.{terms}
+use Rattle.arctan.specs.Whole.{reciprocals-from, reciprocals}
 
 -- c is 2 ^ 60 / (2 * k + 1), cut
 pub record Cut (k c : ℕ) : Type 0 where
@@ -19,29 +18,20 @@ pub data Cuts : ℕ → List ℕ → Type 0 where
   none : {k : ℕ} → Cuts k []
   more : {k c : ℕ} {cs : List ℕ} → Cut k c → Cuts (suc k) cs → Cuts k (c ∷ cs)
 
--- ---- the test, at one entry and at all
+cut : (k : ℕ) → Cut k (2 ^ 60 / (2 * k + 1))
+cut k = record { not-above = div-mul-le-self (2 ^ 60) (2 * k + 1); not-below = more-than (2 ^ 60) (2 * k + 1) (2 ^ 60 / (2 * k + 1)) (lt-div-mul-add (omega arith)) }
+  where
+    more-than : (n d q : ℕ) → n < q * d + d → n < (q + 1) * d
+    more-than n d q h = omega arith
 
-abbrev low : ℕ → ℕ → Bool
-low k c = leb (c * (2 * k + 1)) (2 ^ 60)
-
-abbrev high : ℕ → ℕ → Bool
-high k c = ltb (2 ^ 60) ((c + 1) * (2 * k + 1))
-
-abbrev right : ℕ → List ℕ → Bool
-right k [] = true
-right k (c ∷ cs) = low k c && high k c && right (suc k) cs
-
-passed : (k : ℕ) (cs : List ℕ) → T (right k cs) → Cuts k cs
-passed k [] t = none
-passed k (c ∷ cs) t =
-    let both = and-l (low k c && high k c) (right (suc k) cs) t in
-    more
-    (record { not-above = leb→le _ _ (and-l (low k c) (high k c) both); not-below = ltb→lt _ _ (and-r (low k c) (high k c) both) })
-    (passed (suc k) cs (and-r (low k c && high k c) (right (suc k) cs) t))
+cuts : (n k : ℕ) → Cuts k (reciprocals-from n k)
+unfolding reciprocals-from
+cuts zero k = none
+cuts (suc n) k = more (cut k) (cuts n (suc k))
 
 pub table : Cuts 0 reciprocals
 unfolding reciprocals
-table = passed 0 reciprocals tt
+table = cuts terms 0
 
 -- ---- from an entry on
 

@@ -1,6 +1,6 @@
 -- A guess that passes its test lies within 2 ^ -44 of the angle (`guess-leads`): between theta - 2 ^ -46 and theta + 2 ^ -46, each rounded once, lies its arctangent. Assumes nothing.
 use mathlib.Core.Path.{_≡_, refl, sym, subst}
-use mathlib.Core.Bool.{Bool, true, false, cond, false≢true}
+use mathlib.Core.Bool.{Bool, true, false, _&&_, false≢true}
 use Prim.Native.Nat.{zero, suc, _^_}
 use lib.Dec.{T, lit≤}
 use lib.Ieee.{Float, nan, inf, fin, binary64, fits, lt, le, eq, ofBits}
@@ -13,7 +13,7 @@ use Rattle.arctan.specs.Series.{A, tangentBound, limit}
 use Rattle.arctan.specs.Owed.{Leads}
 use Rattle.arctan.specs.Arctangent.{arctangent}
 use Rattle.arctan.specs.Tangent.{near, close}
-use Rattle.arctan.proofs.Rounds.{plain, plain-finite, plain-low, above-plain, over-≺, Rounds, sum-near, difference-near}
+use Rattle.arctan.proofs.Rounds.{plain, plain-finite, plain-low, above-plain, over-≺, PlainNear, sum-near, difference-near}
 use Rattle.arctan.proofs.Pieces.{u, unit-proper}
 use Rattle.arctan.proofs.Near.{Good, at-zero, finite-zero, forward-finite, when-not-below, same-itself, not-below}
 
@@ -36,7 +36,7 @@ arctangent-good x f n h =
     (forward-finite x f n (rw at-zero at (le-≼ (f64 0) x finite-zero n .0 h)))
 
 -- ---- what the test says
-both-true : (b c : Bool) → cond b c false ≡ true → (b ≡ true) × (c ≡ true)
+both-true : (b c : Bool) → (b && c) ≡ true → (b ≡ true) × (c ≡ true)
 both-true true c h = (refl, h)
 both-true false c h = absurd (false≢true h)
 
@@ -52,10 +52,10 @@ holds e = subst T (sym e) tt
 pub passed : (t theta : Float) → close t theta ≡ true → Passed t theta
 unfolding close
 passed t theta h =
-    let a = both-true (finite t) (cond (le (f64 0) t) (cond (lt (theta ⊖ near) (arctangent t)) (lt (arctangent t) (theta ⊕ near)) false) false) h in
-    let b = both-true (le (f64 0) t) (cond (lt (theta ⊖ near) (arctangent t)) (lt (arctangent t) (theta ⊕ near)) false) (a .1) in
-    let c = both-true (lt (theta ⊖ near) (arctangent t)) (lt (arctangent t) (theta ⊕ near)) (b .1) in
-    record { number = holds (a .0); side = holds (b .0); above = holds (c .0); under = holds (c .1) }
+    let c = both-true (finite t && le (f64 0) t && lt (theta ⊖ near) (arctangent t)) (lt (arctangent t) (theta ⊕ near)) h in
+    let b = both-true (finite t && le (f64 0) t) (lt (theta ⊖ near) (arctangent t)) (c .0) in
+    let a = both-true (finite t) (le (f64 0) t) (b .0) in
+    record { number = holds (a .0); side = holds (a .1); above = holds (b .1); under = holds (c .1) }
 
 -- ---- where the tests stand
 near-plain : T (plain near)
@@ -78,10 +78,12 @@ pub record Between (theta : Float) : Type 0 where
   pub high : exactly theta ≼ limit
 
 -- what lies between a rounded sum and a rounded difference
-around : {a s d : Fraction} (theta n e : Fraction) → Proper s → Proper d → Proper e → a ≼ s → d ≼ a → Within e s (theta ⊞ n) → Within e d (theta ⊟ n) → Within (n ⊞ e) a theta
-around {a} {s} {d} theta n e ps pd pe h l v w = record {
-  not-above = move a theta (n ⊞ e) .1 (rw (⊞-assoc theta n e) at (≼-trans ps h (move s (theta ⊞ n) e .0 (v .not-above))));
-  not-below = move theta a (n ⊞ e) .1 (rw (⊞-left-comm n a e) at (move theta n (a ⊞ e) .0 (≼-trans (⊞-proper pd pe) (move (theta ⊟ n) d e .0 (w .not-below)) (⊞-mono l (≼-refl e)))));
+around : {a s d : Fraction} (theta n e : Fraction) → Proper a → Proper theta → Proper e → a ≼ s → d ≼ a → Within e s (theta ⊞ n) → Within e d (theta ⊟ n) → Within (n ⊞ e) a theta
+around {a} {s} {d} theta n e pa pt pe h l v w = record {
+  left = pa;
+  right = pt;
+  not-above = move a theta (n ⊞ e) .1 (rw (⊞-assoc theta n e) at (≼-trans (v .left) h (move s (theta ⊞ n) e .0 (v .not-above))));
+  not-below = move theta a (n ⊞ e) .1 (rw (⊞-left-comm n a e) at (move theta n (a ⊞ e) .0 (≼-trans (⊞-proper (w .left) pe) (move (theta ⊟ n) d e .0 (w .not-below)) (⊞-mono l (≼-refl e)))));
 }
 
 -- the bound covers the test, its rounding and the arctangent's own error
@@ -109,10 +111,10 @@ module _ (t theta : Float) (b : Between theta) (f : T (fits binary64 t)) (p : Pa
   flat : T (plain theta)
   flat = above-plain theta (b .number) (≺-≼-trans (exactly-proper theta) (over-≺ 0 1 1 (2 ^ 20) .1 (lit≤ tt)) (b .low))
 
-  sum : Rounds (theta ⊕ near) (over (2 ^ 2) (2 ^ 55)) (exactly theta ⊞ exactly near)
+  sum : PlainNear (theta ⊕ near) (over (2 ^ 2) (2 ^ 55)) (exactly theta ⊞ exactly near)
   sum = sum-near theta near 2 flat near-plain (lit≤ tt) (more-under (exactly-proper theta) (b .high))
 
-  difference : Rounds (theta ⊖ near) (over (2 ^ 2) (2 ^ 55)) (exactly theta ⊟ exactly near)
+  difference : PlainNear (theta ⊖ near) (over (2 ^ 2) (2 ^ 55)) (exactly theta ⊟ exactly near)
   difference = difference-near theta near 2 flat near-plain (lit≤ tt)
       (≼-trans (over-proper 1 (2 ^ 20) (lit≤ tt)) near-tiny (b .low)) (less-under (exactly-proper theta) (b .high))
 
@@ -120,8 +122,8 @@ module _ (t theta : Float) (b : Between theta) (f : T (fits binary64 t)) (p : Pa
   guess-leads = record {
     number = p .number;
     side = rw at-zero at (le-≼ (f64 0) t finite-zero (p .number) .0 (p .side));
-    within = within-wider (⊞-proper (unit-proper 1129) (⊞-proper (exactly-proper near) step-proper)) in-all (within-trans (exactly-proper (arctangent t)) (within-sym (good .1))
-        (around (exactly theta) (exactly near) (over (2 ^ 2) (2 ^ 55)) (exactly-proper (theta ⊕ near)) (exactly-proper (theta ⊖ near)) step-proper
+    within = within-wider (⊞-proper (unit-proper 1129) (⊞-proper (exactly-proper near) step-proper)) in-all (within-trans (within-sym (good .1))
+        (around (exactly theta) (exactly near) (over (2 ^ 2) (2 ^ 55)) (exactly-proper (arctangent t)) (exactly-proper theta) step-proper
         (≺→≼ (lt-≺ (arctangent t) (theta ⊕ near) (good .0) (plain-finite (theta ⊕ near) (sum .plain)) .0 (p .under)))
         (≺→≼ (lt-≺ (theta ⊖ near) (arctangent t) (plain-finite (theta ⊖ near) (difference .plain)) (good .0) .0 (p .above)))
         (sum .near) (difference .near)));

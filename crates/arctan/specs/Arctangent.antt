@@ -1,4 +1,5 @@
--- The arctangent as the code works it out. It is shut to other crates: they know it by its laws (proofs/Laws.antt), above all that it lies near the series. Definitions only.
+-- The arctangent as the code works it out, so that its contract can name one answer. No other crate unfolds what stands
+-- here: they know it by its laws (proofs/Laws.antt), above all that it lies near the series. Definitions only.
 use mathlib.Core.Bool.{cond}
 use Prim.Native.Nat.{ℕ, _+_, _-_}
 use lib.Dec.{T}

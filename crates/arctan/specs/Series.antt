@@ -1,4 +1,5 @@
--- The published series that arctangent and tangent are held to, as exact fractions. Nothing here knows how either is worked out. Definitions only.
+-- The published series that arctangent and tangent are held to, as exact fractions. Nothing here knows how either is
+-- worked out. Definitions only.
 use mathlib.Core.Path.{_≡_}
 use mathlib.Core.Bool.{Bool, false, not, cond}
 use Prim.Native.Nat.{ℕ, zero, suc, _+_, _*_, _^_}

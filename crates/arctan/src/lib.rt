@@ -14,7 +14,7 @@ ghost use Rattle.arctan.specs.Arctangent.{Countable, counted, angle, bac
 ghost use Rattle.arctan.specs.Tangent.{close, sine, cosine, grid, digits, halved, found, steep, tangent};
 ghost use Rattle.arctan.specs.Owed.{Tangent};
 
-// The odd reciprocals 1, 1/3, 1/5, .., 1/47, counted in 2^-60 and cut.
+// The odd reciprocals 1, 1/3, 1/5, .., 1/47, counted in 2^-60 and cut: 2^60 / (2k + 1).
 const RECIPROCALS: [u64; 24] = [
     1152921504606846976,
     384307168202282325,
@@ -155,13 +155,9 @@ const NEAR: f64 = 1.4210854715202004e-14;
 fn close(t: f64, theta: f64) -> bool
     ensures { λ r. ⌜ r ≡ close t theta ⌝ }
 {
-    if exact::is_finite(t) {
-        if 0.0 <= t {
-            let a = arctangent(t);
-            if theta - NEAR < a {
-                return a < theta + NEAR;
-            }
-        }
+    if exact::is_finite(t) && 0.0 <= t {
+        let a = arctangent(t);
+        return theta - NEAR < a && a < theta + NEAR;
     }
     false
 }
@@ -238,8 +234,8 @@ fn steep(theta: f64) -> f64
 // The largest angle that has a tangent here.
 const LIMIT: f64 = 1.5;
 
-// The tangent of theta, for an angle of at most the limit in size; a larger one is refused with the number 10. A NaN and
-// the infinities give a NaN, and a zero itself.
+// The tangent of theta, for an angle of at most the limit in size; a larger one is too steep, refusal 10. A NaN and the
+// infinities give a NaN, and a zero itself.
 pub fn tangent(theta: f64) -> Slope
     ensures is { λ r. ⌜ r ≡ tangent theta ⌝ }
     ensures near { λ r. ⌜ Tangent theta r ⌝ }

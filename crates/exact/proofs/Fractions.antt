@@ -278,29 +278,45 @@ power-over a c (suc n) = rw (power-over a c n, over-⊠, pow-suc a n, pow-suc c 
 -- ---- nearness
 
 pub within-sym : {ε a b : Fraction} → Within ε a b → Within ε b a
-within-sym h = record { not-above = h .not-below; not-below = h .not-above }
+within-sym h = record { left = h .right; right = h .left; not-above = h .not-below; not-below = h .not-above }
 
-pub within-refl : {ε : Fraction} (a : Fraction) → whole 0 ≼ ε → Within ε a a
-within-refl {ε} a h = let r = move a a ε .1 (rw ⊞-zero at (⊞-mono (≼-refl a) h)) in record { not-above = r; not-below = r }
+pub within-refl : {ε a : Fraction} → Proper a → whole 0 ≼ ε → Within ε a a
+within-refl {ε} {a} A h = let r = move a a ε .1 (rw ⊞-zero at (⊞-mono (≼-refl a) h)) in record { left = A; right = A; not-above = r; not-below = r }
 
 pub within-wider : {ε δ a b : Fraction} → Proper ε → ε ≼ δ → Within ε a b → Within δ a b
-within-wider E h k = record { not-above = ≼-trans E (k .not-above) h; not-below = ≼-trans E (k .not-below) h }
+within-wider E h k = record { left = k .left; right = k .right; not-above = ≼-trans E (k .not-above) h; not-below = ≼-trans E (k .not-below) h }
 
 -- the triangle law, on one side and on both
 step : (a c : Fraction) {ε δ b : Fraction} → Proper b → a ⊟ b ≼ ε → b ⊟ c ≼ δ → a ⊟ c ≼ ε ⊞ δ
 step a c {ε} {δ} {b} B h k = move a c (ε ⊞ δ) .1 (rw (⊞-left-comm c ε δ) (move a ε (c ⊞ δ) .0 (≼-trans B (swap a b ε h) (move b c δ .0 k))))
 
-pub within-trans : {ε δ a b c : Fraction} → Proper b → Within ε a b → Within δ b c → Within (ε ⊞ δ) a c
-within-trans {ε} {δ} {a} {c = c} B h k = record { not-above = step a c B (h .not-above) (k .not-above); not-below = rw (⊞-comm ε δ) (step c a B (k .not-below) (h .not-below)) }
-
-pub within-same : {ε a b c : Fraction} → Proper b → a ≈ b → Within ε b c → Within ε a c
-within-same {ε} {a} {b} {c} B h k = record {
-  not-above = move a c ε .1 (≼-trans B (≈→≼ h) (move b c ε .0 (k .not-above)));
-  not-below = swap c ε a (≼-trans B (swap c b ε (k .not-below)) (≈→≼ (≈-sym h)));
+pub within-trans : {ε δ a b c : Fraction} → Within ε a b → Within δ b c → Within (ε ⊞ δ) a c
+within-trans {ε} {δ} {a} {c = c} h k = record {
+  left = h .left;
+  right = k .right;
+  not-above = step a c (h .right) (h .not-above) (k .not-above);
+  not-below = rw (⊞-comm ε δ) (step c a (h .right) (k .not-below) (h .not-below));
 }
 
+-- of another name for the first of the two, and for the second
+pub within-same : {ε a b c : Fraction} → Proper a → a ≈ b → Within ε b c → Within ε a c
+within-same {ε} {a} {b} {c} A h k = record {
+  left = A;
+  right = k .right;
+  not-above = move a c ε .1 (≼-trans (k .left) (≈→≼ h) (move b c ε .0 (k .not-above)));
+  not-below = swap c ε a (≼-trans (k .left) (swap c b ε (k .not-below)) (≈→≼ (≈-sym h)));
+}
+
+pub within-to : {ε a b c : Fraction} → Proper c → b ≈ c → Within ε a b → Within ε a c
+within-to C e h = within-sym (within-same C (≈-sym e) (within-sym h))
+
 pub within-opposite : {ε a b : Fraction} → Within ε a b → Within ε (opposite a) (opposite b)
-within-opposite {a = a} {b} h = record { not-above = rw (opposite-opposite b, ⊞-comm (opposite a) b) (h .not-below); not-below = rw (opposite-opposite a, ⊞-comm (opposite b) a) (h .not-above) }
+within-opposite {a = a} {b} h = record {
+  left = opposite-proper (h .left);
+  right = opposite-proper (h .right);
+  not-above = rw (opposite-opposite b, ⊞-comm (opposite a) b) (h .not-below);
+  not-below = rw (opposite-opposite a, ⊞-comm (opposite b) a) (h .not-above);
+}
 
 pub within-signed : {ε a b : Fraction} (s : Bool) → Within ε a b → Within ε (signed s a) (signed s b)
 within-signed false h = h
@@ -310,12 +326,19 @@ interchange : (a b c d : Fraction) → a ⊞ c ⊟ (b ⊞ d) ≡ (a ⊟ b) ⊞ (
 interchange a b c d = simp (opposite-⊞, ⊞-assoc, ⊞-left-comm)
 
 pub within-⊞ : {ε δ a b c d : Fraction} → Within ε a b → Within δ c d → Within (ε ⊞ δ) (a ⊞ c) (b ⊞ d)
-within-⊞ {a = a} {b} {c} {d} h k = record { not-above = rw (interchange a b c d) (⊞-mono (h .not-above) (k .not-above)); not-below = rw (interchange b a d c) (⊞-mono (h .not-below) (k .not-below)) }
+within-⊞ {a = a} {b} {c} {d} h k = record {
+  left = ⊞-proper (h .left) (k .left);
+  right = ⊞-proper (h .right) (k .right);
+  not-above = rw (interchange a b c d) (⊞-mono (h .not-above) (k .not-above));
+  not-below = rw (interchange b a d c) (⊞-mono (h .not-below) (k .not-below));
+}
 
-pub within-⊠ : {ε a b c : Fraction} → Proper a → Proper b → Proper c → whole 0 ≼ c → Within ε a b → Within (ε ⊠ c) (a ⊠ c) (b ⊠ c)
-within-⊠ {a = a} {b} {c} A B C N h = record {
-  not-above = ≈-≼ (⊠-proper (⊟-proper A B) C) (≈-sym (⊟-⊠ a b c)) (⊠-mono N (h .not-above));
-  not-below = ≈-≼ (⊠-proper (⊟-proper B A) C) (≈-sym (⊟-⊠ b a c)) (⊠-mono N (h .not-below));
+pub within-⊠ : {ε a b c : Fraction} → Proper c → whole 0 ≼ c → Within ε a b → Within (ε ⊠ c) (a ⊠ c) (b ⊠ c)
+within-⊠ {a = a} {b} {c} C N h = record {
+  left = ⊠-proper (h .left) C;
+  right = ⊠-proper (h .right) C;
+  not-above = ≈-≼ (⊠-proper (⊟-proper (h .left) (h .right)) C) (≈-sym (⊟-⊠ a b c)) (⊠-mono N (h .not-above));
+  not-below = ≈-≼ (⊠-proper (⊟-proper (h .right) (h .left)) C) (≈-sym (⊟-⊠ b a c)) (⊠-mono N (h .not-below));
 }
 
 -- ---- a float's number
@@ -384,16 +407,21 @@ le-≼ x y p q = (
 
 -- ---- how far a rounding goes
 
-halves : (q l a c w : ℕ) → 2 * (q * c) ≤ 2 * (a * l) + c * w → 2 * (a * l) ≤ 2 * (q * c) + c * w → Within (over w (2 * l)) (over q l) (over a c)
+halves : (q l a c w : ℕ) → 0 < l → 0 < c → 2 * (q * c) ≤ 2 * (a * l) + c * w → 2 * (a * l) ≤ 2 * (q * c) + c * w → Within (over w (2 * l)) (over q l) (over a c)
 unfolding over _⊞_ opposite
-halves q l a c w h k = record { not-above = record { holds = omega (arith, mul-le-mul-right l h) }; not-below = record { holds = omega (arith, mul-le-mul-right l k) } }
+halves q l a c w L C h k = record {
+  left = record { above = L };
+  right = record { above = C };
+  not-above = record { holds = omega (arith, mul-le-mul-right l h) };
+  not-below = record { holds = omega (arith, mul-le-mul-right l k) };
+}
 
--- a / c, rounded with its sign and not to an infinity, is at most half a unit in the last place off: `near (rounded f s a c C)`
-pub near : {f : Format} {s : Bool} {a c : ℕ} (r : Rounded f s a c) → r .steps < overflow f → Within (halfUnits f (r .last)) (exactly (round f s a c)) (signed s (over a c))
+-- a / c, rounded with its sign and not to an infinity, is at most half a unit in the last place off: `near C (rounded f s a c C)`
+pub near : {f : Format} {s : Bool} {a c : ℕ} → 0 < c → (r : Rounded f s a c) → r .steps < overflow f → Within (halfUnits f (r .last)) (exactly (round f s a c)) (signed s (over a c))
 unfolding halfUnits
-near {f} {s} {a} {c} r h =
-    within-same (signed-proper s (over-proper (r .steps) (2 ^ low f) (pow-pos (low f)))) (value (round f s a c) s (r .steps) (2 ^ low f) (r .under h))
-    (within-signed s (halves (r .steps) (2 ^ low f) a c (2 ^ r .last) (r .not-above) (r .not-below)))
+near {f} {s} {a} {c} C r h =
+    within-same (exactly-proper (round f s a c)) (value (round f s a c) s (r .steps) (2 ^ low f) (r .under h))
+    (within-signed s (halves (r .steps) (2 ^ low f) a c (2 ^ r .last) (pow-pos (low f)) C (r .not-above) (r .not-below)))
 
-pub near-finite : {f : Format} {s : Bool} {a c : ℕ} (r : Rounded f s a c) → T (finite (round f s a c)) → Within (halfUnits f (r .last)) (exactly (round f s a c)) (signed s (over a c))
-near-finite {f} {s} {a} {c} r t = elim (decLt (r .steps) (overflow f)) [ yes h ↦ near r h | no h ↦ absurd (subst (λ (x : Float). T (finite x)) (r .over (omega arith)) t) ]
+pub near-finite : {f : Format} {s : Bool} {a c : ℕ} → 0 < c → (r : Rounded f s a c) → T (finite (round f s a c)) → Within (halfUnits f (r .last)) (exactly (round f s a c)) (signed s (over a c))
+near-finite {f} {s} {a} {c} C r t = elim (decLt (r .steps) (overflow f)) [ yes h ↦ near C r h | no h ↦ absurd (subst (λ (x : Float). T (finite x)) (r .over (omega arith)) t) ]

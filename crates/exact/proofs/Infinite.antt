@@ -1,19 +1,21 @@
--- From which size on a fraction a / c rounds to an infinity: from `limit` on (`goes-infinite`), and not below it (`stays-finite`). Assumes nothing.
+-- From which size on a fraction a / c rounds to an infinity: from `limit` on (`goes-infinite`), and not below it (`stays-finite`). So two f32s have a finite difference (`singles-differ`). Assumes nothing.
 use mathlib.Core.Path.{_≡_, refl, sym, ap, _∙_, subst}
 use mathlib.Core.Logic.{_⊎_, inl, inr}
-use mathlib.Core.Bool.{Bool, true, false}
+use mathlib.Core.Bool.{Bool, true, false, not, _&&_, cond, Bool·beq}
 use Prim.Native.Nat.{ℕ, suc, _+_, _-_, _*_, _^_, _≤_, _<_}
-use native.Mathlib.Nat.{le-of-eq, le-of-suc-le-suc, lt-of-lt-of-le, lt-of-le-of-lt, lt-of-not-le, mul-one, mul-comm, mul-assoc, mul-right-comm, add-mul, mul-le-mul-left, mul-le-mul-right, mul-lt-mul-of-pos-right, lt-of-mul-lt-mul-right, zero-lt-suc}
+use native.Mathlib.Nat.{le-of-eq, le-of-suc-le-suc, lt-of-lt-of-le, lt-of-le-of-lt, lt-of-not-le, mul-one, mul-comm, mul-assoc, mul-right-comm, add-mul, mul-le-mul-left, mul-le-mul-right, mul-lt-mul-of-pos-right, lt-of-mul-lt-mul-right, mul-pos, zero-lt-suc}
 use native.Mathlib.Omega.{arith}
-use lib.Dec.{T, lit≤}
+use lib.IntN.{ℤ}
+use lib.Dec.{T, ltb, lit≤}
 use lib.Pow.{pow-mono, pow-pos}
-use lib.Ieee.{Float, nan, inf, fin, Format, binary32, binary64, prec, emax, low, round, le}
-use lib.Ieee.Fits.{two, round-is}
+use lib.Ieee.{Float, nan, inf, fin, Format, binary32, binary64, prec, emax, low, up, down, round, sum, add, sub, neg, le, fits}
+use lib.Ieee.Fits.{two, round-is, down-pos}
 use lib.Ieee.Exact.{HasValue}
 use lib.Ieee.Order.{drop, kept, round-mono}
 use lib.Ieee.Scale.{grid, overflow, finite, round-val}
+use Rattle.exact.specs.F64.{_⊖_}
 use Rattle.exact.specs.Rounding.{limit}
-use Rattle.exact.proofs.Pattern.{exponent-lt}
+use Rattle.exact.proofs.Pattern.{exponent-lt, in-range, unsigned}
 use Rattle.exact.proofs.Rounding.{rounded, past}
 
 -- ---- the limit, in units: below `overflow`, by half of the last place of the largest numbers
@@ -61,7 +63,7 @@ doubled p v w c e =
 under : (x y u p v w : ℕ) → 2 * x ≤ 2 * y + u → y < p → u ≤ v → 2 * p + v ≡ 2 * w → x < w
 under x y u p v w n h l e = omega arith
 
-has-value : (x : Float) (s : Bool) (a c : ℕ) → HasValue x s a c → T (finite x)
+pub has-value : (x : Float) (s : Bool) (a c : ℕ) → HasValue x s a c → T (finite x)
 has-value nan s a c h = h
 has-value (inf t) s a c h = h
 has-value (fin t m e) s a c h = tt
@@ -100,3 +102,36 @@ goes-infinite f s a c C h =
     (only-infinity (round f false a c)
     (subst (λ (x : Float). T (le x (round f false a c))) (at-limit f)
     (round-mono f (limit f) 1 a c (zero-lt-suc 0) C (subst (λ (x : ℕ). limit f * c ≤ x) (sym (mul-one a)) h))))
+
+-- ---- a difference of two f32s is far below it, and so a number
+
+-- of two sizes below p, neither sum nor difference reaches 2 * p
+both-under : (a b p c : ℕ) → a < p * c → b < p * c → a + b < (p + p) * c
+both-under a b p c h k = omega arith
+
+less-under : (a b p c : ℕ) → a < p * c → a - b < (p + p) * c
+less-under a b p c h = omega arith
+
+room : (s : Bool) (x c : ℕ) → 0 < c → x < (2 ^ 128 + 2 ^ 128) * c → T (finite (round binary64 s x c))
+room s x c C h = stays-finite binary64 s x c C (lt-of-lt-of-le h (mul-le-mul-right c (lit≤ tt)))
+
+small-sum : (s t : Bool) (a b c : ℕ) → 0 < c → a < 2 ^ 128 * c → b < 2 ^ 128 * c → T (finite (sum binary64 s a t b c))
+unfolding sum
+small-sum s t a b c C h k =
+    either (Bool·beq s t) (round binary64 s (a + b) c) (cond (ltb a b) (round binary64 t (b - a) c) (round binary64 (s && ltb b a) (a - b) c))
+    (room s (a + b) c C (both-under a b (2 ^ 128) c h k))
+    (either (ltb a b) (round binary64 t (b - a) c) (round binary64 (s && ltb b a) (a - b) c) (room t (b - a) c C (less-under b a (2 ^ 128) c k)) (room (s && ltb b a) (a - b) c C (less-under a b (2 ^ 128) c h)))
+  where
+    either : (b : Bool) (x y : Float) → T (finite x) → T (finite y) → T (finite (cond b x y))
+    either true x y p q = p
+    either false x y p q = q
+
+-- the size of an f32, over a common denominator
+single-under : (s : Bool) (m : ℕ) (e : ℤ) (d : ℕ) → T (fits binary32 (fin s m e)) → 0 < d → m * up e * d < 2 ^ 128 * (down e * d)
+single-under s m e d f D = subst (λ (x : ℕ). m * up e * d < x) (mul-assoc (2 ^ 128) (down e) d) (mul-lt-mul-of-pos-right (in-range binary32 m e (unsigned binary32 s m e f)) D)
+
+pub singles-differ : (x y : Float) → T (fits binary32 x) → T (fits binary32 y) → T (finite x) → T (finite y) → T (finite (x ⊖ y))
+unfolding sub add neg
+singles-differ (fin s m e) (fin t n d) f g p q =
+    small-sum s (not t) (m * up e * down d) (n * up d * down e) (down e * down d) (mul-pos (down-pos e) (down-pos d)) (single-under s m e (down d) f (down-pos d))
+    (subst (λ (c : ℕ). n * up d * down e < 2 ^ 128 * c) (mul-comm (down d) (down e)) (single-under t n d (down e) g (down-pos e)))

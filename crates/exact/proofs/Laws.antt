@@ -14,7 +14,7 @@ use lib.Ieee.Scale.{finite, overflow}
 use Rattle.exact.specs.Rounding.{Rounded, limit}
 use Rattle.exact.proofs.Rounding.{rounded}
 use Rattle.exact.proofs.Infinite.{stays-finite, goes-infinite}
-use Rattle.exact.proofs.Pattern.{unique, InUnits, in-units}
+use Rattle.exact.proofs.Pattern.{unique, InUnits, in-units, itself}
 use Rattle.exact.specs.Determined.{Determined}
 use Rattle.exact.proofs.is_finite.Reads as is-finite-contract
 use Rattle.exact.proofs.magnitude.Reads as magnitude-contract
@@ -69,15 +69,22 @@ either-way : (p q q' : Bool) → (T q → T q') → T (p || q) → T (p || q')
 either-way true q q' f t = tt
 either-way false q q' f t = f t
 
+equal-back : (a b : ℕ) → T (eqb a b && true) → T (eqb b a && true)
+equal-back a b h = and-i (eqb b a) true (same-back a b (and-l (eqb a b) true h)) tt
+
+zeros-back : (a b : ℕ) → T (eqb a b && eqb a 0) → T (eqb b a && eqb b 0)
+zeros-back a b h =
+    let e = and-l (eqb a b) (eqb a 0) h in
+    and-i (eqb b a) (eqb b 0) (same-back a b e) (subst (λ (z : ℕ). T (eqb z 0)) (eqb→eq a b e) (and-r (eqb a b) (eqb a 0) h))
+
 -- in sizes: ±a ≤ ±b, and the other way round with the signs turned
 turned-sizes : (s t : Bool) (a b : ℕ) → T (below s a t b || level s a t b) → T (below (not t) b (not s) a || level (not t) b (not s) a)
-turned-sizes false false a b h = either-way (ltb a b) (eqb a b && true) (eqb b a && true) (λ h. and-i (eqb b a) true (same-back a b (and-l (eqb a b) true h)) tt) h
-turned-sizes false true a b h = and-i (eqb b a) (eqb b 0) (same-back a b (and-l (eqb a b) (eqb a 0) h)) (subst (λ (z : ℕ). T (eqb z 0)) (eqb→eq a b (and-l (eqb a b) (eqb a 0) h)) (and-r (eqb a b) (eqb a 0) h))
+turned-sizes false false a b h = either-way (ltb a b) (eqb a b && true) (eqb b a && true) (equal-back a b) h
+turned-sizes false true a b h = zeros-back a b h
 turned-sizes true false a b h =
     subst (λ (z : ℕ). T (ltb 0 z || (eqb b a && eqb b 0))) (add-comm a b)
-    (either-way (ltb 0 (a + b)) (eqb a b && eqb a 0) (eqb b a && eqb b 0)
-    (λ h. and-i (eqb b a) (eqb b 0) (same-back a b (and-l (eqb a b) (eqb a 0) h)) (subst (λ (z : ℕ). T (eqb z 0)) (eqb→eq a b (and-l (eqb a b) (eqb a 0) h)) (and-r (eqb a b) (eqb a 0) h))) h)
-turned-sizes true true a b h = either-way (ltb b a) (eqb a b && true) (eqb b a && true) (λ h. and-i (eqb b a) true (same-back a b (and-l (eqb a b) true h)) tt) h
+    (either-way (ltb 0 (a + b)) (eqb a b && eqb a 0) (eqb b a && eqb b 0) (zeros-back a b) h)
+turned-sizes true true a b h = either-way (ltb b a) (eqb a b && true) (eqb b a && true) (equal-back a b) h
 
 -- Turning both signs turns the order.
 pub order-turned : (x y : Float) → T (le x y) → T (le (neg y) (neg x))
@@ -99,12 +106,15 @@ order-turned (fin s m e) (fin t n d) h = turned-sizes s t (m * up e * down d) (n
 -- Of two negative fractions the one that is further down rounds to a value that is no larger.
 pub rounding-monotone-below : (f : Format) (a b c d : ℕ) → 0 < b → 0 < d → a * d ≤ c * b → T (le (round f true c d) (round f true a b))
 rounding-monotone-below f a b c d B D h =
-    subst (λ (x : Float). T (le x (round f true a b))) (sym (rounding-turned f c d))
-    (subst (λ (x : Float). T (le (neg (round f false c d)) x)) (sym (rounding-turned f a b)) (order-turned (round f false a b) (round f false c d) (round-mono f a b c d B D h)))
+    rw (rounding-turned f c d, rounding-turned f a b) (order-turned (round f false a b) (round f false c d) (round-mono f a b c d B D h))
 
 -- Two values of a format with one sign and one size are one.
 pub value-unique : (f : Format) (x y : Float) (s : Bool) (a c : ℕ) → 0 < c → T (fits f x) → T (fits f y) → HasValue x s a c → HasValue y s a c → x ≡ y
 value-unique = unique
+
+-- A value of a format is rounded to itself.
+pub rounding-held : (f : Format) (s : Bool) (m : ℕ) (e : ℤ) → T (fits f (fin s m e)) → round f s (m * up e) (down e) ≡ fin s m e
+rounding-held = itself
 
 -- A finite value of a format is a whole number of its smallest value, 2 ^ -low: of at most prec binary digits, with zeros after them.
 pub value-in-units : (f : Format) (s : Bool) (m : ℕ) (e : ℤ) → T (fits f (fin s m e)) → InUnits f (fin s m e) s

@@ -3,16 +3,16 @@
 use mathlib.Core.Path.{_≡_, refl, sym, ap, _∙_, subst}
 use mathlib.Core.Logic.{_⊎_, inl, inr}
 use Prim.Native.Nat.{ℕ, zero, suc, _+_, _-_, _*_, _/_, _%_, _^_, _≤_, _<_}
-use native.Mathlib.Nat.{le-antisymm, lt-of-lt-of-le, lt-of-le-of-lt, eq-or-lt-of-le, lt-irrefl, lt-of-not-le, div-one, mul-one, one-mul, add-assoc, suc-mul, mul-comm, mul-right-comm, mul-div-cancel, mul-le-mul-right, pow-succ', pow-suc, zero-mul, zero-add, le-refl, mul-assoc, eq-of-mul-eq-mul-right, mul-pos, le-trans, le-of-eq, add-mul, add-lt-add-of-le-of-lt, mul-lt-mul-of-pos-right, div-lt-iff-lt-mul, le-of-suc-le-suc}
+use native.Mathlib.Nat.{le-antisymm, lt-of-lt-of-le, lt-of-le-of-lt, eq-or-lt-of-le, lt-irrefl, lt-of-not-le, div-one, mul-one, one-mul, add-assoc, suc-mul, mul-comm, mul-right-comm, mul-div-cancel, mul-le-mul-right, pow-succ', pow-suc, zero-mul, zero-add, le-refl, mul-assoc, eq-of-mul-eq-mul-right, mul-pos, le-trans, le-of-eq, add-mul, add-lt-add-of-le-of-lt, mul-lt-mul-of-pos-right, div-lt-iff-lt-mul, le-of-suc-le-suc, lt-of-mul-lt-mul-right}
 use native.Mathlib.Omega.{arith}
 use mathlib.Core.Bool.{Bool, false, cond, _&&_}
 use lib.IntN.{ℤ, pos, negsuc}
 use lib.Dec.{T, leb, ltb, eqb, eqb→eq, ltb→lt, leb→le, not-T}
 use lib.Pow.{pow-add, pow-pos, pow-mono, shl-lt, pow-lt}
-use lib.Ieee.{Float, nan, inf, fin, Format, prec, emax, low, up, down, size, odd, hid, ones, top, ofFields, ofBits, toBits, fits}
+use lib.Ieee.{Float, nan, inf, fin, Format, prec, emax, low, up, down, size, odd, hid, ones, top, round, ofFields, ofBits, toBits, fits}
 use lib.Ieee.Digits.{size-lt, size-le}
-use lib.Ieee.Fits.{up-pos, down-pos, two, two-le-pos, reach, kept-lt, and-l, and-r}
-use lib.Ieee.Exact.{HasValue, odd-sign}
+use lib.Ieee.Fits.{up-pos, down-pos, two, two-le-pos, reach, kept-lt, round-fits, and-l, and-r}
+use lib.Ieee.Exact.{HasValue, odd-sign, round-exact}
 use lib.Ieee.Nearest.{div-same}
 use lib.Ieee.Bits.{ofBits-toBits, cond-no}
 
@@ -230,3 +230,23 @@ pub same-units : (x : Float) (s : Bool) (a b c : ℕ) → 0 < c → HasValue x s
 same-units nan s a b c C v w = absurd v
 same-units (inf t) s a b c C v w = absurd v
 same-units (fin t m e) s a b c C v w = eq-of-mul-eq-mul-right (down e) (down-pos e) a b (sym (v .1) ∙ w .1)
+
+-- ---- a value of a format is rounded to itself
+
+pub unsigned : (f : Format) (s : Bool) (m : ℕ) (e : ℤ) → T (fits f (fin s m e)) → T (fits f (fin false m e))
+unfolding fits
+unsigned f s zero e t = t
+unsigned f s (suc m) e t = t
+
+-- the units of a value are fewer than those of the least power of two past the largest number
+pub units-small : (f : Format) (s : Bool) (m : ℕ) (e : ℤ) (t : T (fits f (fin s m e))) → in-units f s m e t .digits * 2 ^ in-units f s m e t .zeros < 2 ^ (low f + suc (emax f))
+units-small f s m e t =
+    lt-of-mul-lt-mul-right (down e)
+    (lt-of-lt-of-le (subst (λ (x : ℕ). x < 2 ^ suc (emax f) * down e * 2 ^ low f) (in-units f s m e t .value .1) (mul-lt-mul-of-pos-right (in-range f m e (unsigned f s m e t)) (pow-pos (low f))))
+    (le-of-eq (mul-right-comm (2 ^ suc (emax f)) (down e) (2 ^ low f) ∙ ap (λ (x : ℕ). x * down e) (mul-comm (2 ^ suc (emax f)) (2 ^ low f) ∙ sym (pow-add 2 (low f) (suc (emax f)))))))
+
+pub itself : (f : Format) (s : Bool) (m : ℕ) (e : ℤ) → T (fits f (fin s m e)) → round f s (m * up e) (down e) ≡ fin s m e
+itself f s m e t =
+    let u = in-units f s m e t in
+    unique f (round f s (m * up e) (down e)) (fin s m e) s (m * up e) (down e) (down-pos e) (round-fits f s (m * up e) (down e)) t
+    (round-exact f s (m * up e) (down e) (u .digits) (u .zeros) (down-pos e) (u .few) (units-small f s m e t) (u .value .1)) (refl, refl)

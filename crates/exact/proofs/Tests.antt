@@ -5,7 +5,7 @@ use Prim.Native.Nat.{ℕ, zero, suc, _+_, _*_, _%_, _≤_, _<_}
 use native.Mathlib.Nat.{zero-lt-suc, mul-pos, zero-mul, lt-irrefl}
 use native.Mathlib.Omega.{arith}
 use lib.IntN.{ℤ, pos}
-use lib.Dec.{T, ltb, ltb→lt, lt→ltb, eqb·suc-zero}
+use lib.Dec.{T, ltb, ltb→lt, lt→ltb, eqb·suc-zero, eqb·zero-suc}
 use lib.Ieee.{Float, nan, inf, fin, binary64, up, down, level, lt, eq, ne, neg, ofBits, fits, isNan, nanBits}
 use lib.Ieee.Fits.{up-pos, down-pos}
 use lib.Ieee.Bits.{is-true, nanBits-is, nanBits-above}
@@ -16,7 +16,7 @@ use lib.Ieee.Scale.{finite}
 use Rattle.exact.specs.F64.{f64, magnitude, isZero}
 
 -- a size above zero is no zero
-size-pos : (m : ℕ) (e d : ℤ) → 0 < suc m * up e * down d
+pub size-pos : (m : ℕ) (e d : ℤ) → 0 < suc m * up e * down d
 size-pos m e d = mul-pos (mul-pos (zero-lt-suc m) (up-pos e)) (down-pos d)
 
 never : (a c : ℕ) → ltb a (0 * c) ≡ true → ⊥
@@ -58,20 +58,38 @@ finite-not (fin s m e) h = absurd (true≢false h)
 
 -- ---- zero
 
-level-zero : (s : Bool) → level s 0 false 0 ≡ true
-level-zero true = refl
-level-zero false = refl
+level-zeros : (s t : Bool) → level s 0 t 0 ≡ true
+level-zeros s t = go (Bool·beq s t)
+  where
+    go : (b : Bool) → (true && (b || true)) ≡ true
+    go true = refl
+    go false = refl
 
-level-above : (s : Bool) (a : ℕ) → 0 < a → level s a false 0 ≡ false
-level-above s zero h = absurd (lt-irrefl 0 h)
-level-above s (suc a) h = ap (λ (b : Bool). b && (Bool·beq s false || b)) (eqb·suc-zero a)
+level-above : (s t : Bool) (a : ℕ) → 0 < a → level s a t 0 ≡ false
+level-above s t zero h = absurd (lt-irrefl 0 h)
+level-above s t (suc a) h = ap (λ (b : Bool). b && (Bool·beq s t || b)) (eqb·suc-zero a)
+
+level-under : (s t : Bool) (a : ℕ) → 0 < a → level s 0 t a ≡ false
+level-under s t zero h = absurd (lt-irrefl 0 h)
+level-under s t (suc a) h = ap (λ (b : Bool). b && (Bool·beq s t || true)) (eqb·zero-suc a)
+
+pub equals-zero : (x : Float) (s : Bool) (e : ℤ) → eq x (fin s zero e) ≡ isZero x
+unfolding eq isZero
+equals-zero nan s e = refl
+equals-zero (inf t) s e = refl
+equals-zero (fin t zero d) s e = simp zero-mul (level-zeros t s)
+equals-zero (fin t (suc m) d) s e = simp zero-mul (level-above t s (suc m * up d * down e) (size-pos m d e))
+
+pub zero-equals : (y : Float) (s : Bool) (e : ℤ) → eq (fin s zero e) y ≡ isZero y
+unfolding eq isZero
+zero-equals nan s e = refl
+zero-equals (inf t) s e = refl
+zero-equals (fin t zero d) s e = simp zero-mul (level-zeros s t)
+zero-equals (fin t (suc m) d) s e = simp zero-mul (level-under s t (suc m * up d * down e) (size-pos m d e))
 
 pub is-zero : (x : Float) → eq x (f64 0) ≡ isZero x
-unfolding eq ofBits isZero
-is-zero nan = refl
-is-zero (inf s) = refl
-is-zero (fin s zero e) = simp zero-mul (level-zero s)
-is-zero (fin s (suc m) e) = simp zero-mul (level-above s (suc m * up e * 1) (size-pos m e (pos 0)))
+unfolding ofBits
+is-zero x = equals-zero x false (pos 0)
 
 -- ---- the sign taken off
 

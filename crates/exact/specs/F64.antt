@@ -1,5 +1,6 @@
--- The words of an f64 formula. An operator in a circle is the f64 operation of IEEE 754: the exact result, rounded once, a tie to the even neighbour.
--- What a `Float` is, and what each operation does with NaN, infinities and zeros, is the library's account (lib.Ieee). Definitions only.
+-- The words of an f64 formula. An operator in a circle is the f64 operation of IEEE 754: the exact result, rounded
+-- once, a tie to the even neighbour. What a `Float` is, and what each operation does with NaN, infinities and zeros, is
+-- the library's account (lib.Ieee). Definitions only.
 use mathlib.Core.Bool.{Bool, true, false}
 use Prim.Native.Nat.{ℕ, zero, suc}
 use lib.Ieee.{Float, nan, inf, fin, binary64, add, sub, mul, div, neg, ofBits}

@@ -1,4 +1,5 @@
--- Fractions of whole numbers, exactly: what a bound on a rounded number is stated in. An operator in a box is the exact operation, and rounds nothing. Definitions only.
+-- Fractions of whole numbers, exactly: what a bound on a rounded number is stated in. An operator in a box is the exact
+-- operation, and rounds nothing. Definitions only.
 use mathlib.Core.Path.{_≡_}
 use mathlib.Core.Bool.{Bool, true, false}
 use Prim.Native.Nat.{ℕ, zero, suc, _+_, _-_, _*_, _^_, _≤_, _<_}
@@ -77,9 +78,11 @@ abbrev pub signed : Bool → Fraction → Fraction
 signed false a = a
 signed true a = opposite a
 
--- ---- nearness: a and b are at most ε apart
+-- ---- nearness: a and b are numbers, at most ε apart
 
 pub record Within (ε a b : Fraction) : Type 0 where
+  pub left : Proper a
+  pub right : Proper b
   pub not-above : a ⊟ b ≼ ε
   pub not-below : b ⊟ a ≼ ε
 

@@ -15,7 +15,7 @@ pub fn is_finite(x: f64) -> bool
     ensures { λ r. ⌜ r ≡ finite x ⌝ }
 {
     let infinity = f64::from_bits(INFINITY);
-    if x < infinity { -infinity < x } else { false }
+    x < infinity && -infinity < x
 }
 
 // x without its sign: 0.0 for both zeros.

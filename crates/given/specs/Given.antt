@@ -16,10 +16,13 @@ given code answer = record { code = code; answer = answer }
 abbrev pub flag-number : Bool → ℕ
 flag-number flag = cond flag 1 0
 
--- an operation's own number, 0 if it has an answer, and whether the buffer is of the right length: if not, that is refusal 7, and the lowest refusal is told
+-- an operation's own number, 0 if it has an answer, and whether the buffer is of the right length: if not, that is
+-- refusal 7, and the lowest refusal is told
 unfoldable pub code : ℕ → Bool → ℕ
 code own right = cond right own (cond (eqb own 0) 7 (cond (ltb own 7) own 7))
 
 -- the buffer holds the answer if and only if the number told is 0; else it is as it was
 unfoldable pub answered : ℕ → ℕ → List ℕ → List ℕ → Given
-answered size own new lent = given (code own (eqb (length lent) size)) (cond (eqb (code own (eqb (length lent) size)) 0) new lent)
+answered size own new lent =
+    let number = code own (eqb (length lent) size) in
+    given number (cond (eqb number 0) new lent)

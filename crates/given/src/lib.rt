@@ -2,7 +2,8 @@
 ghost use mathlib.Core.Path.{_≡_};
 ghost use Rattle.given.specs.Given.{flag-number, code};
 
-// What a call is answered: the operation's own number, or 7 if the buffer is not of the answer's length, the lower of the two where both refuse.
+// What a call is answered: the operation's own number, or 7 if the buffer is not of the answer's length, the lower of
+// the two where both refuse.
 pub fn code(own: u8, right: bool) -> u8
     ensures { λ r. ⌜ r ≡ code own right ⌝ }
 {

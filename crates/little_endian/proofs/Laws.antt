@@ -153,7 +153,9 @@ float-of-bytes x l ok =
     ∙ ofBits-toBits binary64 x ok
 
 -- The k-th f64 of a list's bytes, whatever follows them, is read at place 8k.
-pub float-at : (xs : List Float) (k : ℕ) (d : Float) (l : List ℕ) → k < length xs → T (fits binary64 (getD xs k d)) → float (floats xs ++ l) (8 * k) ≡ getD xs k d
+pub float-at :
+    (xs : List Float) (k : ℕ) (d : Float) (l : List ℕ) → k < length xs → T (fits binary64 (getD xs k d))
+    → float (floats xs ++ l) (8 * k) ≡ getD xs k d
 unfolding floats
 float-at [] k d l h ok = absurd (omega arith)
 float-at (x ∷ xs) zero d l h ok =

@@ -74,7 +74,7 @@ fn write_floats(out: &mut [u8], at: usize, numbers: &[f64])
     }
 }
 
-// Puts the lowest count bytes of a number at place at, if they fit between there and the end. Else out is left as it is.
+// Puts the lowest count bytes of a number at place at, if they fit between there and the end; else out is left alone.
 pub fn put(out: &mut [u8], at: usize, count: usize, number: u64)
     ensures { λ _. ⌜ now (out .exit) ≡ put at (bytes count number) (now (out .entry)) ⌝ }
 {

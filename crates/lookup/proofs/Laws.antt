@@ -2,7 +2,7 @@
 use mathlib.Core.Path.{_≡_, refl, sym, _∙_}
 use mathlib.Core.Logic.{_↔_}
 use mathlib.Core.Bool.{Bool, true, false, not, cond, _||_, _&&_, true≢false, false≢true}
-use mathlib.Core.List.{List, [], _∷_}
+use mathlib.Core.List.{List}
 use Prim.Native.Nat.{ℕ, _+_, _-_, _*_, _<_}
 use native.Mathlib.Nat.{min-le-right}
 use native.Mathlib.Omega.{arith}
@@ -27,13 +27,12 @@ use Rattle.region.specs.Region.{four, increments, flat, wrong}
 use Rattle.region.specs.Size.{float, sized}
 use Rattle.region.specs.declared.Region.{Region}
 use Rattle.lookup.specs.Asked.{Inside, Whole}
-use Rattle.lookup.specs.Lookup.{index, index-across, index-down, outside, whole-part, spot, cell, pixel-at, looked-up, spread, given, lookup}
+use Rattle.lookup.specs.Lookup.{index, index-across, index-down, outside, whole-part, spot, cell, pixel-at, looked-up, spread, admitted, lookup}
 use Rattle.lookup.specs.Owed.{Apart, around, Answered}
 use Rattle.lookup.specs.Rows.{ahead, lookup-rows}
 use Rattle.lookup.proofs.Among.{cut}
 use Rattle.lookup.proofs.Steps.{taken, indices, inside-wide, inside-high}
-use Rattle.lookup.proofs.Zero.{same-finite}
-use Rattle.lookup.proofs.OnCell.{on, kept, first-of, both-finite}
+use Rattle.lookup.proofs.OnCell.{on, kept, same-finite, first-of, both-finite}
 use Rattle.lookup.proofs.lookup.Reads as lookup-contract
 
 -- ---- the contract permits one answer
@@ -109,12 +108,12 @@ module _ (table : List Float) (region : Region) (width height : ℕ) (point : Po
 
   -- A lookup gives 4, 6, 7, 8, 11, 9 or 11 exactly when the table of refusals says so, in this order, the increments before the indices.
   pub lookup-number : told-pixel (lookup table region width height point) .number ≡ first (lookup-rows table region width height point)
-  unfolding given spread wrong looked-up
+  unfolding admitted spread wrong looked-up
   lookup-number =
       let by = increments region width height in
       let pixel = pixel-at table width (spot i width) (spot j height) in
       in-order
-      (not (all-finite (four region)) || not (all-finite (point .0 ∷ point .1 ∷ [])))
+      (not (all-finite (four region)) || not (finite (point .0) && finite (point .1)))
       (sized width height)
       (eqb (length table) (2 * (width * height)))
       (flat (by .0) || flat (by .1))
@@ -123,14 +122,15 @@ module _ (table : List Float) (region : Region) (width height : ℕ) (point : Po
       (finite (pixel .0) && finite (pixel .1))
       pixel
 
-  -- The number told is 9 exactly if neither 4, 6 and 7 nor the increments' 8 and 11 refuse the call, and the index across or the one down is below 0 or above the last.
+  -- The number told is 9 exactly if neither 4, 6 and 7 nor the increments' 8 and 11 refuse the call, and the index
+  -- across or the one down is below 0 or above the last.
   pub outside-exactly : (told-pixel (lookup table region width height point) .number ≡ 9) ↔ ((before ≡ 0) × ((outside i width || outside j height) ≡ true))
   outside-exactly =
       let by = increments region width height in
       let pixel = pixel-at table width (spot i width) (spot j height) in
       rw lookup-number
       (nine
-      (not (all-finite (four region)) || not (all-finite (point .0 ∷ point .1 ∷ [])))
+      (not (all-finite (four region)) || not (finite (point .0) && finite (point .1)))
       (sized width height)
       (eqb (length table) (2 * (width * height)))
       (flat (by .0) || flat (by .1))
@@ -139,12 +139,12 @@ module _ (table : List Float) (region : Region) (width height : ℕ) (point : Po
       (finite (pixel .0) && finite (pixel .1)))
 
   -- its parts, for a call that isn't refused ahead of the indices
-  judged : before ≡ 0 → (given (length table) region width height point ≡ call.Taken) × (wrong (increments region width height) ≡ call.Taken)
-  unfolding given wrong
+  judged : before ≡ 0 → (admitted (length table) region width height point ≡ call.Taken) × (wrong (increments region width height) ≡ call.Taken)
+  unfolding admitted wrong
   judged h =
       let by = increments region width height in
       passed
-      (not (all-finite (four region)) || not (all-finite (point .0 ∷ point .1 ∷ [])))
+      (not (all-finite (four region)) || not (finite (point .0) && finite (point .1)))
       (sized width height)
       (eqb (length table) (2 * (width * height)))
       (flat (by .0) || flat (by .1))
@@ -154,7 +154,8 @@ module _ (table : List Float) (region : Region) (width height : ℕ) (point : Po
   whole-table : before ≡ 0 → Whole (length table) width height
   whole-table h = taken (length table) region width height point (judged h .0) .whole
 
-  -- Where neither the rows ahead nor 9 refuse, the whole part of each index is a cell of the table, and so is the neighbour; the index is the whole part and less than 1 more.
+  -- Where neither the rows ahead nor 9 refuse, the whole part of each index is a cell of the table, and so is the
+  -- neighbour; the index is the whole part and less than 1 more.
   pub within-the-table : before ≡ 0 → (outside i width || outside j height) ≡ false → Apart i width × Apart j height
   within-the-table h o =
       let w = whole-table h in
@@ -164,14 +165,16 @@ module _ (table : List Float) (region : Region) (width height : ℕ) (point : Po
 
   -- a call that nothing refuses
   answers :
-      given (length table) region width height point ≡ call.Taken → wrong (increments region width height) ≡ call.Taken → outside i width ≡ false → outside j height ≡ false
+      admitted (length table) region width height point ≡ call.Taken → wrong (increments region width height) ≡ call.Taken
+      → outside i width ≡ false → outside j height ≡ false
       → (finite (pixel-at table width (spot i width) (spot j height) .0) && finite (pixel-at table width (spot i width) (spot j height) .1)) ≡ true
       → lookup table region width height point ≡ At (pixel-at table width (spot i width) (spot j height))
   unfolding spread looked-up
   answers g w o p a = rw (g, w, o, p, a) refl
 
-  -- At a cell's own point the cell's pixel comes back, wherever both indices work out to its whole numbers: a table of f32s, whose four cells that are used hold finite numbers, answers with
-  -- the cell's two numbers as they are, but for -0, which may come back as +0. An index of -0 counts as 0.
+  -- At a cell's own point the cell's pixel comes back, wherever both indices work out to its whole numbers: a table of
+  -- f32s, whose four cells that are used hold finite numbers, answers with the cell's two numbers as they are, but for
+  -- -0, which may come back as +0. An index of -0 counts as 0.
   pub at-a-cell :
       ((n : ℕ) → T (fits binary32 (getD table n nan)))
       → before ≡ 0
@@ -186,9 +189,10 @@ module _ (table : List Float) (region : Region) (width height : ℕ) (point : Po
       let x = kept table held width height u v across down 0 p in
       let y = kept table held width height u v across down 1 q in
       let pixel = pixel-at table width (spot i width) (spot j height) in
+      let both = both-finite (pixel .0) (pixel .1) (same-finite (first-of _ _ p) x) (same-finite (first-of _ _ q) y) in
       record {
         pixel = pixel;
-        is = answers (judged h .0) (judged h .1) (across .among) (down .among) (both-finite (pixel .0) (pixel .1) (same-finite (first-of _ _ p) x) (same-finite (first-of _ _ q) y));
+        is = answers (judged h .0) (judged h .1) (across .among) (down .among) both;
         first = x;
         second = y;
       }

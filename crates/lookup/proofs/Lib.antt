@@ -1,5 +1,4 @@
 pub mod Among
 pub mod Steps
-pub mod Zero
 pub mod OnCell
 pub mod Laws

@@ -4,26 +4,27 @@ use mathlib.Core.Logic.{inl, inr}
 use mathlib.Core.Bool.{Bool, true, false, _&&_, false≢true}
 use mathlib.Core.List.{List, [], _∷_}
 use Prim.Native.Nat.{ℕ, zero, _+_, _-_, _*_, _^_, _≤_, _<_}
-use native.Mathlib.Nat.{le-trans, eq-zero-or-pos, mul-pos, zero-lt-suc}
+use native.Mathlib.Nat.{le-trans, eq-zero-or-pos, mul-pos}
 use native.Mathlib.Omega.{arith}
 use lib.IntN.{ℤ}
 use lib.Dec.{T, le→leb, lit≤}
-use lib.Ieee.{Float, nan, inf, fin, binary32, binary64, up, down, round, sum, sub, add, neg, lt, eq, ofBits, ofInt, toUnsigned, fits, inFloat}
-use lib.Ieee.Fits.{up-pos, down-pos, round-fits}
+use lib.Ieee.{Float, nan, inf, fin, binary32, binary64, up, down, round, lt, eq, ofBits, ofInt, toUnsigned, fits, inFloat}
+use lib.Ieee.Fits.{up-pos, down-pos, round-fits, fits-widens}
 use lib.Ieee.Back.{round-whole, unsigned-back, whole-unique}
 use lib.Ieee.Scale.{finite}
 use lib.ListN.{getD}
-use Rattle.exact.specs.F64.{_⊖_, isZero}
+use Rattle.exact.specs.F64.{_⊖_, _⊗_, isZero}
 use Rattle.exact.specs.Fraction.{_≼_, _≈_, over, whole, opposite, exactly}
+use Rattle.exact.proofs.Zeros.{zero-added, zero-times, zero-less-zero, self-less}
+use Rattle.exact.proofs.Infinite.{singles-differ}
 use Rattle.exact.proofs.Fractions.{over-≼, over-≈, lt-≺, eq-≈, ≈-trans, ≈→≼, ≈-sym, ≼-trans, ≺-not-≼, exactly-proper, whole-proper}
 use Rattle.lens.specs.Constants.{zeros}
 use Rattle.lens.specs.Finite.{all-finite}
 use Rattle.region.specs.Size.{float}
-use Rattle.lookup.specs.Lookup.{outside, whole-part, fraction, beside, spot, between, blended, cell, number-at}
+use Rattle.lookup.specs.Lookup.{outside, whole-part, fraction, neighbour, spot, between, blended, cell, number-at}
 use Rattle.lookup.specs.Owed.{around, Same}
 use Rattle.lookup.proofs.Among.{float-finite, float-exactly}
 use Rattle.lookup.proofs.Steps.{first-finite, rest-finite}
-use Rattle.lookup.proofs.Zero.{same-trans, same-fits, same-finite, between-zero, self-less, zero-rounded}
 
 pub record On (i : Float) (u cells : ℕ) : Type 0 where
   pub among : outside i cells ≡ false
@@ -83,8 +84,8 @@ unfolding float ofInt
 float-itself m e u h f v = whole-unique binary64 (fin false m e) (round binary64 false u 1) false u f (round-fits binary64 false u 1) (refl, v) (round-whole binary64 false u (le-trans h (lit≤ tt)))
 
 no-rest : (u : ℕ) → u ≤ 4096 → isZero (float u ⊖ float (toUnsigned 64 (float u))) ≡ true
-unfolding isZero
-no-rest u h = rw (back u h, self-less binary64 (float u) (float-finite u h)) refl
+unfolding isZero ofBits
+no-rest u h = rw (back u h, self-less (float u) (float-finite u h)) refl
 
 -- -0
 minus-part : (m : ℕ) (e : ℤ) (u : ℕ) → exactly (fin true m e) ≈ whole u → (m ≡ 0) × (u ≡ 0)
@@ -95,10 +96,8 @@ minus-part m e u h = (none m (up e) (up-pos e) (omega (arith, h .holds)), none u
     none n k p z = elim (eq-zero-or-pos n) [ inl e ↦ e | inr q ↦ absurd (omega (arith, mul-pos q p)) ]
 
 minus-rest : (e : ℤ) → isZero (fin true zero e ⊖ float 0) ≡ true
-unfolding float ofInt isZero sub add neg sum
-minus-rest e =
-    let z : 0 * up e * 1 + 0 * down e ≡ 0 = omega arith in
-    ap (λ (x : ℕ). isZero (round binary64 true x (down e * 1))) z ∙ ap isZero (zero-rounded binary64 true (down e * 1) (mul-pos (down-pos e) (zero-lt-suc 0)))
+unfolding float ofInt isZero
+minus-rest e = zero-less-zero (fin true zero e) (round binary64 false 0 1) refl (unfold round in refl)
 
 pub on : (i : Float) (u cells : ℕ) → T (fits binary64 i) → u < cells → cells ≤ 4096 → T (eq i (float u)) → On i u cells
 unfolding toUnsigned exactly
@@ -123,6 +122,27 @@ on i u cells f l h t =
           rest = ap (λ (x : ℕ). isZero (fin true x e ⊖ float 0)) (z .0) ∙ minus-rest e;
         }
 
+-- ---- the same number, but for -0, which may come back as +0
+
+same-trans : (a b c : Float) → Same a b → Same b c → Same a c
+same-trans a b c (inl p) (inl q) = inl (q ∙ p)
+same-trans a b c (inl p) (inr q) = inr (sym p ∙ q .0, q .1)
+same-trans a b c (inr p) (inl q) = inr (p .0, q ∙ p .1)
+same-trans a b c (inr p) (inr q) = inr (p .0, q .1)
+
+same-fits : {c r : Float} → T (fits binary32 c) → Same c r → T (fits binary32 r)
+same-fits t (inl p) = subst (λ (x : Float). T (fits binary32 x)) (sym p) t
+same-fits t (inr p) = subst (λ (x : Float). T (fits binary32 x)) (sym (p .1)) (unfold ofBits fits in tt)
+
+pub same-finite : {c r : Float} → T (finite c) → Same c r → T (finite r)
+same-finite t (inl p) = subst (λ (x : Float). T (finite x)) (sym p) t
+same-finite t (inr p) = subst (λ (x : Float). T (finite x)) (sym (p .1)) zero-finite
+
+-- between two f32s by a fraction of zero lies the first
+between-zero : (c d a : Float) → T (fits binary32 c) → T (fits binary32 d) → T (finite c) → T (finite d) → isZero a ≡ true → Same c (between c d a)
+unfolding between
+between-zero c d a f g p q z = zero-added c (a ⊗ (d ⊖ c)) (fits-widens c f) (zero-times a (d ⊖ c) z (singles-differ d c g f q p))
+
 -- ---- the first of four
 
 module _ (c00 c10 c01 c11 a b : Float) where
@@ -132,7 +152,7 @@ module _ (c00 c10 c01 c11 a b : Float) where
   first-of-four f00 f10 f01 f11 p00 p10 p01 p11 za zb =
       let top = between-zero c00 c10 a f00 f10 p00 p10 za in
       let bottom = between-zero c01 c11 a f01 f11 p01 p11 za in
-      let down = between-zero (between c00 c10 a) (between c01 c11 a) b (same-fits binary32 f00 top) (same-fits binary32 f01 bottom) (same-finite p00 top) (same-finite p01 bottom) zb in
+      let down = between-zero (between c00 c10 a) (between c01 c11 a) b (same-fits f00 top) (same-fits f01 bottom) (same-finite p00 top) (same-finite p01 bottom) zb in
       same-trans c00 (between c00 c10 a) (between (between c00 c10 a) (between c01 c11 a) b) top down
 
 -- ---- of finite numbers each is finite
@@ -167,12 +187,12 @@ module _ (table : List Float) (held : (n : ℕ) → T (fits binary32 (getD table
   cell-fits p q = held (2 * (q * width + p) + k)
 
   from : (p q : ℕ) → Float
-  from p q = blended (cell table width k p q) (cell table width k (beside p width) q) (cell table width k p (beside q height)) (cell table width k (beside p width) (beside q height)) (fraction i) (fraction j)
+  from p q = blended (cell table width k p q) (cell table width k (neighbour p width) q) (cell table width k p (neighbour q height)) (cell table width k (neighbour p width) (neighbour q height)) (fraction i) (fraction j)
 
   pub kept : all-finite (around table width height u v k) ≡ true → Same (cell table width k u v) (number-at table width k (spot i width) (spot j height))
   unfolding number-at spot from
   kept h =
       let c = cell table width k in
-      let there = first-of-all (c u v) (c (beside u width) v) (c u (beside v height)) (c (beside u width) (beside v height)) (fraction i) (fraction j) (cell-fits u v) (cell-fits (beside u width) v) (cell-fits u (beside v height)) (cell-fits (beside u width) (beside v height)) h (across .rest) (down .rest) in
+      let there = first-of-all (c u v) (c (neighbour u width) v) (c u (neighbour v height)) (c (neighbour u width) (neighbour v height)) (fraction i) (fraction j) (cell-fits u v) (cell-fits (neighbour u width) v) (cell-fits u (neighbour v height)) (cell-fits (neighbour u width) (neighbour v height)) h (across .rest) (down .rest) in
       let along : Same (c u v) (from (whole-part i) v) = subst (λ (p : ℕ). Same (c u v) (from p v)) (sym (across .part)) there in
       subst (λ (q : ℕ). Same (c u v) (from (whole-part i) q)) (sym (down .part)) along

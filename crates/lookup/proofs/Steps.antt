@@ -24,25 +24,25 @@ use Rattle.region.specs.declared.Increments.{Increments}
 use Rattle.region.specs.declared.Region.{Region}
 use Rattle.region.proofs.Size.{is-sized}
 use Rattle.lookup.specs.Asked.{Number, Inside, Whole, Reaches, Taken}
-use Rattle.lookup.specs.Lookup.{index, outside, spot, whole-part, pixel-at, looked-up, spread, given}
+use Rattle.lookup.specs.Lookup.{index, outside, spot, whole-part, pixel-at, looked-up, spread, admitted}
 use Rattle.lookup.proofs.Among.{cut, steps, index-number}
 
 -- ---- 4, 6 and 7, by what the tests say
 
-pub given-so : (places : ℕ) (region : Region) (width height : ℕ) (point : Point) {f g s m : Bool}
-    → f ≡ not (all-finite (four region)) → g ≡ not (all-finite (point .0 ∷ point .1 ∷ [])) → s ≡ not (sized width height) → m ≡ eqb places (2 * (width * height))
-    → cond (f || g) (call.Refused NotFinite) (cond s (call.Refused WrongSize) (cond m call.Taken (call.Refused WrongLength))) ≡ given places region width height point
-unfolding given
-given-so places region width height point f g s m = rw (f, g, s, m) refl
+pub admitted-so : (places : ℕ) (region : Region) (width height : ℕ) (point : Point) {f g s m : Bool}
+    → f ≡ not (all-finite (four region)) → g ≡ not (finite (point .0) && finite (point .1)) → s ≡ not (sized width height) → m ≡ eqb places (2 * (width * height))
+    → cond (f || g) (call.Refused NotFinite) (cond s (call.Refused WrongSize) (cond m call.Taken (call.Refused WrongLength))) ≡ admitted places region width height point
+unfolding admitted
+admitted-so places region width height point f g s m = rw (f, g, s, m) refl
 
 -- ---- a call that they leave
 
-pub taken : (places : ℕ) (region : Region) (width height : ℕ) (point : Point) → given places region width height point ≡ call.Taken → Taken places region width height point
-unfolding given
+pub taken : (places : ℕ) (region : Region) (width height : ℕ) (point : Point) → admitted places region width height point ≡ call.Taken → Taken places region width height point
+unfolding admitted
 taken places region width height point =
-    go (all-finite (four region)) refl (all-finite (point .0 ∷ point .1 ∷ [])) refl (sized width height) refl (eqb places (2 * (width * height))) refl
+    go (all-finite (four region)) refl (finite (point .0) && finite (point .1)) refl (sized width height) refl (eqb places (2 * (width * height))) refl
   where
-    go : (f : Bool) → all-finite (four region) ≡ f → (g : Bool) → all-finite (point .0 ∷ point .1 ∷ []) ≡ g → (s : Bool) → sized width height ≡ s → (m : Bool) → eqb places (2 * (width * height)) ≡ m
+    go : (f : Bool) → all-finite (four region) ≡ f → (g : Bool) → (finite (point .0) && finite (point .1)) ≡ g → (s : Bool) → sized width height ≡ s → (m : Bool) → eqb places (2 * (width * height)) ≡ m
         → cond (not f || not g) (call.Refused NotFinite) (cond (not s) (call.Refused WrongSize) (cond m call.Taken (call.Refused WrongLength))) ≡ call.Taken
         → Taken places region width height point
     go true ef true eg true es true em h = record { edges = ef; place = eg; whole = record { size = is-sized width height es; all = eqb-true places (2 * (width * height)) em } }
@@ -111,9 +111,10 @@ pub indices : {places : ℕ} {region : Region} {width height : ℕ} {point : Poi
     → Number (index (point .0) (region .left) (by .0)) × Number (index (point .1) (region .top) (by .1))
 indices {region = region} {point = point} by t w =
     let s = steps by w in
+    let p = both (finite (point .0)) (finite (point .1)) (t .place) in
     let x = point .0 in
     let y = point .1 in
     let edges = rest-finite (region .left) (region .top ∷ region .right ∷ region .bottom ∷ []) (t .edges) in (
-      index-number x (region .left) (by .0) (first-finite x (y ∷ []) (t .place)) (first-finite (region .left) (region .top ∷ region .right ∷ region .bottom ∷ []) (t .edges)) (s .across) (s .across-some),
-      index-number y (region .top) (by .1) (first-finite y [] (rest-finite x (y ∷ []) (t .place))) (first-finite (region .top) (region .right ∷ region .bottom ∷ []) edges) (s .down) (s .down-some),
+      index-number x (region .left) (by .0) (p .0) (first-finite (region .left) (region .top ∷ region .right ∷ region .bottom ∷ []) (t .edges)) (s .across) (s .across-some),
+      index-number y (region .top) (by .1) (p .1) (first-finite (region .top) (region .right ∷ region .bottom ∷ []) edges) (s .down) (s .down-some),
     )

@@ -1,10 +1,10 @@
 -- What the steps of a lookup ask of what they are handed. Definitions only.
 use mathlib.Core.Path.{_≡_}
-use mathlib.Core.Bool.{true, false, not}
-use mathlib.Core.List.{[], _∷_}
+use mathlib.Core.Bool.{true, false, not, _&&_}
 use Prim.Native.Nat.{ℕ, _*_, _≤_, _<_}
 use lib.Dec.{T}
 use lib.Ieee.{Float, isNan}
+use lib.Ieee.Scale.{finite}
 use Rattle.lens.specs.Finite.{all-finite}
 use Rattle.lens.specs.declared.Point.{Point}
 use Rattle.region.specs.Region.{four}
@@ -41,5 +41,5 @@ pub record Reaches (places width : ℕ) (across down : Spot) : Type 0 where
 -- neither 4 nor 6 nor 7
 pub record Taken (places : ℕ) (region : Region) (width height : ℕ) (point : Point) : Type 0 where
   pub edges : all-finite (four region) ≡ true
-  pub place : all-finite (point .0 ∷ point .1 ∷ []) ≡ true
+  pub place : (finite (point .0) && finite (point .1)) ≡ true
   pub whole : Whole places width height

@@ -1,9 +1,10 @@
 -- Lookup: the pixel at a point between the cells of a table. Definitions only.
-use mathlib.Core.Bool.{Bool, not, cond, _||_}
-use mathlib.Core.List.{List, [], _∷_}
+use mathlib.Core.Bool.{Bool, not, cond, _&&_, _||_}
+use mathlib.Core.List.{List}
 use Prim.Native.Nat.{ℕ, _+_, _-_, _*_, min}
 use lib.Dec.{eqb}
 use lib.Ieee.{Float, nan, lt, toUnsigned}
+use lib.Ieee.Scale.{finite}
 use lib.ListN.{length, getD}
 use Rattle.exact.specs.F64.{_⊕_, _⊖_, _⊗_, _⊘_}
 use Rattle.lens.specs.Constants.{zeros}
@@ -45,14 +46,14 @@ whole-part i = toUnsigned 64 i
 abbrev pub fraction : Float → Float
 fraction i = i ⊖ float (whole-part i)
 
--- the neighbour is the next cell or the last
-abbrev pub beside : ℕ → ℕ → ℕ
-beside n cells = min (n + 1) (cells - 1)
+-- the cell after it; after the last one that cell itself
+abbrev pub neighbour : ℕ → ℕ → ℕ
+neighbour n cells = min (n + 1) (cells - 1)
 
 unfoldable pub spot : Float → ℕ → Spot
 spot i cells = record {
   first = whole-part i;
-  second = beside (whole-part i) cells;
+  second = neighbour (whole-part i) cells;
   part = fraction i;
 }
 
@@ -61,7 +62,7 @@ spot i cells = record {
 unfoldable pub between : Float → Float → Float → Float
 between c d a = c ⊕ a ⊗ (d ⊖ c)
 
--- on both rows, then the same downwards
+-- across in the upper row and in the lower one, and from what the upper gives to what the lower does
 unfoldable pub blended : Float → Float → Float → Float → Float → Float → Float
 blended c00 c10 c01 c11 a b = between (between c00 c10 a) (between c01 c11 a) b
 
@@ -80,7 +81,10 @@ number-at table width k across down =
     (down .part)
 
 abbrev pub pixel-at : List Float → ℕ → Spot → Spot → Pixel
-pixel-at table width across down = record { 0 = number-at table width 0 across down; 1 = number-at table width 1 across down }
+pixel-at table width across down = record {
+  0 = number-at table width 0 across down;
+  1 = number-at table width 1 across down;
+}
 
 -- ---- the refusals around it
 
@@ -97,11 +101,12 @@ spread table region width height point =
     (looked-up table width height (index-across region width height point) (index-down region width height point))
 
 -- and first of all 4, 6 and 7, of a table with so many places
-unfoldable pub given : ℕ → Region → ℕ → ℕ → Point → Judgement
-given places region width height point =
-    cond (not (all-finite (four region)) || not (all-finite (point .0 ∷ point .1 ∷ []))) (call.Refused NotFinite)
+unfoldable pub admitted : ℕ → Region → ℕ → ℕ → Point → Judgement
+admitted places region width height point =
+    cond (not (all-finite (four region)) || not (finite (point .0) && finite (point .1))) (call.Refused NotFinite)
     (cond (not (sized width height)) (call.Refused WrongSize)
     (cond (eqb places (2 * (width * height))) call.Taken (call.Refused WrongLength)))
 
 abbrev pub lookup : List Float → Region → ℕ → ℕ → Point → Distorted
-lookup table region width height point = decided (given (length table) region width height point) Refused (spread table region width height point)
+lookup table region width height point =
+    decided (admitted (length table) region width height point) Refused (spread table region width height point)

@@ -10,12 +10,13 @@ use Rattle.lens.specs.Constants.{zeros}
 use Rattle.lens.specs.declared.Distorted.{Distorted}
 use Rattle.lens.specs.declared.Distorted.the-variants.{At}
 use Rattle.lens.specs.declared.Pixel.{Pixel}
-use Rattle.lookup.specs.Lookup.{whole-part, beside, cell}
+use Rattle.lookup.specs.Lookup.{whole-part, neighbour, cell}
 
--- an index taken apart: its whole part is one of so many cells, and so is the neighbour; the index is the whole part and less than 1 more
+-- an index taken apart: its whole part is one of so many cells, and so is the neighbour; the index is the whole part
+-- and less than 1 more
 pub record Apart (i : Float) (cells : ℕ) : Type 0 where
   pub first : whole-part i < cells
-  pub second : beside (whole-part i) cells < cells
+  pub second : neighbour (whole-part i) cells < cells
   pub not-above : whole (whole-part i) ≼ exactly i
   pub not-below : exactly i ≺ whole (whole-part i + 1)
 
@@ -23,9 +24,9 @@ pub record Apart (i : Float) (cells : ℕ) : Type 0 where
 abbrev pub around : List Float → ℕ → ℕ → ℕ → ℕ → ℕ → List Float
 around table width height u v k =
     cell table width k u v
-    ∷ cell table width k (beside u width) v
-    ∷ cell table width k u (beside v height)
-    ∷ cell table width k (beside u width) (beside v height) ∷ []
+    ∷ cell table width k (neighbour u width) v
+    ∷ cell table width k u (neighbour v height)
+    ∷ cell table width k (neighbour u width) (neighbour v height) ∷ []
 
 -- -0
 abbrev pub minus-zero : Float

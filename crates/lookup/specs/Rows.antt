@@ -1,4 +1,5 @@
--- The rows of the refusal table (docs/RULES.md, 5.1) that a lookup can meet, in the order they are tried. The laws hold it to them. Definitions only.
+-- The rows of the refusal table (docs/RULES.md, 5.1) that a lookup can meet, in the order they are tried. The laws hold
+-- it to them. Definitions only.
 use mathlib.Core.Bool.{not, _&&_, _||_}
 use mathlib.Core.List.{List, [], _∷_, _++_}
 use Prim.Native.Nat.{ℕ, _*_}
@@ -18,7 +19,7 @@ use Rattle.lookup.specs.Lookup.{index-across, index-down, outside, spot,
 abbrev pub ahead : ℕ → Region → ℕ → ℕ → Point → List Row
 ahead places region width height point =
     let by = increments region width height in
-    (4 when not (all-finite (four region)) || not (all-finite (point .0 ∷ point .1 ∷ [])))
+    (4 when not (all-finite (four region)) || not (finite (point .0) && finite (point .1)))
     ∷ (6 when not (sized width height))
     ∷ (7 when not (eqb places (2 * (width * height))))
     ∷ (8 when flat (by .0) || flat (by .1))

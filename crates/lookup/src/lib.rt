@@ -1,11 +1,11 @@
-// The pixel at a point between the cells of a lens table. It is ours: the Rust's lookup interpolates in f32, with other bits.
+// The pixel at a point between the cells of a lens table. It is ours: the Rust's works in f32, with other bits.
 ghost use mathlib.Core.Path.{_≡_};
 ghost use Prim.Native.Nat.{_+_, _*_, _<_};
 ghost use lib.Dec.{eqb};
 ghost use lib.ListN.{length};
 ghost use Rattle.lens.specs.Distorted.{told-pixel};
 ghost use Rattle.region.specs.Size.{Sized};
-ghost use Rattle.lookup.specs.Lookup.{index, outside, beside, spot, between, blended, cell, number-at, pixel-at, looked-up, spread, given, lookup};
+ghost use Rattle.lookup.specs.Lookup.{index, outside, neighbour, spot, between, blended, cell, number-at, pixel-at, looked-up, spread, admitted, lookup};
 ghost use Rattle.lookup.specs.Asked.{Number, Inside, Reaches, Whole, Taken};
 use lens::Distorted;
 use lens::Judgement;
@@ -14,7 +14,8 @@ use lens::Point;
 use lens::Refusal;
 use region::Region;
 
-// Where an index lies, across or down: the cell of its whole part, that cell's neighbour, and how far it is from the one to the other.
+// Where an index lies, across or down: the cell of its whole part, that cell's neighbour, and how far it is from the
+// one to the other.
 struct Spot {
     first: usize,
     second: usize,
@@ -33,17 +34,13 @@ fn outside(i: f64, cells: usize) -> bool
     requires { ⌜ 0 < cells ⌝ }
     ensures { λ r. ⌜ r ≡ outside i cells ⌝ }
 {
-    if i < 0.0 {
-        true
-    } else {
-        region::float(cells - 1) < i
-    }
+    i < 0.0 || region::float(cells - 1) < i
 }
 
-// The neighbour of cell n: the next, or the last.
-fn beside(n: usize, cells: usize) -> usize
+// The cell after cell n; after the last one that cell itself.
+fn neighbour(n: usize, cells: usize) -> usize
     requires { ⌜ n < cells ⌝ }
-    ensures { λ r. ⌜ r ≡ beside n cells ⌝ }
+    ensures { λ r. ⌜ r ≡ neighbour n cells ⌝ }
 {
     if n + 1 < cells { n + 1 } else { cells - 1 }
 }
@@ -56,7 +53,7 @@ fn spot_of(i: f64, cells: usize) -> Spot
     let first = std::num::truncating_f64_to_u64(i) as usize;
     Spot {
         first,
-        second: beside(first, cells),
+        second: neighbour(first, cells),
         part: i - region::float(first),
     }
 }
@@ -68,7 +65,7 @@ fn between(c: f64, d: f64, a: f64) -> f64
     c + a * (d - c)
 }
 
-// Between four numbers: across on both rows, then downwards.
+// Among four numbers: across in each row, and from what the upper row gives to what the lower does.
 fn blended(c00: f64, c10: f64, c01: f64, c11: f64, a: f64, b: f64) -> f64
     ensures { λ r. ⌜ r ≡ blended c00 c10 c01 c11 a b ⌝ }
 {
@@ -114,10 +111,7 @@ fn looked_up(table: &[f32], width: usize, height: usize, i: f64, j: f64) -> Dist
     requires { ⌜ Whole (length (now table)) width height × Number i × Number j ⌝ }
     ensures { λ r. ⌜ r ≡ looked-up (now (table .entry)) width height i j ⌝ }
 {
-    if outside(i, width) {
-        return Distorted::Refused(Refusal::OutsideTable);
-    }
-    if outside(j, height) {
+    if outside(i, width) || outside(j, height) {
         return Distorted::Refused(Refusal::OutsideTable);
     }
     lens::finite_pixel(pixel_at(table, width, spot_of(i, width), spot_of(j, height)))
@@ -150,13 +144,10 @@ fn measured(places: usize, width: usize, height: usize) -> bool
 }
 
 // 4, then 6, then 7.
-fn given(places: usize, region: Region, width: usize, height: usize, point: Point) -> Judgement
-    ensures { λ r. ⌜ r ≡ given places region width height point ⌝ }
+fn admitted(places: usize, region: Region, width: usize, height: usize, point: Point) -> Judgement
+    ensures { λ r. ⌜ r ≡ admitted places region width height point ⌝ }
 {
-    if !region::finite_region(region) {
-        return Judgement::Refused(Refusal::NotFinite);
-    }
-    if !lens::all_finite(&[point.0, point.1]) {
+    if !region::finite_region(region) || !lens::both_finite(point.0, point.1) {
         return Judgement::Refused(Refusal::NotFinite);
     }
     if !region::sized(width, height) {
@@ -173,7 +164,7 @@ fn given(places: usize, region: Region, width: usize, height: usize, point: Poin
 pub fn lookup(table: &[f32], region: Region, width: usize, height: usize, point: Point) -> Distorted
     ensures { λ r. ⌜ told-pixel r ≡ told-pixel (lookup (now (table .entry)) region width height point) ⌝ }
 {
-    match given(table.len(), region, width, height, point) {
+    match admitted(table.len(), region, width, height, point) {
         Judgement::Refused(refusal) => Distorted::Refused(refusal),
         Judgement::Taken => spread(table, region, width, height, point),
     }

@@ -4,5 +4,4 @@ pub mod Packed
 pub mod Fields
 pub mod Ranges
 pub mod Sign
-pub mod Same
 pub mod Laws

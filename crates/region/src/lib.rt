@@ -1,4 +1,5 @@
-// The box that a table covers on the z=1 plane, its size in cells and how far apart their points lie: what building a table and reading one share.
+// The box that a table covers on the z=1 plane, its size in cells and how far apart their points lie: what building a
+// table and reading one share.
 ghost use mathlib.Core.Path.{_≡_};
 ghost use Prim.Native.Nat.{_-_};
 ghost use Rattle.lens.specs.Finite.{all-finite};
@@ -52,7 +53,8 @@ pub fn finite_region(region: Region) -> bool
     lens::all_finite(&[region.left, region.top, region.right, region.bottom])
 }
 
-// The steps from the first of n cells to the last. Of no cell there are none, so that every size has increments, though only sizes that are taken are asked about.
+// The steps from the first of n cells to the last. Of no cell there are none, so that every size has increments, though
+// only sizes that are taken are asked about.
 fn steps(n: usize) -> usize
     ensures { λ r. ⌜ r ≡ n - 1 ⌝ }
 {
@@ -73,25 +75,18 @@ pub fn increments_of(region: Region, width: usize, height: usize) -> Increments
 fn flat(x: f64) -> bool
     ensures { λ r. ⌜ r ≡ flat x ⌝ }
 {
-    if exact::is_finite(x) { x <= 0.0 } else { false }
+    exact::is_finite(x) && x <= 0.0
 }
 
 // What is wrong with increments: 8, then 11.
 pub fn wrong(by: Increments) -> Judgement
     ensures { λ r. ⌜ verdict r ≡ verdict (wrong by) ⌝ }
 {
-    if flat(by.0) {
+    if flat(by.0) || flat(by.1) {
         return Judgement::Refused(Refusal::IncrementNotPositive);
     }
-    if flat(by.1) {
-        return Judgement::Refused(Refusal::IncrementNotPositive);
-    }
-    if exact::is_finite(by.0) {
-        if exact::is_finite(by.1) {
-            Judgement::Taken
-        } else {
-            Judgement::Refused(Refusal::AnswerNotFinite)
-        }
+    if lens::both_finite(by.0, by.1) {
+        Judgement::Taken
     } else {
         Judgement::Refused(Refusal::AnswerNotFinite)
     }

@@ -27,7 +27,9 @@ use Rattle.root.proofs.root.Reads as root-contract
 
 -- ---- from units to 2 ^ -2148
 finer : (x : Float) (u : ℕ) → HasValue x false u (2 ^ 1074) → HasValue x false (u * 2 ^ 1074) (2 ^ 2148)
-finer x u v = rescaled x false u (2 ^ 1074) (u * 2 ^ 1074) (2 ^ 2148) (pow-pos 1074) (ap (λ (z : ℕ). u * z) (pow-add 2 1074 1074) ∙ sym (mul-assoc u (2 ^ 1074) (2 ^ 1074))) v
+finer x u v =
+    rescaled x false u (2 ^ 1074) (u * 2 ^ 1074) (2 ^ 2148) (pow-pos 1074)
+    (ap (λ (z : ℕ). u * z) (pow-add 2 1074 1074) ∙ sym (mul-assoc u (2 ^ 1074) (2 ^ 1074))) v
 
 -- ---- a finite f64 above zero, counted in 2 ^ -2148: at least 2 ^ 1074, and below 2 ^ 3172
 at-least : (x : Float) (n : ℕ) → T (fits binary64 x) → 0 < n → HasValue x false n (2 ^ 2148) → 2 ^ 105 ≤ n
@@ -36,12 +38,17 @@ at-least (inf t) n f p h = absurd h
 at-least (fin t m e) n f p h =
     let I = in-units binary64 t m e f in
     let d = I .digits * 2 ^ I .zeros in
-    let v : HasValue (fin t m e) false (d * 2 ^ 1074) (2 ^ 2148) = finer (fin t m e) d (subst (λ (s : Bool). HasValue (fin t m e) s d (2 ^ 1074)) (h .0) (I .value)) in
+    let w = subst (λ (s : Bool). HasValue (fin t m e) s d (2 ^ 1074)) (h .0) (I .value) in
+    let v : HasValue (fin t m e) false (d * 2 ^ 1074) (2 ^ 2148) = finer (fin t m e) d w in
     let same : n ≡ d * 2 ^ 1074 = same-units (fin t m e) false n (d * 2 ^ 1074) (2 ^ 2148) (pow-pos 2148) h v in
-    le-trans (le-trans (pow-mono {i = 105} {j = 1074} (lit≤ tt)) (le-trans (le-of-eq (sym (one-mul (2 ^ 1074)))) (mul-le-mul-right (2 ^ 1074) (positive d (subst (λ (z : ℕ). 0 < z) same p))))) (le-of-eq (sym same))
+    let some = mul-le-mul-right (2 ^ 1074) (positive d (subst (λ (z : ℕ). 0 < z) same p)) in
+    le-trans (le-trans (pow-mono {i = 105} {j = 1074} (lit≤ tt)) (le-trans (le-of-eq (sym (one-mul (2 ^ 1074)))) some)) (le-of-eq (sym same))
   where
     positive : (d : ℕ) → 0 < d * 2 ^ 1074 → 1 ≤ d
-    positive d h = elim (eq-zero-or-pos d) [ inl z ↦ absurd (lt-irrefl 0 (subst (λ (y : ℕ). 0 < y) (ap (λ (y : ℕ). y * 2 ^ 1074) z ∙ zero-mul (2 ^ 1074)) h)) | inr q ↦ q ]
+    positive d h = elim (eq-zero-or-pos d) [
+      | inl z ↦ absurd (lt-irrefl 0 (subst (λ (y : ℕ). 0 < y) (ap (λ (y : ℕ). y * 2 ^ 1074) z ∙ zero-mul (2 ^ 1074)) h))
+      | inr q ↦ q
+    ]
 
 at-most : (x : Float) (n : ℕ) → T (fits binary64 x) → HasValue x false n (2 ^ 2148) → n < 2 ^ 3172
 at-most nan n f h = absurd h
@@ -50,7 +57,8 @@ at-most (fin true m e) n f h = absurd (true≢false (h .0))
 at-most (fin false m e) n f h =
     lt-of-mul-lt-mul-right (down e)
     (lt-of-le-of-lt (le-of-eq (sym (h .1)))
-    (lt-of-lt-of-le (mul-lt-mul-of-pos-right (in-range binary64 m e f) (pow-pos 2148)) (le-of-eq (mul-right-comm (2 ^ 1024) (down e) (2 ^ 2148) ∙ ap (λ (z : ℕ). z * down e) (sym (pow-add 2 1024 2148))))))
+    (lt-of-lt-of-le (mul-lt-mul-of-pos-right (in-range binary64 m e f) (pow-pos 2148))
+    (le-of-eq (mul-right-comm (2 ^ 1024) (down e) (2 ^ 2148) ∙ ap (λ (z : ℕ). z * down e) (sym (pow-add 2 1024 2148))))))
 
 last-small : (n : ℕ) → n < 2 ^ 3172 → last n < 1600
 last-small n h = small (size n) (size-le n 3172 h)
@@ -67,7 +75,9 @@ steps-value r k h l = go (eq-or-lt-of-le h)
         round-exact binary64 false (r * 2 ^ k) (2 ^ 1074) 1 (53 + k) (pow-pos 1074) (lit≤ tt)
         (subst (λ (z : ℕ). z < 2 ^ 2098) (sym (one-mul (2 ^ (53 + k)))) (pow-lt {i = 53 + k} {j = 2098} (omega arith)))
         (ap (λ (z : ℕ). z * 2 ^ 1074) (ap (λ (z : ℕ). z * 2 ^ k) e ∙ sym (pow-add 2 53 k) ∙ sym (one-mul (2 ^ (53 + k)))))
-    go (inr g) = round-exact binary64 false (r * 2 ^ k) (2 ^ 1074) r k (pow-pos 1074) g (lt-of-lt-of-le (shl-lt 53 k g) (pow-mono {i = 53 + k} {j = 2098} (omega arith))) refl
+    go (inr g) =
+        round-exact binary64 false (r * 2 ^ k) (2 ^ 1074) r k (pow-pos 1074) g
+        (lt-of-lt-of-le (shl-lt 53 k g) (pow-mono {i = 53 + k} {j = 2098} (omega arith))) refl
 
 abbrev steps : ℕ → ℕ
 steps n = largest (reaches n (last n)) (2 ^ 53)
@@ -82,7 +92,8 @@ rooted x n f p h =
     (steps-value (steps n) (last n) (largest-up-to (reaches n (last n)) (2 ^ 53)) (last-small n (at-most x n f h)))
 
 root-held : (x : Float) (n : ℕ) → 0 < n → HasValue x false n (2 ^ 2148) → T (fits binary64 (root x))
-root-held x n p h = subst (λ (z : Float). T (fits binary64 z)) (sym (root-of x n p h ∙ nearestRoot-is n)) (round-fits binary64 false (steps n * 2 ^ last n) (2 ^ 1074))
+root-held x n p h =
+    subst (λ (z : Float). T (fits binary64 z)) (sym (root-of x n p h ∙ nearestRoot-is n)) (round-fits binary64 false (steps n * 2 ^ last n) (2 ^ 1074))
 
 -- ---- a number that is the nearest to a whole root is that root
 square-lt : (a b : ℕ) → a < b → a * a < b * b
@@ -104,8 +115,9 @@ meet r u a b =
 pub root-units : (x : Float) (n : ℕ) → T (fits binary64 x) → 0 < n → HasValue x false n (2 ^ 2148) → (r : ℕ) × HasValue (root x) false r (2 ^ 1074)
 root-units x n f p h = (steps n * 2 ^ last n, rooted x n f p h)
 
--- No f64 is nearer to the exact root. Say that x is n of 2 ^ -2148, its root r units, and y, any finite f64 that is not negative, u units. If y is below the root, then so much
--- so that the middle of the two, (u + r) / 2, isn't past the exact root: its square is at most n. If y is above, the middle isn't below the exact root.
+-- No f64 is nearer to the exact root. Say that x is n of 2 ^ -2148, its root r units, and y, any finite f64 that is not
+-- negative, u units. If y is below the root, then so much so that the middle of the two, (u + r) / 2, isn't past the
+-- exact root: its square is at most n. If y is above, the middle isn't below the exact root.
 pub root-nearest : (x y : Float) (n r u : ℕ) → T (fits binary64 x) → T (fits binary64 y) → 0 < n
     → HasValue x false n (2 ^ 2148) → HasValue (root x) false r (2 ^ 1074) → HasValue y false u (2 ^ 1074)
     → (u < r → (u + r) * (u + r) ≤ 4 * n) × (r < u → 4 * n ≤ (u + r) * (u + r))
@@ -114,14 +126,17 @@ root-nearest x (inf t) n r u f g p h v w = absurd w
 root-nearest x (fin t m e) n r u f g p h v w =
     let I = in-units binary64 t m e g in
     let d = I .digits * 2 ^ I .zeros in
-    let U : d ≡ u = same-units (fin t m e) false d u (2 ^ 1074) (pow-pos 1074) (subst (λ (s : Bool). HasValue (fin t m e) s d (2 ^ 1074)) (w .0) (I .value)) w in
+    let d-units = subst (λ (s : Bool). HasValue (fin t m e) s d (2 ^ 1074)) (w .0) (I .value) in
+    let U : d ≡ u = same-units (fin t m e) false d u (2 ^ 1074) (pow-pos 1074) d-units w in
     let R : steps n * 2 ^ last n ≡ r = same-units (root x) false (steps n * 2 ^ last n) r (2 ^ 1074) (pow-pos 1074) (rooted x n f p h) v in
     subst (λ (a : ℕ). (a < r → (a + r) * (a + r) ≤ 4 * n) × (r < a → 4 * n ≤ (a + r) * (a + r))) U
     (subst (λ (b : ℕ). (d < b → (d + b) * (d + b) ≤ 4 * n) × (b < d → 4 * n ≤ (d + b) * (d + b))) R
     (no-nearer n (last n) (steps n) (I .digits) (I .zeros) (nearest n (at-least x n f p h)) (I .few)))
 
 -- The root of a square is exact: if y squared is x, with y above zero, then the root of x is y.
-pub root-exact : (x y : Float) (u : ℕ) → T (fits binary64 x) → T (fits binary64 y) → 0 < u → HasValue x false (u * u) (2 ^ 2148) → HasValue y false u (2 ^ 1074) → root x ≡ y
+pub root-exact :
+    (x y : Float) (u : ℕ) → T (fits binary64 x) → T (fits binary64 y) → 0 < u
+    → HasValue x false (u * u) (2 ^ 2148) → HasValue y false u (2 ^ 1074) → root x ≡ y
 root-exact x y u f g p h w =
     let n = u * u in
     let P : 0 < n = mul-pos p p in
@@ -132,13 +147,16 @@ root-exact x y u f g p h w =
     unique binary64 (root x) y false u (2 ^ 1074) (pow-pos 1074) (root-held x n P h) g (subst (λ (z : ℕ). HasValue (root x) false z (2 ^ 1074)) same v) w
 
 -- NaN, infinity, the zeros with their signs, and what is below zero.
-pub root-special : (root nan ≡ nan) × (root (inf false) ≡ inf false) × (root (inf true) ≡ nan) × ((s : Bool) (e : ℤ) → root (fin s 0 e) ≡ fin s 0 e) × ((m : ℕ) (e : ℤ) → root (fin true (suc m) e) ≡ nan)
+pub root-special :
+    (root nan ≡ nan) × (root (inf false) ≡ inf false) × (root (inf true) ≡ nan)
+    × ((s : Bool) (e : ℤ) → root (fin s 0 e) ≡ fin s 0 e) × ((m : ℕ) (e : ℤ) → root (fin true (suc m) e) ≡ nan)
 unfolding root
 root-special = (refl, refl, refl, λ s e. refl, λ m e. refl)
 
--- To compare a root with a limit is to compare x itself with one f64. Let e be the limit's pattern and b that f64's. A root rounds past the limit where it is past the middle between the
--- limit and the next f64, which is half the sum of their units. If the square of the middle lies between b and the next f64, then for every x, NaN, infinities, zeros and negatives
--- included: the root of x is at most the limit exactly if x is at least zero and at most b.
+-- To compare a root with a limit is to compare x itself with one f64. Let e be the limit's pattern and b that f64's. A
+-- root rounds past the limit where it is past the middle between the limit and the next f64, which is half the sum of
+-- their units. If the square of the middle lies between b and the next f64, then for every x, NaN, infinities, zeros
+-- and negatives included: the root of x is at most the limit exactly if x is at least zero and at most b.
 pub root-at-most : (e b : ℕ) → Normal e → Normal b
     → 4 * (units b * 2 ^ 1074) < (units e + units (suc e)) * (units e + units (suc e))
     → (units e + units (suc e)) * (units e + units (suc e)) < 4 * (units (suc b) * 2 ^ 1074)
@@ -161,7 +179,9 @@ root-at-most e b E B lo hi x f = go x f (normal-value e E) (normal-value b B)
         (ap (λ (y : Float). le y (f64 e)) (root-special .1) ∙ inf-first (f64 e) (units e) (2 ^ 1074) v ∙ sym (inf-first (f64 b) (units b) (2 ^ 1074) w))
     go (fin s zero d) f v w =
         from (fin s zero d) (from-zero s d)
-        (ap (λ (y : Float). le y (f64 e)) (root-special .3 s d) ∙ zero-first s d (f64 e) (units e) (2 ^ 1074) (units-pos e) v ∙ sym (zero-first s d (f64 b) (units b) (2 ^ 1074) (units-pos b) w))
+        (ap (λ (y : Float). le y (f64 e)) (root-special .3 s d)
+        ∙ zero-first s d (f64 e) (units e) (2 ^ 1074) (units-pos e) v
+        ∙ sym (zero-first s d (f64 b) (units b) (2 ^ 1074) (units-pos b) w))
     go (fin true (suc m) d) f v w = neither (fin true (suc m) d) (root-special .4 m d) (from-below m d)
     go (fin false (suc m) d) f v w =
         let x = fin false (suc m) d in
@@ -180,7 +200,10 @@ root-determined κ a s s' r r' p q = p ∙ sym q
 
 -- The number to check by hand: the root of 2.25 is 1.5.
 pub by-hand : root (f64 0x4002_0000_0000_0000) ≡ f64 0x3ff8_0000_0000_0000
-by-hand = root-exact (f64 0x4002_0000_0000_0000) (f64 0x3ff8_0000_0000_0000) (3 * 2 ^ 1073) (ofBits-fits binary64 0x4002_0000_0000_0000) (ofBits-fits binary64 0x3ff8_0000_0000_0000) (mul-pos {m = 3} (lit≤ tt) (pow-pos 1073)) two-and-a-quarter one-and-a-half
+by-hand =
+    root-exact (f64 0x4002_0000_0000_0000) (f64 0x3ff8_0000_0000_0000) (3 * 2 ^ 1073)
+    (ofBits-fits binary64 0x4002_0000_0000_0000) (ofBits-fits binary64 0x3ff8_0000_0000_0000)
+    (mul-pos {m = 3} (lit≤ tt) (pow-pos 1073)) two-and-a-quarter one-and-a-half
   where
     two-and-a-quarter : HasValue (f64 0x4002_0000_0000_0000) false (3 * 2 ^ 1073 * (3 * 2 ^ 1073)) (2 ^ 2148)
     two-and-a-quarter = unfold ofBits in (refl, refl)

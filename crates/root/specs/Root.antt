@@ -1,5 +1,6 @@
--- The square root of an f64: the f64 nearest to the exact root. There are no real numbers here, so a root is said by its square.
--- Everything is counted in whole numbers: a unit is the smallest f64, 2 ^ -1074, and x is n * 2 ^ -2148 for a whole n, so that the root of x is the root of n, in units. Definitions only.
+-- The square root of an f64: the f64 nearest to the exact root. There are no real numbers here, so a root is said by
+-- its square. Everything is counted in whole numbers: a unit is the smallest f64, 2 ^ -1074, and x is n * 2 ^ -2148 for
+-- a whole n, so that the root of x is the root of n, in units. Definitions only.
 use mathlib.Core.Bool.{Bool, true, false, cond}
 use Prim.Native.Nat.{ℕ, zero, suc, _+_, _-_, _*_, _/_, _^_}
 use lib.Dec.{leb}
@@ -10,7 +11,8 @@ unfoldable pub largest : (ℕ → Bool) → ℕ → ℕ
 largest test zero = zero
 largest test (suc b) = cond (test (suc b)) (suc b) (largest test b)
 
--- r steps of 2 ^ k units are no further above the root of n units than half a step: (r - 1/2) * 2 ^ k is at most the root of n. Both sides are doubled and squared.
+-- r steps of 2 ^ k units are no further above the root of n units than half a step: (r - 1/2) * 2 ^ k is at most the
+-- root of n. Both sides are doubled and squared.
 unfoldable pub reaches : ℕ → ℕ → ℕ → Bool
 reaches n k r = leb ((2 * r - 1) * (2 * r - 1) * 4 ^ k) (4 * n)
 

@@ -1,5 +1,6 @@
 -- `lookup::looked_up` meets its contract. Assumes nothing.
 use mathlib.Core.Path.{refl, sym, ap, ap₂, _∙_}
+use mathlib.Core.Logic.{⊎-elim}
 use borrow.Author.Needs.{needs}
 use denote.Ref.{now}
 use Rattle.lens.specs.Distorted.{finite-pixel}
@@ -10,14 +11,9 @@ use Rattle.lookup.proofs.looked_up.Statement.{statement}
 use Rattle.lookup.proofs.looked_up.Tie as tie
 
 returns : tie.Need-returns
-returns c = looked-up-so _ _ _ _ _ (sym (c .if1 .taken) ∙ c .before .outside .ensures) refl refl
-
-returns-2 : tie.Need-returns-2
-returns-2 c =
-    looked-up-so _ _ _ _ _
-    (sym (c .before .before .if1 .left) ∙ c .before .before .before .outside .ensures)
-    (sym (c .if2 .taken) ∙ c .before .outside2 .ensures)
-    refl
+returns c =
+    ⊎-elim (λ w. looked-up-so _ _ _ _ _ (sym (w .taken) ∙ c .before .outside .ensures) refl refl)
+    (λ w. looked-up-so _ _ _ _ _ (sym (w .0 .left) ∙ c .before .outside .ensures) (sym (w .2 .taken) ∙ w .1 .ensures) refl) (c .if1 .came)
 
 spot-of-requires : tie.Need-spot-of-requires
 spot-of-requires c κs =
@@ -36,8 +32,8 @@ pixel-at-requires c κs =
     let j = inside-high (p .0) _ (p .2) (sym (c .before .before .before .outside2 .ensures) ∙ c .before .before .if2 .left) in
     rw (c .spot-of2 .ensures, c .before .spot-of .ensures) (reaches (p .0) i j)
 
-returns-3 : tie.Need-returns-3
-returns-3 c =
+returns-2 : tie.Need-returns-2
+returns-2 c =
     let a = c .before .before .before .before .before .before .before .before .before .args in
     let at = c .before .pixel-at .result in
     looked-up-so _ _ _ _ _
@@ -51,11 +47,10 @@ looked-up-spec =
     tie.close
     (tie.spec
     (λ c κs. search needs)
-    returns
     (λ c κs. search needs)
-    returns-2
+    returns
     spot-of-requires
     spot-of-requires-2
     pixel-at-requires
     (λ c κs. search needs)
-    returns-3)
+    returns-2)

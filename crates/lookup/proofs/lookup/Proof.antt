@@ -11,7 +11,7 @@ use Rattle.lens.specs.declared.Distorted.the-variants.{Refused}
 use Rattle.lens.specs.declared.Judgement.{Judgement}
 use Rattle.lens.specs.declared.Point.{Point}
 use Rattle.region.specs.declared.Region.{Region}
-use Rattle.lookup.specs.Lookup.{given, spread, lookup}
+use Rattle.lookup.specs.Lookup.{admitted, spread, lookup}
 use Rattle.lookup.proofs.Steps.{taken}
 use denote.Ref.{now}
 use borrow.Author.Needs.{needs}
@@ -19,22 +19,22 @@ use Rattle.lookup.proofs.lookup.Statement.{statement}
 use Rattle.lookup.proofs.lookup.Tie as tie
 
 spread-requires : tie.Need-spread-requires
-spread-requires c κs = taken _ _ _ _ _ (sym (c .before .before .given .ensures) ∙ c .enum-told .given .1)
+spread-requires c κs = taken _ _ _ _ _ (sym (c .before .before .admitted .ensures) ∙ c .enum-told .given .1)
 
 told-so : (table : List Float) (region : Region) (width height : ℕ) (point : Point) {j : Judgement} {answer : Distorted}
-    → j ≡ given (length table) region width height point → answer ≡ spread table region width height point
+    → j ≡ admitted (length table) region width height point → answer ≡ spread table region width height point
     → told-pixel (decided j Refused answer) ≡ told-pixel (lookup table region width height point)
 told-so table region width height point g a = rw (a, g) refl
 
 returns : tie.Need-returns
 returns c =
     let a = c .before .before .before .before .before .args in
-    told-so (now (a .table)) (a .region) (a .width) (a .height) (a .point) (sym (c .before .refusal .given .1) ∙ c .before .before .before .given .ensures) refl
+    told-so (now (a .table)) (a .region) (a .width) (a .height) (a .point) (sym (c .before .refusal .given .1) ∙ c .before .before .before .admitted .ensures) refl
 
 returns-2 : tie.Need-returns-2
 returns-2 c =
     let a = c .before .before .before .before .before .args in
-    told-so (now (a .table)) (a .region) (a .width) (a .height) (a .point) (sym (c .before .enum-told .given .1) ∙ c .before .before .before .given .ensures) (c .spread .ensures)
+    told-so (now (a .table)) (a .region) (a .width) (a .height) (a .point) (sym (c .before .enum-told .given .1) ∙ c .before .before .before .admitted .ensures) (c .spread .ensures)
 
 pub lookup-spec : {M : Type 1} → statement M
 lookup-spec = tie.close (tie.spec (λ c κs. search needs) (λ c. search needs) (λ c. search needs) spread-requires returns returns-2)

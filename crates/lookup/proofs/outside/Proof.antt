@@ -1,5 +1,5 @@
 -- `lookup::outside` meets its contract. Assumes nothing.
-use mathlib.Core.Path.{_≡_, refl, sym}
+use mathlib.Core.Path.{_≡_, refl, sym, _∙_}
 use mathlib.Core.Bool.{Bool, _||_}
 use Prim.Native.Nat.{ℕ, _-_}
 use lib.Ieee.{Float, lt}
@@ -15,7 +15,7 @@ so : (i : Float) (cells : ℕ) {b : Bool} {last : Float} → b ≡ lt i zeros �
 so i cells e f = rw (e, f) refl
 
 returns : tie.Need-returns
-returns c = so (c .before .args .i) (c .before .args .cells) (sym (c .if1 .taken)) refl
+returns c = c .if1 .taken ∙ so (c .before .args .i) (c .before .args .cells) (sym (c .if1 .taken)) refl
 
 returns-2 : tie.Need-returns-2
 returns-2 c = so (c .before .before .args .i) (c .before .before .args .cells) (sym (c .before .if1 .left)) (c .float .ensures)

@@ -10,14 +10,14 @@ use Rattle.lookup.proofs.spot_of.Tie as tie
 truncating-f64-to-u64-requires : tie.Need-truncating-f64-to-u64-requires
 truncating-f64-to-u64-requires c κs = let r = cut (c .args .i) (c .args .cells) (c .pre) in (r .above, r .under)
 
-beside-requires : tie.Need-beside-requires
-beside-requires c κs =
+neighbour-requires : tie.Need-neighbour-requires
+neighbour-requires c κs =
     let a = c .before .args in
     subst (λ (n : ℕ). n < a .cells) (sym (c .truncating-f64-to-u64 .ensures)) (cut (a .i) (a .cells) (c .before .pre) .among)
 
 returns : tie.Need-returns
 unfolding spot
-returns c = rw (c .float .ensures, c .before .beside .ensures, c .before .before .truncating-f64-to-u64 .ensures) refl
+returns c = rw (c .float .ensures, c .before .neighbour .ensures, c .before .before .truncating-f64-to-u64 .ensures) refl
 
 pub spot-of-spec : {M : Type 1} → statement M
-spot-of-spec = tie.close (tie.spec truncating-f64-to-u64-requires beside-requires (λ c κs. search needs) returns)
+spot-of-spec = tie.close (tie.spec truncating-f64-to-u64-requires neighbour-requires (λ c κs. search needs) returns)
