@@ -15,11 +15,13 @@ use Rattle.lens.specs.declared.Pixel.{Pixel}
 use Rattle.lens.specs.declared.Point.{Point}
 use Rattle.lens.proofs.Passes.{passes-most}
 use Rattle.affine.specs.Affine as affine
-use Rattle.brown_conrady.specs.BrownConrady.{three, affine-params, distortion, distort, shared-at, slopes-at, small, step, pass, limit, start, ended, undistort}
+use Rattle.brown_conrady.specs.AsWritten.{dx-distort-x-as-written}
+use Rattle.brown_conrady.specs.BrownConrady.{three, affine-params, distortion, distort, shared-at, slopes-at, dx-distort-x, small, step, pass, limit, start, ended, undistort}
 use Rattle.brown_conrady.specs.declared.BrownConradyParams.{BrownConradyParams}
 use Rattle.brown_conrady.specs.declared.Offset.{Offset}
 use Rattle.brown_conrady.specs.declared.Search.{Search}
 use Rattle.brown_conrady.proofs.NoRoot.{no-root}
+use Rattle.brown_conrady.proofs.SecondCopy.{same-copy}
 use Rattle.brown_conrady.proofs.distort.Reads as distort-contract
 use Rattle.brown_conrady.proofs.undistort.Reads as undistort-contract
 use Rattle.brown_conrady.proofs.dx_distort_x.Reads as dx-distort-x-contract
@@ -31,6 +33,11 @@ determined = (λ κ a s s' r r' p q. p ∙ sym q, λ κ a s s' r r' p q. p ∙ s
 -- A norm is at most EPS exactly where its square, as rounded before the root is taken, is at most the f64 nearest to 1e-12. So the code takes no root.
 pub small-squared : (offset : Offset) → small offset ≡ le (squared-radius (offset .0) (offset .1)) (f64 0x3d71_9799_812d_ea11)
 small-squared offset = no-root (offset .0) (offset .1)
+
+-- The Rust has the slopes twice, for Newton and in dx_distort_x. Its dx_distort_x, as its text has it, gives the bits that ours gives from
+-- Newton's copy: for every camera and point, NaN and infinities among the numbers.
+pub second-copy : (params : BrownConradyParams) (point : Point) → dx-distort-x-as-written params point ≡ dx-distort-x params point
+second-copy = same-copy
 
 -- ---- how many updates
 

@@ -57,7 +57,7 @@ distortion params point =
 abbrev pub distort : BrownConradyParams → Point → Pixel
 distort params point = affine.distort (affine-params params) (distortion params point)
 
--- ---- the slopes, by the names of the Rust's Newton. Its dx_distort_x has the same lines by other names, with sides swapped here and there, which changes no bit (docs/RULES.md, 2.3 and 10.4).
+-- ---- the slopes, by the names of the Rust's Newton. Its dx_distort_x has them a second time (AsWritten); the law `second-copy` has the two equal.
 
 -- c5 c6 c15 c16 c17 c20 are there c7 c8 c14 c15 c16 c21
 unfoldable pub shared-at : BrownConradyParams → Point → Shared

@@ -73,8 +73,8 @@ struct Shared {
     c20: f64,
 }
 
-// What the slopes share at a point. The Rust has these lines and those of slopes_at twice; the copies differ in the sides of a sum or a product, in a factor 1 and in which factor has
-// the minus, and none of that changes a bit (docs/RULES.md, 2.3).
+// What the slopes share at a point. The Rust has these lines and those of slopes_at twice, with sides swapped here and there; the law
+// `second-copy` says that both copies give the same bits, so one is enough.
 fn shared_at(params: BrownConradyParams, point: Point) -> Shared
     ensures { λ r. ⌜ r ≡ shared-at params point ⌝ }
 {

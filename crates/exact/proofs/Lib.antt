@@ -4,3 +4,4 @@ pub mod Rounding
 pub mod Infinite
 pub mod Laws
 pub mod Fractions
+pub mod Swaps

@@ -21,10 +21,12 @@ use Rattle.lens.specs.declared.Refusal.the-variants.{AngleTooLarge}
 use Rattle.lens.specs.declared.Undistorted.the-variants.{At, Refused}
 use Rattle.lens.proofs.Laws.{told-one-to-one}
 use Rattle.lens.proofs.Passes.{passes-most}
+use Rattle.kannala_brandt.specs.AsWritten.{dx-distort-x-as-written, dx-distort-params-as-written}
 use Rattle.kannala_brandt.specs.KannalaBrandt.{distort, dx-distort-x, dx-distort-params, limit, pass, newton, outward, un, vn, rth2, undistort}
 use Rattle.kannala_brandt.specs.declared.KannalaBrandtParams.{KannalaBrandtParams}
 use Rattle.kannala_brandt.specs.declared.Reached.{Reached}
 use Rattle.kannala_brandt.proofs.Updates.{ended, updates, one-update}
+use Rattle.kannala_brandt.proofs.Written.{x-written, params-written}
 use Rattle.kannala_brandt.proofs.distort.Reads as distort-contract
 use Rattle.kannala_brandt.proofs.undistort.Reads as undistort-contract
 use Rattle.kannala_brandt.proofs.dx_distort_x.Reads as dx-distort-x-contract
@@ -42,6 +44,13 @@ module _ (params : KannalaBrandtParams) where
       (point : Point) (f g : Float → Float) → f (root (squared-radius (point .0) (point .1))) ≡ g (root (squared-radius (point .0) (point .1)))
       → (distort f params point ≡ distort g params point) × (dx-distort-x f params point ≡ dx-distort-x g params point) × (dx-distort-params f params point ≡ dx-distort-params g params point)
   given-arctangent point f g e = (rw e refl, rw e refl, rw e refl)
+
+  -- Both derivatives as the Rust's text has them, with its factors of 1, its c8 * c6 and its size of the squared radius, give the bits that ours give: for every point, NaN and
+  -- infinities among the numbers, whatever stands for the arctangent.
+  pub as-written :
+      (point : Point) (f : Float → Float)
+      → (dx-distort-x-as-written f params point ≡ dx-distort-x f params point) × (dx-distort-params-as-written f params point ≡ dx-distort-params f params point)
+  as-written point f = (x-written f params point, params-written f params point)
 
   module _ (pixel : Pixel) where
     -- where Newton ends
