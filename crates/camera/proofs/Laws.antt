@@ -1,17 +1,20 @@
 -- What a caller may rely on, of the definitions of specs/ and of the contracts of src/. Assumes nothing.
 use mathlib.Core.Path.{_≡_, refl, sym, ap, _∙_}
 use mathlib.Core.Bool.{Bool, true, false, not, cond, _&&_}
+use mathlib.Core.Logic.{_↔_}
 use mathlib.Core.List.{[], _∷_}
 use Prim.Native.Nat.{ℕ, _≤_}
 use native.Mathlib.Omega.{arith}
-use lib.Dec.{lit≤}
+use lib.Dec.{T, lit≤}
 use lib.Ieee.{Float, nan, le, add, sub, mul, div, ofBits}
 use lib.Ieee.Scale.{finite}
 use Rattle.exact.specs.Determined.{Determined}
-use Rattle.exact.specs.F64.{f64, isZero}
+use Rattle.exact.specs.F64.{f64, magnitude, isZero}
+use Rattle.exact.specs.Fraction.{exactly, _≺_}
 use Rattle.root.specs.Root.{root}
 use Rattle.root.proofs.Laws as root-laws
 use Rattle.arctan.specs.Arctangent.{arctangent}
+use Rattle.arctan.specs.Series as series
 use Rattle.arctan.specs.Tangent.{tangent}
 use Rattle.arctan.specs.declared.Slope.{Slope}
 use Rattle.arctan.specs.declared.Slope.the-variants.{Is, TooSteep}
@@ -37,6 +40,8 @@ use Rattle.enhanced_unified.specs.EnhancedUnified as eucm
 use Rattle.enhanced_unified.specs.declared.EnhancedUnifiedParams.{EnhancedUnifiedParams}
 use Rattle.enhanced_unified.proofs.Laws as eucm-laws
 use Rattle.kannala_brandt.specs.KannalaBrandt as kb
+use Rattle.kannala_brandt.specs.declared.KannalaBrandtParams.{KannalaBrandtParams}
+use Rattle.kannala_brandt.proofs.Fits.{angle-fits}
 use Rattle.kannala_brandt.proofs.Laws as kb-laws
 use Rattle.brown_conrady.specs.BrownConrady as bc
 use Rattle.brown_conrady.proofs.Laws as bc-laws
@@ -51,6 +56,7 @@ use Rattle.lens.specs.declared.Judgement.{Judgement}
 use Rattle.lens.specs.declared.Judgement.the-variants as Judged
 use Rattle.lens.specs.declared.Distorted.{Distorted}
 use Rattle.lens.specs.declared.Distorted.the-variants.{At, Refused}
+use Rattle.camera.proofs.Past.{steep-past, first-is-10}
 use Rattle.camera.proofs.Steep as far-out
 use Rattle.camera.proofs.finite_parameters.Reads as finite-parameters-contract
 use Rattle.camera.proofs.zero_focal.Reads as zero-focal-contract
@@ -140,6 +146,30 @@ unfolding judged
 undistort-number camera pixel =
     let answer = answer-number (point-of camera pixel) (too-steep camera pixel) (agree camera pixel) in
     before point-number found.Refused (finite-point (point-of camera pixel)) (λ r. refl) answer (given camera (pixel .0) (pixel .1)) (zero-focal camera)
+
+-- where kb's Newton ends, for a pixel
+abbrev theta : KannalaBrandtParams → Pixel → Float
+theta p pixel = kb.newton p (root (kb.rth2 p pixel)) .th
+
+-- Undistort of kb refuses with 10 exactly if neither 4 nor 5 does, the squared radius isn't ≤ EPS, and the last theta is finite and its size,
+-- as an exact fraction, above the limit that arctan names.
+pub refused-10 :
+    (p : KannalaBrandtParams) (pixel : Pixel)
+    → (told (undistort (KannalaBrandt p) pixel) .number ≡ 10)
+    ↔ ((not-finite (KannalaBrandt p) (pixel .0) (pixel .1) ≡ false)
+    × (zero-focal (KannalaBrandt p) ≡ false)
+    × (le (kb.rth2 p pixel) eps ≡ false)
+    × T (finite (theta p pixel))
+    × (series.limit ≺ exactly (magnitude (theta p pixel))))
+refused-10 p pixel =
+    let camera = KannalaBrandt p in
+    let says = undistort-number camera pixel in
+    let infinite = point-not-finite (point-of camera pixel) in
+    let rows = first-is-10 (not-finite camera (pixel .0) (pixel .1)) (zero-focal camera) (le (kb.rth2 p pixel) eps) (steep (tangent (theta p pixel))) infinite in
+    let past = steep-past (theta p pixel) (angle-fits p (root (kb.rth2 p pixel))) in (
+      λ h. let r = rows .0 (sym says ∙ h) in (r .0, r .1, r .2, past .0 (r .3) .0, past .0 (r .3) .1),
+      λ h. says ∙ rows .1 (h .0, h .1, h .2, past .1 (h .3, h .4)),
+    )
 
 abbrev slope-number : Differentiated → ℕ
 slope-number d = d .number

@@ -1,3 +1,4 @@
 pub mod Fits
 pub mod Laws
 pub mod Steep
+pub mod Past

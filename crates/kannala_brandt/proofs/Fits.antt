@@ -1,20 +1,45 @@
--- What undistort finds is rounded to f64, whatever its parameters, its pixel and the tangent are. Assumes nothing.
+-- What Newton and undistort find is rounded to f64, whatever the parameters, the pixel and the tangent are. Assumes nothing.
 use mathlib.Core.Bool.{Bool, true, false, cond}
+use Prim.Native.Nat.{ℕ, suc}
 use lib.Ieee.{Float, binary64, le}
-use lib.Ieee.Fits.{div-fits}
+use lib.Ieee.Fits.{sub-fits, div-fits}
 use Rattle.exact.specs.F64.{_⊖_, _⊗_}
 use Rattle.root.specs.Root.{root}
 use Rattle.arctan.specs.declared.Slope.{Slope}
 use Rattle.arctan.specs.declared.Slope.the-variants.{Is, TooSteep}
 use Rattle.lens.specs.Constants.{eps}
-use Rattle.lens.specs.Fits.{PointFits}
+use Rattle.lens.specs.Fits.{Fit, PointFits}
+use Rattle.lens.specs.Passes.{passes}
 use Rattle.lens.specs.Undistorted.{direct}
 use Rattle.lens.specs.declared.Pixel.{Pixel}
 use Rattle.lens.specs.declared.Undistorted.{Undistorted}
 use Rattle.lens.specs.declared.Undistorted.the-variants.{At, Refused}
-use Rattle.kannala_brandt.specs.KannalaBrandt.{newton, sign, outward, un, vn, rth2, undistort}
+use Rattle.lens.proofs.Passes.{passes-keep}
+use Rattle.kannala_brandt.specs.KannalaBrandt.{step, pass, newton, sign, outward, un, vn, rth2, undistort}
 use Rattle.kannala_brandt.specs.declared.KannalaBrandtParams.{KannalaBrandtParams}
 use Rattle.kannala_brandt.specs.declared.Reached.{Reached}
+use Rattle.kannala_brandt.proofs.Updates.{ended}
+
+-- a pass ends with a difference
+pass-fits : (params : KannalaBrandtParams) (rth : Float) (at : Reached) → Fit (pass params rth at .th)
+unfolding pass
+pass-fits params rth at = sub-fits binary64 (at .th) (step params rth (at .th))
+
+-- and so do some passes, be it one
+passes-fit : (params : KannalaBrandtParams) (rth : Float) (n : ℕ) (at : Reached) → Fit (passes (pass params rth) ended (suc n) at .th)
+unfolding passes
+passes-fit params rth n at =
+    let t = pass params rth at in
+    go (t .ended) t _ (pass-fits params rth at) (passes-keep (pass params rth) ended (λ (s : Reached). Fit (s .th)) (λ s p. pass-fits params rth s) n t (pass-fits params rth at))
+  where
+    go : (b : Bool) (s t : Reached) → Fit (s .th) → Fit (t .th) → Fit (cond b s t .th)
+    go true s t p q = p
+    go false s t p q = q
+
+-- The angle where Newton ends is an f64.
+pub angle-fits : (params : KannalaBrandtParams) (rth : Float) → Fit (newton params rth .th)
+unfolding newton
+angle-fits params rth = passes-fit params rth 19 record { th = root rth; updates = 0; ended = false }
 
 outward-fits : (slope : Slope) (at : Reached) (rth un vn : Float) → PointFits (outward slope at rth un vn)
 outward-fits TooSteep at rth un vn = tt
