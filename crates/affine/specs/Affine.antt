@@ -1,5 +1,6 @@
 -- The four operations of affine.rs: each product, sum, difference and quotient rounds once, in the Rust's order. Definitions only.
 use mathlib.Core.List.{[], _∷_}
+use lib.Ieee.{Float}
 use Rattle.exact.specs.F64.{_⊕_, _⊖_, _⊗_, _⊘_}
 use Rattle.lens.specs.Constants.{zeros, ones}
 use Rattle.lens.specs.Jacobian.{twoRows}
@@ -9,6 +10,10 @@ use Rattle.lens.specs.declared.Pixel.{Pixel}
 use Rattle.lens.specs.declared.Point.{Point}
 use Rattle.lens.specs.declared.Settled.{Settled}
 use Rattle.affine.specs.declared.AffineParams.{AffineParams}
+
+-- a camera by its numbers
+abbrev pub camera : Float → Float → Float → Float → AffineParams
+camera fx fy cx cy = record { fx = fx; fy = fy; cx = cx; cy = cy }
 
 abbrev pub distort : AffineParams → Point → Pixel
 distort params point = record {

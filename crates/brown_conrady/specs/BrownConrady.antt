@@ -21,6 +21,24 @@ use Rattle.brown_conrady.specs.declared.Offset.{Offset}
 use Rattle.brown_conrady.specs.declared.Shared.{Shared}
 use Rattle.brown_conrady.specs.declared.Slopes.{Slopes}
 
+-- a camera by its numbers
+abbrev pub camera :
+    Float → Float → Float → Float → Float → Float → Float → Float → Float → Float → Float → Float → BrownConradyParams
+camera fx fy cx cy k1 k2 p1 p2 k3 k4 k5 k6 = record {
+  fx = fx;
+  fy = fy;
+  cx = cx;
+  cy = cy;
+  k1 = k1;
+  k2 = k2;
+  p1 = p1;
+  p2 = p2;
+  k3 = k3;
+  k4 = k4;
+  k5 = k5;
+  k6 = k6;
+}
+
 -- 2, 3 and 6
 abbrev pub two : Float
 two = f64 0x4000_0000_0000_0000

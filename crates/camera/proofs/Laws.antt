@@ -6,10 +6,10 @@ use mathlib.Core.List.{[], _∷_}
 use Prim.Native.Nat.{ℕ, _≤_}
 use native.Mathlib.Omega.{arith}
 use lib.Dec.{T, lit≤}
-use lib.Ieee.{Float, nan, le, add, sub, mul, div, ofBits}
+use lib.Ieee.{Float, nan, le, add, sub, mul, div, neg, ofBits, ofInt}
 use lib.Ieee.Scale.{finite}
 use Rattle.exact.specs.Determined.{Determined}
-use Rattle.exact.specs.F64.{f64, magnitude, isZero}
+use Rattle.exact.specs.F64.{f64, minus, magnitude, isZero}
 use Rattle.exact.specs.Fraction.{exactly, _≺_}
 use Rattle.root.specs.Root.{root}
 use Rattle.root.proofs.Laws as root-laws
@@ -18,7 +18,8 @@ use Rattle.arctan.specs.Series as series
 use Rattle.arctan.specs.Tangent.{tangent}
 use Rattle.arctan.specs.declared.Slope.{Slope}
 use Rattle.arctan.specs.declared.Slope.the-variants.{Is, TooSteep}
-use Rattle.lens.specs.Constants.{zeros, ones, eps}
+use Rattle.lens.specs.ByHand.{halves, quarters, xy, uv}
+use Rattle.lens.specs.Constants.{zeros, ones, eps, int}
 use Rattle.lens.specs.Finite.{all-finite}
 use Rattle.lens.specs.Judgement.{decided}
 use Rattle.lens.specs.Refusal.{number}
@@ -56,6 +57,7 @@ use Rattle.lens.specs.declared.Judgement.{Judgement}
 use Rattle.lens.specs.declared.Judgement.the-variants as Judged
 use Rattle.lens.specs.declared.Distorted.{Distorted}
 use Rattle.lens.specs.declared.Distorted.the-variants.{At, Refused}
+use Rattle.camera.proofs.ByHand.{at-once, affines, eucms, kbs, bcs}
 use Rattle.camera.proofs.Past.{steep-past, first-is-10}
 use Rattle.camera.proofs.Steep as far-out
 use Rattle.camera.proofs.finite_parameters.Reads as finite-parameters-contract
@@ -293,17 +295,21 @@ settled pixel s a e = (
 
 -- a NaN; a lens with a zero focal length; (2 ^ 1000, 0), whose squared radius overflows
 abbrev nowhere : Point
-nowhere = record { 0 = nan; 1 = zeros }
+nowhere = xy nan zeros
 
 abbrev flat : Camera
-flat = Affine record { fx = zeros; fy = ones; cx = zeros; cy = zeros }
+flat = Affine (affine.camera zeros ones zeros zeros)
 
 abbrev far : Point
-far = record { 0 = f64 0x7e70_0000_0000_0000; 1 = zeros }
+far = xy (f64 0x7e70_0000_0000_0000) zeros
 
 -- fx is 2 ^ 1000
 abbrev long : Camera
-long = Affine record { fx = f64 0x7e70_0000_0000_0000; fy = ones; cx = zeros; cy = zeros }
+long = Affine (affine.camera (f64 0x7e70_0000_0000_0000) ones zeros zeros)
+
+-- bc with no coefficient
+abbrev plain : Camera
+plain = BrownConrady (bc.camera ones ones zeros zeros zeros zeros zeros zeros zeros zeros zeros zeros)
 
 -- Distort is refused with 4, 5 and 11.
 pub distort-reached : (told-pixel (distort flat nowhere) .number ≡ 4) × (told-pixel (distort flat far) .number ≡ 5) × (told-pixel (distort long far) .number ≡ 11)
@@ -312,72 +318,68 @@ distort-reached = (refl, refl, refl)
 
 -- Undistort with 4, 5, 10 and 11.
 pub undistort-reached :
-    (told (undistort flat record { 0 = nan; 1 = zeros }) .number ≡ 4)
-    × (told (undistort flat record { 0 = zeros; 1 = zeros }) .number ≡ 5)
+    (told (undistort flat (uv nan zeros)) .number ≡ 4)
+    × (told (undistort flat (uv zeros zeros)) .number ≡ 5)
     × (told (undistort (KannalaBrandt far-out.lens) far-out.pixel) .number ≡ 10)
-    × (told (undistort (Affine record { fx = f64 0x0000_0000_0000_0001; fy = ones; cx = zeros; cy = zeros }) record { 0 = ones; 1 = zeros }) .number ≡ 11)
-unfolding judged all-finite isZero add sub mul div ofBits
+    × (told (undistort (Affine (affine.camera (f64 0x0000_0000_0000_0001) ones zeros zeros)) (uv ones zeros)) .number ≡ 11)
+unfolding judged all-finite isZero add sub mul div ofBits ofInt
 undistort-reached = (refl, refl, ap (λ (u : Undistorted). told (finite-point u) .number) far-out.refused, refl)
 
 -- The derivative by the point with 4, 5 and 11.
-pub dx-distort-x-reached : (dx-distort-x flat nowhere .number ≡ 4) × (dx-distort-x flat far .number ≡ 5) × (dx-distort-x (BrownConrady bc-laws.plain) far .number ≡ 11)
+pub dx-distort-x-reached : (dx-distort-x flat nowhere .number ≡ 4) × (dx-distort-x flat far .number ≡ 5) × (dx-distort-x plain far .number ≡ 11)
 unfolding judged all-finite isZero bc.slopes-at bc.shared-at add mul div ofBits
 dx-distort-x-reached = (refl, refl, refl)
 
 -- The derivative by the parameters with 2, 4, 5 and 11.
 pub dx-distort-params-reached :
-    (dx-distort-params (BrownConrady bc-laws.plain) nowhere .number ≡ 2)
+    (dx-distort-params plain nowhere .number ≡ 2)
     × (dx-distort-params flat nowhere .number ≡ 4)
     × (dx-distort-params flat far .number ≡ 5)
-    × (dx-distort-params (EnhancedUnified eucm-laws.camera) far .number ≡ 11)
-unfolding judged all-finite isZero root add sub mul div ofBits
+    × (dx-distort-params (EnhancedUnified (eucm.camera ones ones zeros zeros (halves 1) ones)) far .number ≡ 11)
+unfolding judged all-finite isZero root add sub mul div ofBits ofInt
 dx-distort-params-reached = (refl, refl, refl, refl)
 
 -- ---- the numbers to check by hand
 
--- An undistort with no update: what the models' laws call `direct`.
-abbrev at-once : Point → Undistorted
-at-once point = found.At (direct point)
-
--- how a camera answers, once its model's answer is known
-by-distort : (camera : Camera) (point : Point) (pixel : Pixel) → judged camera (point .0) (point .1) ≡ Judged.Taken → pixel-of camera point ≡ pixel → finite-pixel pixel ≡ At pixel → distort camera point ≡ At pixel
-by-distort camera point pixel j e f = ap (λ (v : Judgement). decided v Refused (finite-pixel (pixel-of camera point))) j ∙ ap finite-pixel e ∙ f
-
-by-undistort : (camera : Camera) (pixel : Pixel) (u w : Undistorted) → judged camera (pixel .0) (pixel .1) ≡ Judged.Taken → point-of camera pixel ≡ u → finite-point u ≡ w → undistort camera pixel ≡ w
-by-undistort camera pixel u w j e f = ap (λ (v : Judgement). decided v found.Refused (finite-point (point-of camera pixel))) j ∙ ap finite-point e ∙ f
-
-abbrev three-five : Pixel
-three-five = record { 0 = bc.three; 1 = bc-laws.five }
-
-abbrev five-three : Pixel
-five-three = record { 0 = bc-laws.five; 1 = bc.three }
-
--- The rules' numbers to check by hand, marked there as to be proved. Affine 600 600 1 0.5 sends (0.5, -0.25) to (301, -149.5), and back. Eucm 1 1 0 0 0.5 1 sends (2, 2) to (1, 1), and back, and refuses the
--- pixel (2, 0) with 11. Kb 1000 1000 320 280 sends (0, 0) to (320, 280), and back with 0 updates. Bc 1 1 0 0 sends (1, 1) to (3, 5) with p1 = 1, to (5, 3) with p2 = 1, and with no
--- coefficient the pixel (3, 4) back to (3, 4) with 0 updates. The root of 2.25 is 1.5.
+-- The rules' numbers to check by hand that are to be proved (docs/RULES.md, 17), as they stand there: 600 is `int 600`, -149.5 `minus (halves 299)`, and a
+-- camera's numbers come in its model's order. An answer `at-once` has 0 updates and the flag yes. Off the axis kb's hold for any arctangent, or tangent,
+-- that has the value said; the other lines are of the camera itself.
 pub by-hand :
-    (distort (Affine affine-laws.camera) affine-laws.point ≡ At affine-laws.pixel)
-    × (undistort (Affine affine-laws.camera) affine-laws.pixel ≡ at-once affine-laws.point)
-    × (distort (EnhancedUnified eucm-laws.camera) eucm-laws.point ≡ At eucm-laws.pixel)
-    × (undistort (EnhancedUnified eucm-laws.camera) eucm-laws.pixel ≡ at-once eucm-laws.point)
-    × (undistort (EnhancedUnified eucm-laws.camera) eucm-laws.sideways ≡ found.Refused AnswerNotFinite)
-    × (distort (KannalaBrandt kb-laws.camera) kb-laws.point ≡ At kb-laws.pixel)
-    × (undistort (KannalaBrandt kb-laws.camera) kb-laws.pixel ≡ at-once kb-laws.point)
-    × (distort (BrownConrady (bc-laws.camera ones zeros)) bc-laws.corner ≡ At three-five)
-    × (distort (BrownConrady (bc-laws.camera zeros ones)) bc-laws.corner ≡ At five-three)
-    × (undistort (BrownConrady bc-laws.plain) bc-laws.pixel ≡ at-once bc-laws.point)
-    × (root (f64 0x4002_0000_0000_0000) ≡ f64 0x3ff8_0000_0000_0000)
-unfolding judged all-finite isZero ofBits
+    (distort (Affine (affine.camera (int 600) (int 600) (int 1) (halves 1))) (xy (halves 1) (minus (quarters 1))) ≡ At (uv (int 301) (minus (halves 299))))
+    × (undistort (Affine (affine.camera (int 600) (int 600) (int 1) (halves 1))) (uv (int 301) (minus (halves 299)))
+    ≡ at-once (xy (halves 1) (minus (quarters 1))))
+    × (distort (EnhancedUnified (eucm.camera (int 1) (int 1) (int 0) (int 0) (halves 1) (int 1))) (xy (int 2) (int 2)) ≡ At (uv (int 1) (int 1)))
+    × (undistort (EnhancedUnified (eucm.camera (int 1) (int 1) (int 0) (int 0) (halves 1) (int 1))) (uv (int 1) (int 1)) ≡ at-once (xy (int 2) (int 2)))
+    × (undistort (EnhancedUnified (eucm.camera (int 1) (int 1) (int 0) (int 0) (halves 1) (int 1))) (uv (int 2) (int 0)) ≡ found.Refused AnswerNotFinite)
+    × (distort (KannalaBrandt (kb.camera (int 1000) (int 1000) (int 320) (int 280) (int 0) (int 0) (int 0) (int 0))) (xy (int 0) (int 0))
+    ≡ At (uv (int 320) (int 280)))
+    × (undistort (KannalaBrandt (kb.camera (int 1000) (int 1000) (int 320) (int 280) (int 0) (int 0) (int 0) (int 0))) (uv (int 320) (int 280))
+    ≡ at-once (xy (int 0) (int 0)))
+    × ((f : Float → Float) → f (int 5) ≡ int 1
+    → kb.distort f (kb.camera (int 10) (int 10) (int 1) (int 2) (halves 3) (int 0) (int 0) (int 0)) (xy (int 3) (int 4)) ≡ uv (int 16) (int 22))
+    × ((g : Float → Slope) → g (halves 1) ≡ Is (quarters 3)
+    → kb.undistort g (kb.camera (int 4) (int 4) (int 1) (int 2) (minus (int 2)) (int 0) (int 0) (int 0)) (uv (int 2) (int 2))
+    ≡ found.At record { point = xy (quarters 3) (int 0); updates = 1; flag = true })
+    × (distort (BrownConrady (bc.camera (int 1) (int 1) (int 0) (int 0) (int 0) (int 0) (int 1) (int 0) (int 0) (int 0) (int 0) (int 0))) (xy (int 1) (int 1))
+    ≡ At (uv (int 3) (int 5)))
+    × (distort (BrownConrady (bc.camera (int 1) (int 1) (int 0) (int 0) (int 0) (int 0) (int 0) (int 1) (int 0) (int 0) (int 0) (int 0))) (xy (int 1) (int 1))
+    ≡ At (uv (int 5) (int 3)))
+    × (undistort (BrownConrady (bc.camera (int 1) (int 1) (int 0) (int 0) (int 0) (int 0) (int 0) (int 0) (int 0) (int 0) (int 0) (int 0))) (uv (int 3) (int 4))
+    ≡ at-once (xy (int 3) (int 4)))
+    × (root (quarters 9) ≡ halves 3)
+unfolding div ofBits ofInt
 by-hand = (
-  by-distort (Affine affine-laws.camera) affine-laws.point affine-laws.pixel refl (affine-laws.by-hand .0) refl,
-  by-undistort (Affine affine-laws.camera) affine-laws.pixel _ _ refl (ap found.At (affine-laws.by-hand .1)) refl,
-  by-distort (EnhancedUnified eucm-laws.camera) eucm-laws.point eucm-laws.pixel refl (eucm-laws.by-hand .0) refl,
-  by-undistort (EnhancedUnified eucm-laws.camera) eucm-laws.pixel _ _ refl (ap found.At (eucm-laws.by-hand .1)) refl,
-  by-undistort (EnhancedUnified eucm-laws.camera) eucm-laws.sideways _ _ refl (ap found.At (eucm-laws.by-hand .2)) refl,
-  by-distort (KannalaBrandt kb-laws.camera) kb-laws.point kb-laws.pixel refl (kb-laws.by-hand arctangent tangent .0) refl,
-  by-undistort (KannalaBrandt kb-laws.camera) kb-laws.pixel _ _ refl (kb-laws.by-hand arctangent tangent .1) refl,
-  by-distort (BrownConrady (bc-laws.camera ones zeros)) bc-laws.corner three-five refl (bc-laws.by-hand .0) refl,
-  by-distort (BrownConrady (bc-laws.camera zeros ones)) bc-laws.corner five-three refl (bc-laws.by-hand .1) refl,
-  by-undistort (BrownConrady bc-laws.plain) bc-laws.pixel _ _ refl (ap found.At (bc-laws.by-hand .2)) refl,
+  affines .0,
+  affines .1,
+  eucms .0 .0,
+  eucms .0 .1,
+  eucms .1,
+  kbs .0,
+  kbs .1,
+  kb-laws.by-hand-bent,
+  kb-laws.by-hand-unbent,
+  bcs .0,
+  bcs .1,
+  bcs .2,
   root-laws.by-hand,
 )

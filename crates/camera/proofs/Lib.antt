@@ -1,3 +1,4 @@
+pub mod ByHand
 pub mod Fits
 pub mod Laws
 pub mod Steep

@@ -13,6 +13,10 @@ use Rattle.lens.specs.declared.Point.{Point}
 use Rattle.lens.specs.declared.Settled.{Settled}
 use Rattle.enhanced_unified.specs.declared.EnhancedUnifiedParams.{EnhancedUnifiedParams}
 
+-- a camera by its numbers
+abbrev pub camera : Float → Float → Float → Float → Float → Float → EnhancedUnifiedParams
+camera fx fy cx cy alpha beta = record { fx = fx; fy = fy; cx = cx; cy = cy; alpha = alpha; beta = beta }
+
 -- 2
 abbrev pub two : Float
 two = f64 0x4000_0000_0000_0000

@@ -5,13 +5,14 @@ use mathlib.Core.Bool.{Bool, true, false, cond}
 use Prim.Native.Nat.{ℕ, _≤_}
 use native.Mathlib.Omega.{arith}
 use lib.Dec.{lit≤}
-use lib.Ieee.{Float, le, add, sub, mul, div, ofBits}
+use lib.Ieee.{Float, le, add, sub, mul, div, ofBits, ofInt}
 use Rattle.exact.specs.Determined.{Determined}
-use Rattle.exact.specs.F64.{f64}
+use Rattle.exact.specs.F64.{minus}
 use Rattle.root.specs.Root.{root}
 use Rattle.arctan.specs.declared.Slope.{Slope}
 use Rattle.arctan.specs.declared.Slope.the-variants.{Is, TooSteep}
-use Rattle.lens.specs.Constants.{zeros, eps}
+use Rattle.lens.specs.ByHand.{halves, quarters, xy, uv}
+use Rattle.lens.specs.Constants.{eps, int}
 use Rattle.lens.specs.Radius.{squared-radius}
 use Rattle.lens.specs.Undistorted.{direct, told}
 use Rattle.lens.specs.declared.Pixel.{Pixel}
@@ -22,9 +23,10 @@ use Rattle.lens.specs.declared.Undistorted.the-variants.{At, Refused}
 use Rattle.lens.proofs.Laws.{told-one-to-one}
 use Rattle.lens.proofs.Passes.{passes-most}
 use Rattle.kannala_brandt.specs.AsWritten.{dx-distort-x-as-written, dx-distort-params-as-written}
-use Rattle.kannala_brandt.specs.KannalaBrandt.{distort, dx-distort-x, dx-distort-params, limit, pass, newton, outward, un, vn, rth2, undistort}
+use Rattle.kannala_brandt.specs.KannalaBrandt.{camera, distort, dx-distort-x, dx-distort-params, limit, pass, newton, outward, un, vn, rth2, undistort}
 use Rattle.kannala_brandt.specs.declared.KannalaBrandtParams.{KannalaBrandtParams}
 use Rattle.kannala_brandt.specs.declared.Reached.{Reached}
+use Rattle.kannala_brandt.proofs.Bent.{bent-distorted, bent-undistorted}
 use Rattle.kannala_brandt.proofs.Updates.{ended, updates, one-update}
 use Rattle.kannala_brandt.proofs.Written.{x-written, params-written}
 use Rattle.kannala_brandt.proofs.distort.Reads as distort-contract
@@ -90,30 +92,26 @@ module _ (params : KannalaBrandtParams) where
         go false (Is t) = most
         go false TooSteep = lit≤ tt
 
--- ---- the numbers to check by hand
+-- ---- the numbers to check by hand: whatever stands for arctangent and tangent
 
--- 1000 1000 320 280 0 0 0 0
-abbrev pub camera : KannalaBrandtParams
-camera = record {
-  fx = f64 0x408f_4000_0000_0000;
-  fy = f64 0x408f_4000_0000_0000;
-  cx = f64 0x4074_0000_0000_0000;
-  cy = f64 0x4071_8000_0000_0000;
-  k0 = zeros;
-  k1 = zeros;
-  k2 = zeros;
-  k3 = zeros;
-}
-
--- (0, 0)
-abbrev pub point : Point
-point = record { 0 = zeros; 1 = zeros }
-
--- (320, 280)
-abbrev pub pixel : Pixel
-pixel = record { 0 = f64 0x4074_0000_0000_0000; 1 = f64 0x4071_8000_0000_0000 }
-
--- The camera 1000 1000 320 280 with no distortion sends (0, 0) to (320, 280), and back with 0 updates and the flag yes, whatever stands for arctangent and tangent.
-pub by-hand : (f : Float → Float) (g : Float → Slope) → (distort f camera point ≡ pixel) × (undistort g camera pixel ≡ At (direct point))
-unfolding add sub mul div le ofBits
+-- The camera 1000 1000 320 280 with no distortion sends (0, 0) to (320, 280), and back with 0 updates and the flag yes.
+pub by-hand :
+    (f : Float → Float) (g : Float → Slope)
+    → (distort f (camera (int 1000) (int 1000) (int 320) (int 280) (int 0) (int 0) (int 0) (int 0)) (xy (int 0) (int 0)) ≡ uv (int 320) (int 280))
+    × (undistort g (camera (int 1000) (int 1000) (int 320) (int 280) (int 0) (int 0) (int 0) (int 0)) (uv (int 320) (int 280)) ≡ At (direct (xy (int 0) (int 0))))
+unfolding add sub mul div le ofBits ofInt
 by-hand f g = (refl, refl)
+
+-- Off the axis the camera 10 10 1 2 with k0 = 1.5 sends (3, 4), whose radius is 5, to (16, 22), if the arctangent of 5 is 1: the angle is bent to
+-- 1 + 1.5 and the scale 2.5 · (1/5) = 1/2.
+pub by-hand-bent :
+    (f : Float → Float) → f (int 5) ≡ int 1
+    → distort f (camera (int 10) (int 10) (int 1) (int 2) (halves 3) (int 0) (int 0) (int 0)) (xy (int 3) (int 4)) ≡ uv (int 16) (int 22)
+by-hand-bent f h = bent-distorted f h
+
+-- The camera 4 4 1 2 with k0 = -2 sends the pixel (2, 2), whose radius is 1/4, to (3/4, 0), with 1 update and the flag yes, if the tangent of 1/2 is 3/4:
+-- Newton begins at 1/2, the root of 1/4, which is bent to 1/2 · (1 - 2/4) = 1/4, and its step is 0.
+pub by-hand-unbent :
+    (g : Float → Slope) → g (halves 1) ≡ Is (quarters 3)
+    → undistort g (camera (int 4) (int 4) (int 1) (int 2) (minus (int 2)) (int 0) (int 0) (int 0)) (uv (int 2) (int 2)) ≡ At record { point = xy (quarters 3) (int 0); updates = 1; flag = true }
+by-hand-unbent g h = bent-undistorted g h

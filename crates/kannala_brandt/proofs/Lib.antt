@@ -2,3 +2,4 @@ pub mod Fits
 pub mod Laws
 pub mod Updates
 pub mod Written
+pub mod Bent

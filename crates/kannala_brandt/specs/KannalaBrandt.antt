@@ -23,6 +23,10 @@ use Rattle.kannala_brandt.specs.declared.KannalaBrandtParams.{KannalaBra
 use Rattle.kannala_brandt.specs.declared.Reached.{Reached}
 use Rattle.kannala_brandt.specs.declared.EvenPowers.{EvenPowers}
 
+-- a camera by its numbers
+abbrev pub camera : Float → Float → Float → Float → Float → Float → Float → Float → KannalaBrandtParams
+camera fx fy cx cy k0 k1 k2 k3 = record { fx = fx; fy = fy; cx = cx; cy = cy; k0 = k0; k1 = k1; k2 = k2; k3 = k3 }
+
 -- 2, 3, 4, 5, 7 and 9
 abbrev pub two : Float
 two = f64 0x4000_0000_0000_0000
