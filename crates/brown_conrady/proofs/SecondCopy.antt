@@ -4,11 +4,11 @@ use lib.Ieee.{Float, binary64}
 use lib.Ieee.Fits.{mul-fits}
 use Rattle.exact.specs.F64.{minus, _⊕_, _⊗_, _⊘_}
 use Rattle.exact.proofs.Swaps.{sum-swapped, product-swapped, minus-first, one-times}
-use Rattle.lens.specs.Constants.{ones}
+use Rattle.lens.specs.Constants.{int}
 use Rattle.lens.specs.Radius.{squared-radius}
 use Rattle.lens.specs.declared.Point.{Point}
 use Rattle.brown_conrady.specs.AsWritten.{dx-distort-x-as-written}
-use Rattle.brown_conrady.specs.BrownConrady.{two, three, shared-at, slopes-at, dx-distort-x}
+use Rattle.brown_conrady.specs.BrownConrady.{shared-at, slopes-at, dx-distort-x}
 use Rattle.brown_conrady.specs.declared.BrownConradyParams.{BrownConradyParams}
 
 minus-moved : (x y : Float) → minus x ⊗ y ≡ minus y ⊗ x
@@ -24,8 +24,8 @@ same-copy params point =
     let c4 = squared-radius (point .0) (point .1) in
     let c5 = c4 ⊗ c4 in
     rw (
-      sum-swapped (three ⊗ c5 ⊗ params .k6) (two ⊗ c4 ⊗ params .k5),
-      sum-swapped (two ⊗ (three ⊗ c5) ⊗ params .k3) (two ⊗ (two ⊗ c4) ⊗ params .k2),
+      sum-swapped (int 3 ⊗ c5 ⊗ params .k6) (int 2 ⊗ c4 ⊗ params .k5),
+      sum-swapped (int 2 ⊗ (int 3 ⊗ c5) ⊗ params .k3) (int 2 ⊗ (int 2 ⊗ c4) ⊗ params .k2),
       one-times (c4 ⊗ params .k1) (mul-fits binary64 c4 (params .k1)),
       diagonal _ _ _ _ (point .0 ⊗ point .0) _,
       diagonal _ _ _ _ (point .1 ⊗ point .1) _,

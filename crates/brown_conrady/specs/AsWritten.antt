@@ -3,11 +3,10 @@
 -- proofs/Laws.antt, `second-copy`: not a bit differs. Definitions only.
 use mathlib.Core.List.{[], _∷_}
 use Rattle.exact.specs.F64.{minus, _⊕_, _⊗_, _⊘_}
-use Rattle.lens.specs.Constants.{ones}
+use Rattle.lens.specs.Constants.{ones, int}
 use Rattle.lens.specs.Jacobian.{twoRows}
 use Rattle.lens.specs.declared.Jacobian.{Jacobian}
 use Rattle.lens.specs.declared.Point.{Point}
-use Rattle.brown_conrady.specs.BrownConrady.{two, three, six}
 use Rattle.brown_conrady.specs.declared.BrownConradyParams.{BrownConradyParams}
 
 unfoldable pub dx-distort-x-as-written : BrownConradyParams → Point → Jacobian
@@ -26,7 +25,7 @@ dx-distort-x-as-written params point =
     let a = point .0 in
     let b = point .1 in
     let c0 = a ⊗ d3 in
-    let c1 = two ⊗ d2 in
+    let c1 = int 2 ⊗ d2 in
     let c2 = a ⊗ a in
     let c3 = b ⊗ b in
     let c4 = c2 ⊕ c3 in
@@ -34,13 +33,13 @@ dx-distort-x-as-written params point =
     let c6 = c5 ⊗ c4 in
     let c7 = c4 ⊗ d5 ⊕ c5 ⊗ d6 ⊕ c6 ⊗ d7 ⊕ one in
     let c8 = c7 ⊗ c7 in
-    let c9 = two ⊗ c4 in
-    let c10 = three ⊗ c5 in
+    let c9 = int 2 ⊗ c4 in
+    let c10 = int 3 ⊗ c5 in
     let c11 = c4 ⊗ d0 in
     let c12 = c5 ⊗ d1 in
     let c13 = c6 ⊗ d4 in
-    let c14 = two ⊗ (c10 ⊗ d7 ⊕ c9 ⊗ d6 ⊕ d5) ⊗ (c11 ⊕ c12 ⊕ c13 ⊕ one) in
-    let c15 = two ⊗ c10 ⊗ d4 ⊕ two ⊗ c9 ⊗ d1 ⊕ two ⊗ d0 in
+    let c14 = int 2 ⊗ (c10 ⊗ d7 ⊕ c9 ⊗ d6 ⊕ d5) ⊗ (c11 ⊕ c12 ⊕ c13 ⊕ one) in
+    let c15 = int 2 ⊗ c10 ⊗ d4 ⊕ int 2 ⊗ c9 ⊗ d1 ⊕ int 2 ⊗ d0 in
     let c16 = one ⊗ c11 ⊕ c12 ⊕ c13 ⊕ one in
     let c17 = one ⊘ c8 in
     let c18 = c17 ⊗ fx in
@@ -48,8 +47,8 @@ dx-distort-x-as-written params point =
     let c20 = a ⊗ b in
     let c21 = minus c14 ⊗ c20 ⊕ c15 ⊗ c20 ⊗ c7 in
     let c22 = c17 ⊗ fy in
-    let dfx-dfx = c18 ⊗ (minus c14 ⊗ c2 ⊕ c7 ⊗ (c15 ⊗ c2 ⊕ c16) ⊕ c8 ⊗ (b ⊗ c1 ⊕ six ⊗ c0)) in
-    let dfy-dfx = c22 ⊗ (c21 ⊕ c8 ⊗ (two ⊗ a ⊗ d2 ⊕ two ⊗ c19)) in
-    let dfx-dfy = c18 ⊗ (c21 ⊕ c8 ⊗ (a ⊗ c1 ⊕ two ⊗ c19)) in
-    let dfy-dfy = c22 ⊗ (minus c14 ⊗ c3 ⊕ c7 ⊗ (c15 ⊗ c3 ⊕ c16) ⊕ c8 ⊗ (six ⊗ b ⊗ d2 ⊕ two ⊗ c0)) in
+    let dfx-dfx = c18 ⊗ (minus c14 ⊗ c2 ⊕ c7 ⊗ (c15 ⊗ c2 ⊕ c16) ⊕ c8 ⊗ (b ⊗ c1 ⊕ int 6 ⊗ c0)) in
+    let dfy-dfx = c22 ⊗ (c21 ⊕ c8 ⊗ (int 2 ⊗ a ⊗ d2 ⊕ int 2 ⊗ c19)) in
+    let dfx-dfy = c18 ⊗ (c21 ⊕ c8 ⊗ (a ⊗ c1 ⊕ int 2 ⊗ c19)) in
+    let dfy-dfy = c22 ⊗ (minus c14 ⊗ c3 ⊕ c7 ⊗ (c15 ⊗ c3 ⊕ c16) ⊕ c8 ⊗ (int 6 ⊗ b ⊗ d2 ⊕ int 2 ⊗ c0)) in
     twoRows (dfx-dfx ∷ dfx-dfy ∷ []) (dfy-dfx ∷ dfy-dfy ∷ [])

@@ -3,9 +3,9 @@ use mathlib.Core.Bool.{Bool, true, false, cond}
 use mathlib.Core.List.{[], _∷_}
 use Prim.Native.Nat.{ℕ, _+_}
 use lib.Ieee.{Float, le}
-use Rattle.exact.specs.F64.{f64, minus, _⊕_, _⊖_, _⊗_, _⊘_}
+use Rattle.exact.specs.F64.{minus, _⊕_, _⊖_, _⊗_, _⊘_}
 use Rattle.root.specs.Root.{root}
-use Rattle.lens.specs.Constants.{ones, eps}
+use Rattle.lens.specs.Constants.{ones, eps, int}
 use Rattle.lens.specs.Jacobian.{twoRows}
 use Rattle.lens.specs.Passes.{passes}
 use Rattle.lens.specs.Radius.{squared-radius}
@@ -39,16 +39,6 @@ camera fx fy cx cy k1 k2 p1 p2 k3 k4 k5 k6 = record {
   k6 = k6;
 }
 
--- 2, 3 and 6
-abbrev pub two : Float
-two = f64 0x4000_0000_0000_0000
-
-abbrev pub three : Float
-three = f64 0x4008_0000_0000_0000
-
-abbrev pub six : Float
-six = f64 0x4018_0000_0000_0000
-
 -- ---- distort
 
 -- the first four parameters
@@ -63,9 +53,9 @@ distortion params point =
     let r2 = squared-radius x y in
     let r4 = r2 ⊗ r2 in
     let r6 = r4 ⊗ r2 in
-    let a1 = two ⊗ x ⊗ y in
-    let a2 = r2 ⊕ two ⊗ x ⊗ x in
-    let a3 = r2 ⊕ two ⊗ y ⊗ y in
+    let a1 = int 2 ⊗ x ⊗ y in
+    let a2 = r2 ⊕ int 2 ⊗ x ⊗ x in
+    let a3 = r2 ⊕ int 2 ⊗ y ⊗ y in
     let cdist = ones ⊕ params .k1 ⊗ r2 ⊕ params .k2 ⊗ r4 ⊕ params .k3 ⊗ r6 in
     let icdist2 = ones ⊘ (ones ⊕ params .k4 ⊗ r2 ⊕ params .k5 ⊗ r4 ⊕ params .k6 ⊗ r6) in
     let xd0 = x ⊗ cdist ⊗ icdist2 ⊕ params .p1 ⊗ a1 ⊕ params .p2 ⊗ a2 in
@@ -84,11 +74,11 @@ shared-at params point =
     let c3 = c2 ⊗ c2 in
     let c4 = c3 ⊗ c2 in
     let c5 = c2 ⊗ params .k4 ⊕ c3 ⊗ params .k5 ⊕ c4 ⊗ params .k6 ⊕ ones in
-    let c10 = two ⊗ c2 in
-    let c11 = three ⊗ c3 in
+    let c10 = int 2 ⊗ c2 in
+    let c11 = int 3 ⊗ c3 in
     let c17 = c2 ⊗ params .k1 ⊕ c3 ⊗ params .k2 ⊕ c4 ⊗ params .k3 ⊕ ones in
-    let c15 = two ⊗ (c10 ⊗ params .k5 ⊕ c11 ⊗ params .k6 ⊕ params .k4) ⊗ c17 in
-    let c16 = two ⊗ c10 ⊗ params .k2 ⊕ two ⊗ c11 ⊗ params .k3 ⊕ two ⊗ params .k1 in
+    let c15 = int 2 ⊗ (c10 ⊗ params .k5 ⊕ c11 ⊗ params .k6 ⊕ params .k4) ⊗ c17 in
+    let c16 = int 2 ⊗ c10 ⊗ params .k2 ⊕ int 2 ⊗ c11 ⊗ params .k3 ⊕ int 2 ⊗ params .k1 in
     let c19 = point .0 ⊗ point .1 in
     let c20 = minus c15 ⊗ c19 ⊕ c16 ⊗ c19 ⊗ c5 in
     record { c5 = c5; c6 = c5 ⊗ c5; c15 = c15; c16 = c16; c17 = c17; c20 = c20 }
@@ -102,14 +92,14 @@ slopes-at params point =
     let c0 = a ⊗ a in
     let c1 = b ⊗ b in
     let c8 = a ⊗ params .p2 in
-    let c9 = two ⊗ params .p1 in
+    let c9 = int 2 ⊗ params .p1 in
     let c18 = b ⊗ params .p2 in
     record {
       c7 = ones ⊘ s .c6;
-      ux = minus c0 ⊗ s .c15 ⊕ s .c5 ⊗ (c0 ⊗ s .c16 ⊕ s .c17) ⊕ s .c6 ⊗ (b ⊗ c9 ⊕ six ⊗ c8);
-      uy = s .c20 ⊕ s .c6 ⊗ (a ⊗ c9 ⊕ two ⊗ c18);
-      vx = s .c20 ⊕ s .c6 ⊗ (two ⊗ a ⊗ params .p1 ⊕ two ⊗ c18);
-      vy = minus c1 ⊗ s .c15 ⊕ s .c5 ⊗ (c1 ⊗ s .c16 ⊕ s .c17) ⊕ s .c6 ⊗ (six ⊗ b ⊗ params .p1 ⊕ two ⊗ c8);
+      ux = minus c0 ⊗ s .c15 ⊕ s .c5 ⊗ (c0 ⊗ s .c16 ⊕ s .c17) ⊕ s .c6 ⊗ (b ⊗ c9 ⊕ int 6 ⊗ c8);
+      uy = s .c20 ⊕ s .c6 ⊗ (a ⊗ c9 ⊕ int 2 ⊗ c18);
+      vx = s .c20 ⊕ s .c6 ⊗ (int 2 ⊗ a ⊗ params .p1 ⊕ int 2 ⊗ c18);
+      vy = minus c1 ⊗ s .c15 ⊕ s .c5 ⊗ (c1 ⊗ s .c16 ⊕ s .c17) ⊕ s .c6 ⊗ (int 6 ⊗ b ⊗ params .p1 ⊕ int 2 ⊗ c8);
     }
 
 abbrev pub dx-distort-x : BrownConradyParams → Point → Jacobian

@@ -1,9 +1,9 @@
 -- The four operations of enhanced_unified.rs by its local names: each product, sum, difference and quotient rounds once, in the Rust's order. Definitions only.
 use mathlib.Core.List.{[], _∷_}
 use lib.Ieee.{Float}
-use Rattle.exact.specs.F64.{f64, minus, _⊕_, _⊖_, _⊗_, _⊘_}
+use Rattle.exact.specs.F64.{minus, _⊕_, _⊖_, _⊗_, _⊘_}
 use Rattle.root.specs.Root.{root}
-use Rattle.lens.specs.Constants.{zeros, ones}
+use Rattle.lens.specs.Constants.{zeros, ones, int}
 use Rattle.lens.specs.Jacobian.{twoRows}
 use Rattle.lens.specs.Radius.{squared-radius}
 use Rattle.lens.specs.Undistorted.{direct}
@@ -16,10 +16,6 @@ use Rattle.enhanced_unified.specs.declared.EnhancedUnifiedParams.{Enhanc
 -- a camera by its numbers
 abbrev pub camera : Float → Float → Float → Float → Float → Float → EnhancedUnifiedParams
 camera fx fy cx cy alpha beta = record { fx = fx; fy = fy; cx = cx; cy = cy; alpha = alpha; beta = beta }
-
--- 2
-abbrev pub two : Float
-two = f64 0x4000_0000_0000_0000
 
 -- ---- what distort and both derivatives begin with
 
@@ -60,7 +56,7 @@ undistort params pixel =
 
 -- of norm by a coordinate x
 abbrev pub dnorm : Float → Float → Float → Float → Float
-dnorm alpha beta rho x = alpha ⊗ (two ⊗ beta ⊗ x ⊘ (two ⊗ rho))
+dnorm alpha beta rho x = alpha ⊗ (int 2 ⊗ beta ⊗ x ⊘ (int 2 ⊗ rho))
 
 -- of x / norm, where norm moves by dnorm and x stays
 abbrev pub turned : Float → Float → Float → Float
@@ -91,7 +87,7 @@ dx-distort-params params point =
     let rho = rho (params .beta) r2 in
     let norm = norm (params .alpha) rho in
     let dnorm-dalpha = rho ⊖ ones in
-    let dnorm-dbeta = params .alpha ⊗ (r2 ⊘ (two ⊗ rho)) in
+    let dnorm-dbeta = params .alpha ⊗ (r2 ⊘ (int 2 ⊗ rho)) in
     twoRows
     (x ⊘ norm ∷ zeros ∷ ones ∷ zeros ∷ params .fx ⊗ turned x norm dnorm-dalpha ∷ params .fx ⊗ turned x norm dnorm-dbeta ∷ [])
     (zeros ∷ y ⊘ norm ∷ zeros ∷ ones ∷ params .fy ⊗ turned y norm dnorm-dalpha ∷ params .fy ⊗ turned y norm dnorm-dbeta ∷ [])

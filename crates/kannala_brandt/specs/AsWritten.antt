@@ -7,11 +7,10 @@ use mathlib.Core.List.{[], _∷_}
 use lib.Ieee.{Float, le}
 use Rattle.exact.specs.F64.{minus, magnitude, _⊕_, _⊗_, _⊘_}
 use Rattle.root.specs.Root.{root}
-use Rattle.lens.specs.Constants.{zeros, ones, eps}
+use Rattle.lens.specs.Constants.{zeros, ones, eps, int}
 use Rattle.lens.specs.Jacobian.{twoRows}
 use Rattle.lens.specs.declared.Jacobian.{Jacobian}
 use Rattle.lens.specs.declared.Point.{Point}
-use Rattle.kannala_brandt.specs.KannalaBrandt.{two, three, four}
 use Rattle.kannala_brandt.specs.declared.KannalaBrandtParams.{KannalaBrandtParams}
 
 unfoldable pub dx-distort-x-as-written : (Float → Float) → KannalaBrandtParams → Point → Jacobian
@@ -44,7 +43,7 @@ dx-distort-x-as-written atan params point =
     let c17 =
     ones ⊗ c11
     ⊕ ones ⊗ c12
-    ⊕ two ⊗ c6 ⊗ (four ⊗ c10 ⊗ params .k3 ⊕ two ⊗ c6 ⊗ params .k1 ⊕ three ⊗ c8 ⊗ params .k2 ⊕ params .k0)
+    ⊕ int 2 ⊗ c6 ⊗ (int 4 ⊗ c10 ⊗ params .k3 ⊕ int 2 ⊗ c6 ⊗ params .k1 ⊕ int 3 ⊗ c8 ⊗ params .k2 ⊕ params .k0)
     ⊕ ones ⊗ c7
     ⊕ ones ⊗ c9
     ⊕ ones in

@@ -4,11 +4,11 @@ use mathlib.Core.Bool.{Bool, false, cond}
 use mathlib.Core.List.{[], _∷_}
 use Prim.Native.Nat.{ℕ, _+_}
 use lib.Ieee.{Float, le}
-use Rattle.exact.specs.F64.{f64, minus, magnitude, _⊕_, _⊖_, _⊗_, _⊘_}
+use Rattle.exact.specs.F64.{minus, magnitude, _⊕_, _⊖_, _⊗_, _⊘_}
 use Rattle.root.specs.Root.{root}
 use Rattle.arctan.specs.declared.Slope.{Slope}
 use Rattle.arctan.specs.declared.Slope.the-variants.{Is, TooSteep}
-use Rattle.lens.specs.Constants.{zeros, ones, eps}
+use Rattle.lens.specs.Constants.{zeros, ones, eps, int}
 use Rattle.lens.specs.Jacobian.{twoRows}
 use Rattle.lens.specs.Passes.{passes}
 use Rattle.lens.specs.Radius.{squared-radius}
@@ -26,25 +26,6 @@ use Rattle.kannala_brandt.specs.declared.EvenPowers.{EvenPowers}
 -- a camera by its numbers
 abbrev pub camera : Float → Float → Float → Float → Float → Float → Float → Float → KannalaBrandtParams
 camera fx fy cx cy k0 k1 k2 k3 = record { fx = fx; fy = fy; cx = cx; cy = cy; k0 = k0; k1 = k1; k2 = k2; k3 = k3 }
-
--- 2, 3, 4, 5, 7 and 9
-abbrev pub two : Float
-two = f64 0x4000_0000_0000_0000
-
-abbrev pub three : Float
-three = f64 0x4008_0000_0000_0000
-
-abbrev pub four : Float
-four = f64 0x4010_0000_0000_0000
-
-abbrev pub five : Float
-five = f64 0x4014_0000_0000_0000
-
-abbrev pub seven : Float
-seven = f64 0x401c_0000_0000_0000
-
-abbrev pub nine : Float
-nine = f64 0x4022_0000_0000_0000
 
 -- ---- the polynomial of the angle
 
@@ -75,7 +56,7 @@ distort atan params point =
 -- ---- undistort: Newton
 
 unfoldable pub d-thd-wtr-th : KannalaBrandtParams → EvenPowers → Float
-d-thd-wtr-th params t = ones ⊕ three ⊗ params .k0 ⊗ t .theta2 ⊕ five ⊗ params .k1 ⊗ t .theta4 ⊕ seven ⊗ params .k2 ⊗ t .theta6 ⊕ nine ⊗ params .k3 ⊗ t .theta8
+d-thd-wtr-th params t = ones ⊕ int 3 ⊗ params .k0 ⊗ t .theta2 ⊕ int 5 ⊗ params .k1 ⊗ t .theta4 ⊕ int 7 ⊗ params .k2 ⊗ t .theta6 ⊕ int 9 ⊗ params .k3 ⊗ t .theta8
 
 unfoldable pub step : KannalaBrandtParams → Float → Float → Float
 step params rth th =
@@ -146,8 +127,8 @@ c17 params t =
     let c9 = t .theta4 ⊗ params .k1 in
     let c11 = t .theta6 ⊗ params .k2 in
     let c12 = t .theta8 ⊗ params .k3 in
-    let inner = four ⊗ t .theta6 ⊗ params .k3 ⊕ two ⊗ t .theta2 ⊗ params .k1 ⊕ three ⊗ t .theta4 ⊗ params .k2 ⊕ params .k0 in
-    c11 ⊕ c12 ⊕ two ⊗ t .theta2 ⊗ inner ⊕ c7 ⊕ c9 ⊕ ones
+    let inner = int 4 ⊗ t .theta6 ⊗ params .k3 ⊕ int 2 ⊗ t .theta2 ⊗ params .k1 ⊕ int 3 ⊗ t .theta4 ⊗ params .k2 ⊕ params .k0 in
+    c11 ⊕ c12 ⊕ int 2 ⊗ t .theta2 ⊗ inner ⊕ c7 ⊕ c9 ⊕ ones
 
 -- what stands in the brackets of the diagonal's entries
 unfoldable pub diagonal : Float → Float → Float → Float → Float

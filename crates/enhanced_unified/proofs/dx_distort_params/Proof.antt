@@ -1,5 +1,6 @@
 -- `enhanced_unified::dx_distort_params` meets its contract: each call gives its definition's number. Assumes nothing.
 use mathlib.Core.Path.{refl}
+use lib.Ieee.{ofBits, ofInt}
 use borrow.Author.Needs.{needs}
 use Rattle.enhanced_unified.proofs.dx_distort_params.Statement.{statement}
 use Rattle.enhanced_unified.proofs.dx_distort_params.Tie as tie
@@ -35,6 +36,7 @@ two-rows-requires : tie.Need-two-rows-requires
 two-rows-requires c κs = search needs
 
 returns : tie.Need-returns
+unfolding ofBits ofInt
 returns c =
     let t4 = c .before .before .before .before in
     let t3 = t4 .before .before in
