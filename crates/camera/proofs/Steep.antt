@@ -21,7 +21,7 @@ use Rattle.lens.specs.Passes.{passes}
 use Rattle.lens.specs.declared.Pixel.{Pixel}
 use Rattle.lens.specs.declared.Refusal.the-variants.{AngleTooLarge}
 use Rattle.lens.specs.declared.Undistorted.the-variants.{Refused}
-use Rattle.kannala_brandt.specs.KannalaBrandt.{camera, powers, scaling-by-theta, d-thd-wtr-th, step, pass, limit, newton, rth2, undistort}
+use Rattle.kannala_brandt.specs.KannalaBrandt.{camera, powers, scaling-by-theta, d-thd-wtr-th, step, pass, limit, ended, newton, rth2, undistort}
 use Rattle.kannala_brandt.specs.declared.KannalaBrandtParams.{KannalaBrandtParams}
 use Rattle.kannala_brandt.specs.declared.Reached.{Reached}
 use Rattle.kannala_brandt.proofs.Laws.{refused-exactly}
@@ -47,7 +47,7 @@ unfolding add sub mul div ofInt
 radius = refl
 
 abbrev from-start : Float → Reached
-from-start th = passes (pass lens (int 4)) (λ (at : Reached). at .ended) limit record { th = th; updates = 0; ended = false }
+from-start th = passes (pass lens (int 4)) ended limit record { th = th; updates = 0; ended = false }
 
 two-passes : from-start (int 2) ≡ record { th = int 4; updates = 2; ended = true }
 unfolding passes pass step powers scaling-by-theta d-thd-wtr-th magnitude le add sub mul div ofBits ofInt

@@ -20,7 +20,7 @@ use Rattle.lens.specs.Radius.{squared-radius}
 use Rattle.lens.specs.declared.Pixel.{Pixel}
 use Rattle.lens.specs.declared.Undistorted.{Undistorted}
 use Rattle.lens.specs.declared.Undistorted.the-variants.{At}
-use Rattle.kannala_brandt.specs.KannalaBrandt.{camera, powers, scaling-by-theta, d-thd-wtr-th, step, pass, limit, newton, outward, un, vn, rth2, distort, undistort}
+use Rattle.kannala_brandt.specs.KannalaBrandt.{camera, powers, scaling-by-theta, d-thd-wtr-th, step, pass, limit, ended, newton, outward, un, vn, rth2, distort, undistort}
 use Rattle.kannala_brandt.specs.declared.KannalaBrandtParams.{KannalaBrandtParams}
 use Rattle.kannala_brandt.specs.declared.Reached.{Reached}
 
@@ -85,7 +85,7 @@ unfolding le add sub mul div ofBits ofInt
 off-axis' = refl
 
 abbrev from : Float → Reached
-from th = passes (pass inwards (quarters 1)) (λ (at : Reached). at .ended) limit record { th = th; updates = 0; ended = false }
+from th = passes (pass inwards (quarters 1)) ended limit record { th = th; updates = 0; ended = false }
 
 abbrev there : Reached
 there = record { th = halves 1; updates = 1; ended = true }

@@ -15,10 +15,9 @@ use Rattle.lens.specs.declared.Pixel.{Pixel}
 use Rattle.lens.specs.declared.Undistorted.{Undistorted}
 use Rattle.lens.specs.declared.Undistorted.the-variants.{At, Refused}
 use Rattle.lens.proofs.Passes.{passes-keep}
-use Rattle.kannala_brandt.specs.KannalaBrandt.{step, pass, newton, sign, outward, un, vn, rth2, undistort}
+use Rattle.kannala_brandt.specs.KannalaBrandt.{step, pass, ended, start, newton, sign, outward, un, vn, rth2, undistort}
 use Rattle.kannala_brandt.specs.declared.KannalaBrandtParams.{KannalaBrandtParams}
 use Rattle.kannala_brandt.specs.declared.Reached.{Reached}
-use Rattle.kannala_brandt.proofs.Updates.{ended}
 
 -- a pass ends with a difference
 pass-fits : (params : KannalaBrandtParams) (rth : Float) (at : Reached) → Fit (pass params rth at .th)
@@ -39,7 +38,7 @@ passes-fit params rth n at =
 -- The angle where Newton ends is an f64.
 pub angle-fits : (params : KannalaBrandtParams) (rth : Float) → Fit (newton params rth .th)
 unfolding newton
-angle-fits params rth = passes-fit params rth 19 record { th = root rth; updates = 0; ended = false }
+angle-fits params rth = passes-fit params rth 19 (start rth)
 
 outward-fits : (slope : Slope) (at : Reached) (rth un vn : Float) → PointFits (outward slope at rth un vn)
 outward-fits TooSteep at rth un vn = tt

@@ -23,11 +23,11 @@ use Rattle.lens.specs.declared.Undistorted.the-variants.{At, Refused}
 use Rattle.lens.proofs.Laws.{told-one-to-one}
 use Rattle.lens.proofs.Passes.{passes-most}
 use Rattle.kannala_brandt.specs.AsWritten.{dx-distort-x-as-written, dx-distort-params-as-written}
-use Rattle.kannala_brandt.specs.KannalaBrandt.{camera, distort, dx-distort-x, dx-distort-params, limit, pass, newton, outward, un, vn, rth2, undistort}
+use Rattle.kannala_brandt.specs.KannalaBrandt.{camera, distort, dx-distort-x, dx-distort-params, limit, pass, start, ended, newton, outward, un, vn, rth2, undistort}
 use Rattle.kannala_brandt.specs.declared.KannalaBrandtParams.{KannalaBrandtParams}
 use Rattle.kannala_brandt.specs.declared.Reached.{Reached}
 use Rattle.kannala_brandt.proofs.Bent.{bent-distorted, bent-undistorted}
-use Rattle.kannala_brandt.proofs.Updates.{ended, updates, one-update}
+use Rattle.kannala_brandt.proofs.Updates.{updates, one-update}
 use Rattle.kannala_brandt.proofs.Written.{x-written, params-written}
 use Rattle.kannala_brandt.proofs.distort.Reads as distort-contract
 use Rattle.kannala_brandt.proofs.undistort.Reads as undistort-contract
@@ -85,7 +85,7 @@ module _ (params : KannalaBrandtParams) where
     updates-limit f = go (le (rth2 params pixel) eps) (f (end .th))
       where
         most : end .updates ≤ 20
-        most = passes-most (pass params (root (rth2 params pixel))) ended updates (λ (at : Reached). omega (arith, one-update params (root (rth2 params pixel)) at)) limit record { th = root (root (rth2 params pixel)); updates = 0; ended = false }
+        most = passes-most (pass params (root (rth2 params pixel))) ended updates (λ (at : Reached). omega (arith, one-update params (root (rth2 params pixel)) at)) limit (start (root (rth2 params pixel)))
 
         go : (b : Bool) (s : Slope) → told (cond b (At (direct record { 0 = un params pixel; 1 = vn params pixel })) (outward s end (root (rth2 params pixel)) (un params pixel) (vn params pixel))) .settled .updates ≤ 20
         go true s = lit≤ tt
