@@ -17,7 +17,7 @@ use Rattle.lens.specs.declared.Point.{Point}
 use Rattle.lens.proofs.Passes.{passes-most}
 use Rattle.affine.specs.Affine as affine
 use Rattle.brown_conrady.specs.AsWritten.{dx-distort-x-as-written}
-use Rattle.brown_conrady.specs.BrownConrady.{camera, affine-params, distortion, distort, shared-at, slopes-at, dx-distort-x, small, step, pass, limit, start, ended, undistort}
+use Rattle.brown_conrady.specs.BrownConrady.{camera, affine-params, distortion, distort, shared-at, slopes-at, dx-distort-x, small, step-from, pass, limit, start, ended, undistort}
 use Rattle.brown_conrady.specs.declared.BrownConradyParams.{BrownConradyParams}
 use Rattle.brown_conrady.specs.declared.Offset.{Offset}
 use Rattle.brown_conrady.specs.declared.Search.{Search}
@@ -48,7 +48,7 @@ updates at = at .updates
 -- a pass makes at most one
 one : (params : BrownConradyParams) (distorted : Point) (at : Search) → updates (pass params distorted at) ≤ suc (updates at)
 unfolding pass
-one params distorted at = go (small (step params distorted (at .xy))) _ _ (omega arith) (omega arith)
+one params distorted at = go (small (step-from params distorted (at .xy))) _ _ (omega arith) (omega arith)
   where
     go : (b : Bool) (s t : Search) → updates s ≤ suc (updates at) → updates t ≤ suc (updates at) → updates (cond b s t) ≤ suc (updates at)
     go true s t p q = p
@@ -66,5 +66,5 @@ pub by-hand :
     (distort (camera (int 1) (int 1) (int 0) (int 0) (int 0) (int 0) (int 1) (int 0) (int 0) (int 0) (int 0) (int 0)) (xy (int 1) (int 1)) ≡ uv (int 3) (int 5))
     × (distort (camera (int 1) (int 1) (int 0) (int 0) (int 0) (int 0) (int 0) (int 1) (int 0) (int 0) (int 0) (int 0)) (xy (int 1) (int 1)) ≡ uv (int 5) (int 3))
     × (undistort (camera (int 1) (int 1) (int 0) (int 0) (int 0) (int 0) (int 0) (int 0) (int 0) (int 0) (int 0) (int 0)) (uv (int 3) (int 4)) ≡ direct (xy (int 3) (int 4)))
-unfolding passes pass step slopes-at shared-at distortion root le add sub mul div ofBits ofInt
+unfolding passes pass step-from slopes-at shared-at distortion root le add sub mul div ofBits ofInt
 by-hand = (refl, refl, refl)

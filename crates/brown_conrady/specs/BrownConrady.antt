@@ -149,8 +149,8 @@ solve a b c d f =
       1 = minus c ⊗ z ⊗ f .0 ⊕ a ⊗ z ⊗ f .1;
     }
 
-unfoldable pub step : BrownConradyParams → Point → Point → Offset
-step params distorted xy =
+unfoldable pub step-from : BrownConradyParams → Point → Point → Offset
+step-from params distorted xy =
     let s = slopes-at params xy in
     solve (s .c7 ⊗ s .ux) (s .c7 ⊗ s .uy) (s .c7 ⊗ s .vx) (s .c7 ⊗ s .vy) (f-xy params distorted xy)
 
@@ -158,7 +158,7 @@ step params distorted xy =
 unfoldable pub pass : BrownConradyParams → Point → Search → Search
 pass params distorted at =
     let xy = at .xy in
-    let step = step params distorted xy in
+    let step = step-from params distorted xy in
     cond (small step)
     (record { xy = xy; updates = at .updates; ended = true })
     (record { xy = record { 0 = xy .0 ⊖ step .0; 1 = xy .1 ⊖ step .1 }; updates = at .updates + 1; ended = false })

@@ -2,7 +2,7 @@
 // not here: the camera refuses it.
 ghost use mathlib.Core.Path.{_≡_};
 ghost use Prim.Native.Nat.{_<_};
-ghost use Rattle.brown_conrady.specs.BrownConrady.{affine-params, distortion, distort, shared-at, slopes-at, dx-distort-x, f-xy, small, solve, step, limit, pass, newton, undistort};
+ghost use Rattle.brown_conrady.specs.BrownConrady.{affine-params, distortion, distort, shared-at, slopes-at, dx-distort-x, f-xy, small, solve, step-from, limit, pass, newton, undistort};
 use affine::AffineParams;
 use lens::Jacobian;
 use lens::Pixel;
@@ -170,12 +170,17 @@ fn solve(a: f64, b: f64, c: f64, d: f64, f: Offset) -> Offset
 }
 
 // Newton's step at xy.
-fn step(params: BrownConradyParams, distorted: Point, xy: Point) -> Offset
-    ensures { λ r. ⌜ r ≡ step params distorted xy ⌝ }
+fn step_from(params: BrownConradyParams, distorted: Point, xy: Point) -> Offset
+    ensures { λ r. ⌜ r ≡ step-from params distorted xy ⌝ }
 {
-    let f_xy = f_xy(params, distorted, xy);
     let s = slopes_at(params, xy);
-    solve(s.c7 * s.ux, s.c7 * s.uy, s.c7 * s.vx, s.c7 * s.vy, f_xy)
+    solve(
+        s.c7 * s.ux,
+        s.c7 * s.uy,
+        s.c7 * s.vx,
+        s.c7 * s.vy,
+        f_xy(params, distorted, xy),
+    )
 }
 
 // How many updates Newton may make.
@@ -194,7 +199,7 @@ fn pass(params: BrownConradyParams, distorted: Point, at: Search) -> Search
     ensures { λ r. ⌜ r ≡ pass params distorted at ⌝ }
 {
     let xy = at.xy;
-    let step = step(params, distorted, xy);
+    let step = step_from(params, distorted, xy);
     if small(step) {
         return Search {
             xy,

@@ -21,7 +21,7 @@ use Rattle.lens.specs.Passes.{passes}
 use Rattle.lens.specs.declared.Pixel.{Pixel}
 use Rattle.lens.specs.declared.Refusal.the-variants.{AngleTooLarge}
 use Rattle.lens.specs.declared.Undistorted.the-variants.{Refused}
-use Rattle.kannala_brandt.specs.KannalaBrandt.{camera, powers, scaling-by-theta, d-thd-wtr-th, step, pass, limit, ended, newton, rth2, undistort}
+use Rattle.kannala_brandt.specs.KannalaBrandt.{camera, powers, polynomial, d-thd-wtr-th, step-from, pass, limit, ended, newton, rth2, undistort}
 use Rattle.kannala_brandt.specs.declared.KannalaBrandtParams.{KannalaBrandtParams}
 use Rattle.kannala_brandt.specs.declared.Reached.{Reached}
 use Rattle.kannala_brandt.proofs.Laws.{refused-exactly}
@@ -50,7 +50,7 @@ abbrev from-start : Float → Reached
 from-start th = passes (pass lens (int 4)) ended limit record { th = th; updates = 0; ended = false }
 
 two-passes : from-start (int 2) ≡ record { th = int 4; updates = 2; ended = true }
-unfolding passes pass step powers scaling-by-theta d-thd-wtr-th magnitude le add sub mul div ofBits ofInt
+unfolding passes pass step-from powers polynomial d-thd-wtr-th magnitude le add sub mul div ofBits ofInt
 two-passes = refl
 
 newton-ends : newton lens (root (rth2 lens pixel)) .th ≡ int 4

@@ -63,11 +63,7 @@ pub fn finite_parameters(camera: Camera) -> bool
 fn either_zero(fx: f64, fy: f64) -> bool
     ensures { λ r. ⌜ r ≡ either-zero fx fy ⌝ }
 {
-    if exact::is_zero(fx) {
-        true
-    } else {
-        exact::is_zero(fy)
-    }
+    exact::is_zero(fx) || exact::is_zero(fy)
 }
 
 // The same of a camera: what 5 asks.
@@ -86,15 +82,11 @@ pub fn zero_focal(camera: Camera) -> bool
 fn judged(camera: Camera, x: f64, y: f64) -> Judgement
     ensures { λ r. ⌜ r ≡ judged camera x y ⌝ }
 {
-    if finite_parameters(camera) {
-        if lens::both_finite(x, y) {
-            if zero_focal(camera) {
-                Judgement::Refused(Refusal::ZeroFocalLength)
-            } else {
-                Judgement::Taken
-            }
+    if finite_parameters(camera) && lens::both_finite(x, y) {
+        if zero_focal(camera) {
+            Judgement::Refused(Refusal::ZeroFocalLength)
         } else {
-            Judgement::Refused(Refusal::NotFinite)
+            Judgement::Taken
         }
     } else {
         Judgement::Refused(Refusal::NotFinite)

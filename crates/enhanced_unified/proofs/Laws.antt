@@ -19,7 +19,7 @@ use Rattle.lens.specs.Undistorted.{direct}
 use Rattle.lens.specs.declared.Pixel.{Pixel}
 use Rattle.lens.specs.declared.Point.{Point}
 use Rattle.lens.specs.declared.Settled.{Settled}
-use Rattle.enhanced_unified.specs.EnhancedUnified.{camera, norm, distort, undistort}
+use Rattle.enhanced_unified.specs.EnhancedUnified.{camera, norm-of, distort, undistort}
 use Rattle.enhanced_unified.specs.declared.EnhancedUnifiedParams.{EnhancedUnifiedParams}
 use Rattle.enhanced_unified.proofs.distort.Reads as distort-contract
 use Rattle.enhanced_unified.proofs.undistort.Reads as undistort-contract
@@ -52,7 +52,7 @@ root-of-nine =
 
 -- what distort and undistort take the root of, and what is left of them once it is known
 abbrev distorted : Point → Float → Pixel
-distorted point rho = uv (eye .fx ⊗ (point .0 ⊘ norm (eye .alpha) rho) ⊕ eye .cx) (eye .fy ⊗ (point .1 ⊘ norm (eye .alpha) rho) ⊕ eye .cy)
+distorted point rho = uv (eye .fx ⊗ (point .0 ⊘ norm-of (eye .alpha) rho) ⊕ eye .cx) (eye .fy ⊗ (point .1 ⊘ norm-of (eye .alpha) rho) ⊕ eye .cy)
 
 abbrev r2 : Pixel → Float
 r2 pixel = squared-radius ((pixel .0 ⊖ eye .cx) ⊘ eye .fx) ((pixel .1 ⊖ eye .cy) ⊘ eye .fy)

@@ -21,12 +21,12 @@ camera fx fy cx cy alpha beta = record { fx = fx; fy = fy; cx = cx; cy = cy; alp
 -- ---- what distort and both derivatives begin with
 
 -- 80 and 81; again 169 and 170, 210 and 211
-abbrev pub rho : Float → Float → Float
-rho beta r2 = root (beta ⊗ r2 ⊕ ones)
+abbrev pub rho-of : Float → Float → Float
+rho-of beta r2 = root (beta ⊗ r2 ⊕ ones)
 
 -- 83; again 172, 213
-abbrev pub norm : Float → Float → Float
-norm alpha rho = alpha ⊗ rho ⊕ (ones ⊖ alpha)
+abbrev pub norm-of : Float → Float → Float
+norm-of alpha rho = alpha ⊗ rho ⊕ (ones ⊖ alpha)
 
 -- ---- distort
 
@@ -35,7 +35,7 @@ abbrev pub distort : EnhancedUnifiedParams → Point → Pixel
 distort params point =
     -- 79 to 83
     let r2 = squared-radius (point .0) (point .1) in
-    let norm = norm (params .alpha) (rho (params .beta) r2) in
+    let norm = norm-of (params .alpha) (rho-of (params .beta) r2) in
     -- 85 to 88
     let mx = point .0 ⊘ norm in
     let my = point .1 ⊘ norm in
@@ -44,8 +44,8 @@ distort params point =
 -- ---- undistort
 
 -- 109 to 114: the z of the observed ray
-abbrev pub k : Float → Float → Float → Float
-k alpha beta r2 =
+abbrev pub k-of : Float → Float → Float → Float
+k-of alpha beta r2 =
     let gamma = ones ⊖ alpha in
     let nominator = ones ⊖ alpha ⊗ alpha ⊗ beta ⊗ r2 in
     let denominator = alpha ⊗ root (ones ⊖ (alpha ⊖ gamma) ⊗ beta ⊗ r2) ⊕ gamma in
@@ -57,14 +57,14 @@ undistort params pixel =
     let mx = (pixel .0 ⊖ params .cx) ⊘ params .fx in
     let my = (pixel .1 ⊖ params .cy) ⊘ params .fy in
     -- 108 to 116
-    let k = k (params .alpha) (params .beta) (squared-radius mx my) in
+    let k = k-of (params .alpha) (params .beta) (squared-radius mx my) in
     direct record { 0 = mx ⊘ k; 1 = my ⊘ k }
 
 -- ---- the derivatives
 
 -- 175, 178 and 181 for x, 176, 179 and 182 for y: of norm by a coordinate x
-abbrev pub dnorm : Float → Float → Float → Float → Float
-dnorm alpha beta rho x = alpha ⊗ (int 2 ⊗ beta ⊗ x ⊘ (int 2 ⊗ rho))
+abbrev pub dnorm-of : Float → Float → Float → Float → Float
+dnorm-of alpha beta rho x = alpha ⊗ (int 2 ⊗ beta ⊗ x ⊘ (int 2 ⊗ rho))
 
 -- 185 and 187, 225 to 229: of x / norm, where norm moves by dnorm and x stays
 abbrev pub turned : Float → Float → Float → Float
@@ -75,11 +75,11 @@ dx-distort-x params point =
     let x = point .0 in
     let y = point .1 in
     -- 168 to 172
-    let rho = rho (params .beta) (squared-radius x y) in
-    let norm = norm (params .alpha) rho in
+    let rho = rho-of (params .beta) (squared-radius x y) in
+    let norm = norm-of (params .alpha) rho in
     -- 175 to 182
-    let dnorm-dx = dnorm (params .alpha) (params .beta) rho x in
-    let dnorm-dy = dnorm (params .alpha) (params .beta) rho y in
+    let dnorm-dx = dnorm-of (params .alpha) (params .beta) rho x in
+    let dnorm-dy = dnorm-of (params .alpha) (params .beta) rho y in
     -- 184 to 190
     let dmx-dx = (norm ⊖ x ⊗ dnorm-dx) ⊘ (norm ⊗ norm) in
     let dmx-dy = turned x norm dnorm-dy in
@@ -96,8 +96,8 @@ dx-distort-params params point =
     let y = point .1 in
     -- 209 to 213
     let r2 = squared-radius x y in
-    let rho = rho (params .beta) r2 in
-    let norm = norm (params .alpha) rho in
+    let rho = rho-of (params .beta) r2 in
+    let norm = norm-of (params .alpha) rho in
     -- 216 to 220
     let dnorm-dalpha = rho ⊖ ones in
     let dnorm-dbeta = params .alpha ⊗ (r2 ⊘ (int 2 ⊗ rho)) in

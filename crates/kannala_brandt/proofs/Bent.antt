@@ -20,7 +20,7 @@ use Rattle.lens.specs.Radius.{squared-radius}
 use Rattle.lens.specs.declared.Pixel.{Pixel}
 use Rattle.lens.specs.declared.Undistorted.{Undistorted}
 use Rattle.lens.specs.declared.Undistorted.the-variants.{At}
-use Rattle.kannala_brandt.specs.KannalaBrandt.{camera, powers, scaling-by-theta, d-thd-wtr-th, step, pass, limit, ended, newton, outward, un, vn, rth2, distort, undistort}
+use Rattle.kannala_brandt.specs.KannalaBrandt.{camera, powers, polynomial, d-thd-wtr-th, step-from, pass, limit, ended, newton, outward, un-of, vn-of, rth2, distort, undistort}
 use Rattle.kannala_brandt.specs.declared.KannalaBrandtParams.{KannalaBrandtParams}
 use Rattle.kannala_brandt.specs.declared.Reached.{Reached}
 
@@ -41,11 +41,11 @@ radius = refl
 -- what is left of distort, once the radius and the angle are known
 abbrev sent : Float → Float → Pixel
 sent radius theta =
-    let s = theta ⊗ scaling-by-theta outwards (powers theta) ⊗ (ones ⊘ radius) in
+    let s = theta ⊗ polynomial outwards (powers theta) ⊗ (ones ⊘ radius) in
     uv (s ⊗ int 3 ⊗ int 10 ⊕ int 1) (s ⊗ int 4 ⊗ int 10 ⊕ int 2)
 
 bent : sent (int 5) (int 1) ≡ uv (int 16) (int 22)
-unfolding scaling-by-theta powers add mul div ofBits ofInt
+unfolding polynomial powers add mul div ofBits ofInt
 bent = refl
 
 off-axis : le (squared-radius (int 3) (int 4)) eps ≡ false
@@ -91,7 +91,7 @@ abbrev there : Reached
 there = record { th = halves 1; updates = 1; ended = true }
 
 one-pass : from (halves 1) ≡ there
-unfolding passes pass step powers scaling-by-theta d-thd-wtr-th magnitude le add sub mul div neg ofBits ofInt
+unfolding passes pass step-from powers polynomial d-thd-wtr-th magnitude le add sub mul div neg ofBits ofInt
 one-pass = refl
 
 newton-ends : newton inwards (quarters 1) ≡ there
@@ -100,7 +100,7 @@ newton-ends = ap from root-of-quarter ∙ one-pass
 
 -- what is left of undistort, once the radius, the angle and its tangent are known
 abbrev found : Float → Reached → Slope → Undistorted
-found rth at slope = outward slope at rth (un inwards centre) (vn inwards centre)
+found rth at slope = outward slope at rth (un-of inwards centre) (vn-of inwards centre)
 
 unbent : found (quarters 1) there (Is (quarters 3)) ≡ At record { point = xy (quarters 3) (int 0); updates = 1; flag = true }
 unfolding le sub mul div ofBits ofInt

@@ -15,14 +15,14 @@ use Rattle.lens.specs.declared.Pixel.{Pixel}
 use Rattle.lens.specs.declared.Undistorted.{Undistorted}
 use Rattle.lens.specs.declared.Undistorted.the-variants.{At, Refused}
 use Rattle.lens.proofs.Passes.{passes-keep}
-use Rattle.kannala_brandt.specs.KannalaBrandt.{step, pass, ended, start, newton, sign, outward, un, vn, rth2, undistort}
+use Rattle.kannala_brandt.specs.KannalaBrandt.{step-from, pass, ended, start, newton, sign-of, outward, un-of, vn-of, rth2, undistort}
 use Rattle.kannala_brandt.specs.declared.KannalaBrandtParams.{KannalaBrandtParams}
 use Rattle.kannala_brandt.specs.declared.Reached.{Reached}
 
 -- a pass ends with a difference
 pass-fits : (params : KannalaBrandtParams) (rth : Float) (at : Reached) → Fit (pass params rth at .th)
 unfolding pass
-pass-fits params rth at = sub-fits binary64 (at .th) (step params rth (at .th))
+pass-fits params rth at = sub-fits binary64 (at .th) (step-from params rth (at .th))
 
 -- and so do some passes, be it one
 passes-fit : (params : KannalaBrandtParams) (rth : Float) (n : ℕ) (at : Reached) → Fit (passes (pass params rth) ended (suc n) at .th)
@@ -42,7 +42,7 @@ angle-fits params rth = passes-fit params rth 19 (start rth)
 
 outward-fits : (slope : Slope) (at : Reached) (rth un vn : Float) → PointFits (outward slope at rth un vn)
 outward-fits TooSteep at rth un vn = tt
-outward-fits (Is radius) at rth un vn = (div-fits binary64 (sign radius ⊗ radius ⊗ un) rth, div-fits binary64 (sign radius ⊗ radius ⊗ vn) rth)
+outward-fits (Is radius) at rth un vn = (div-fits binary64 (sign-of radius ⊗ radius ⊗ un) rth, div-fits binary64 (sign-of radius ⊗ radius ⊗ vn) rth)
 
 -- The point that undistort finds is of two f64s.
 pub undistort-fits : (tan : Float → Slope) (params : KannalaBrandtParams) (pixel : Pixel) → PointFits (undistort tan params pixel)
@@ -52,8 +52,8 @@ undistort-fits tan params pixel = go (le (rth2 params pixel) eps)
     rth = root (rth2 params pixel)
 
     far : Undistorted
-    far = outward (tan (newton params rth .th)) (newton params rth) rth (un params pixel) (vn params pixel)
+    far = outward (tan (newton params rth .th)) (newton params rth) rth (un-of params pixel) (vn-of params pixel)
 
-    go : (near : Bool) → PointFits (cond near (At (direct record { 0 = un params pixel; 1 = vn params pixel })) far)
+    go : (near : Bool) → PointFits (cond near (At (direct record { 0 = un-of params pixel; 1 = vn-of params pixel })) far)
     go true = (div-fits binary64 (pixel .0 ⊖ params .cx) (params .fx), div-fits binary64 (pixel .1 ⊖ params .cy) (params .fy))
-    go false = outward-fits (tan (newton params rth .th)) (newton params rth) rth (un params pixel) (vn params pixel)
+    go false = outward-fits (tan (newton params rth .th)) (newton params rth) rth (un-of params pixel) (vn-of params pixel)

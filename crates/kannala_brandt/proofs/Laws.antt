@@ -23,7 +23,7 @@ use Rattle.lens.specs.declared.Undistorted.the-variants.{At, Refused}
 use Rattle.lens.proofs.Laws.{told-one-to-one}
 use Rattle.lens.proofs.Passes.{passes-most}
 use Rattle.kannala_brandt.specs.AsWritten.{dx-distort-x-as-written, dx-distort-params-as-written}
-use Rattle.kannala_brandt.specs.KannalaBrandt.{camera, distort, dx-distort-x, dx-distort-params, limit, pass, start, ended, newton, outward, un, vn, rth2, undistort}
+use Rattle.kannala_brandt.specs.KannalaBrandt.{camera, distort, dx-distort-x, dx-distort-params, limit, pass, start, ended, newton, outward, un-of, vn-of, rth2, undistort}
 use Rattle.kannala_brandt.specs.declared.KannalaBrandtParams.{KannalaBrandtParams}
 use Rattle.kannala_brandt.specs.declared.Reached.{Reached}
 use Rattle.kannala_brandt.proofs.Bent.{bent-distorted, bent-undistorted}
@@ -64,7 +64,7 @@ module _ (params : KannalaBrandtParams) where
     given-tangent f g e = rw e refl
 
     -- Near the axis the answer is (un, vn), with 0 updates and the flag yes.
-    pub near-axis : (f : Float → Slope) → le (rth2 params pixel) eps ≡ true → undistort f params pixel ≡ At (direct record { 0 = un params pixel; 1 = vn params pixel })
+    pub near-axis : (f : Float → Slope) → le (rth2 params pixel) eps ≡ true → undistort f params pixel ≡ At (direct record { 0 = un-of params pixel; 1 = vn-of params pixel })
     near-axis f h = rw h refl
 
     -- Elsewhere it is refused, always with 10, exactly if the angle where Newton ends has no tangent.
@@ -87,7 +87,7 @@ module _ (params : KannalaBrandtParams) where
         most : end .updates ≤ 20
         most = passes-most (pass params (root (rth2 params pixel))) ended updates (λ (at : Reached). omega (arith, one-update params (root (rth2 params pixel)) at)) limit (start (root (rth2 params pixel)))
 
-        go : (b : Bool) (s : Slope) → told (cond b (At (direct record { 0 = un params pixel; 1 = vn params pixel })) (outward s end (root (rth2 params pixel)) (un params pixel) (vn params pixel))) .settled .updates ≤ 20
+        go : (b : Bool) (s : Slope) → told (cond b (At (direct record { 0 = un-of params pixel; 1 = vn-of params pixel })) (outward s end (root (rth2 params pixel)) (un-of params pixel) (vn-of params pixel))) .settled .updates ≤ 20
         go true s = lit≤ tt
         go false (Is t) = most
         go false TooSteep = lit≤ tt

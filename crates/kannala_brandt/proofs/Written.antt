@@ -9,12 +9,12 @@ use Rattle.lens.specs.Constants.{ones}
 use Rattle.lens.specs.Radius.{squared-radius}
 use Rattle.lens.specs.declared.Point.{Point}
 use Rattle.kannala_brandt.specs.AsWritten.{dx-distort-x-as-written, dx-distort-params-as-written}
-use Rattle.kannala_brandt.specs.KannalaBrandt.{powers, scaling-by-theta, c13, c17, diagonal, off-axis, dx-distort-x, alpha, rows, dx-distort-params}
+use Rattle.kannala_brandt.specs.KannalaBrandt.{powers, polynomial, terms-of, c13-of, c17-of, diagonal, off-axis, dx-distort-x, alpha-of, rows, dx-distort-params}
 use Rattle.kannala_brandt.specs.declared.KannalaBrandtParams.{KannalaBrandtParams}
 
 module _ (atan : Float → Float) (params : KannalaBrandtParams) (point : Point) where
   pub x-written : dx-distort-x-as-written atan params point ≡ dx-distort-x atan params point
-  unfolding dx-distort-x-as-written off-axis diagonal c13 c17 powers
+  unfolding dx-distort-x-as-written off-axis diagonal terms-of c13-of c17-of powers
   x-written =
       let c2 = squared-radius (point .0) (point .1) in
       let c5 = atan (root c2) in
@@ -30,5 +30,5 @@ module _ (atan : Float → Float) (params : KannalaBrandtParams) (point : Point)
       )
 
   pub params-written : dx-distort-params-as-written atan params point ≡ dx-distort-params atan params point
-  unfolding dx-distort-params-as-written rows alpha scaling-by-theta powers
+  unfolding dx-distort-params-as-written rows alpha-of polynomial powers
   params-written = rw (squares-unsigned (point .0) (point .1))

@@ -24,6 +24,7 @@ use Rattle.lens.specs.declared.Undistorted.the-variants.{At, Refused}
 use Rattle.kannala_brandt.specs.declared.KannalaBrandtParams.{KannalaBrandtParams}
 use Rattle.kannala_brandt.specs.declared.Reached.{Reached}
 use Rattle.kannala_brandt.specs.declared.EvenPowers.{EvenPowers}
+use Rattle.kannala_brandt.specs.declared.Terms.{Terms}
 
 -- a camera by its numbers
 abbrev pub camera : Float → Float → Float → Float → Float → Float → Float → Float → KannalaBrandtParams
@@ -39,21 +40,21 @@ powers theta =
     record { theta2 = theta2; theta4 = theta4; theta6 = theta2 ⊗ theta4; theta8 = theta4 ⊗ theta4 }
 
 -- 80, 128, 273
-unfoldable pub scaling-by-theta : KannalaBrandtParams → EvenPowers → Float
-scaling-by-theta params t =
+unfoldable pub polynomial : KannalaBrandtParams → EvenPowers → Float
+polynomial params t =
     ones ⊕ params .k0 ⊗ t .theta2 ⊕ params .k1 ⊗ t .theta4 ⊕ params .k2 ⊗ t .theta6 ⊕ params .k3 ⊗ t .theta8
 
 -- ---- distort
 
 -- With k0 = 1.5, the rest 0, radius-sq 25, and an arctangent that is 1 at 5: r-distorted = 1 · (1 + 1.5 · 1) = 2.5, and
 -- the scaling is 2.5 · (1/5) = 1/2
-abbrev pub scaling : (Float → Float) → KannalaBrandtParams → Float → Float
-scaling atan params radius-sq =
+abbrev pub scaling-of : (Float → Float) → KannalaBrandtParams → Float → Float
+scaling-of atan params radius-sq =
     -- 71 to 80
     let radius = root radius-sq in
     let radius-inverse = ones ⊘ radius in
     let theta = atan radius in
-    let r-distorted = theta ⊗ scaling-by-theta params (powers theta) in
+    let r-distorted = theta ⊗ polynomial params (powers theta) in
     -- 81 to 85
     cond (le radius-sq eps) ones (r-distorted ⊗ radius-inverse)
 
@@ -61,7 +62,7 @@ scaling atan params radius-sq =
 abbrev pub distort : (Float → Float) → KannalaBrandtParams → Point → Pixel
 distort atan params point =
     -- 67 to 69, 87 to 90
-    let scaling = scaling atan params (squared-radius (point .0) (point .1)) in
+    let scaling = scaling-of atan params (squared-radius (point .0) (point .1)) in
     record { 0 = scaling ⊗ point .0 ⊗ params .fx ⊕ params .cx; 1 = scaling ⊗ point .1 ⊗ params .fy ⊕ params .cy }
 
 -- ---- undistort: Newton
@@ -76,9 +77,9 @@ d-thd-wtr-th params t =
     ⊕ int 9 ⊗ params .k3 ⊗ t .theta8
 
 -- 128 and 135
-unfoldable pub step : KannalaBrandtParams → Float → Float → Float
-step params rth th =
-    let thd = th ⊗ scaling-by-theta params (powers th) in
+unfoldable pub step-from : KannalaBrandtParams → Float → Float → Float
+step-from params rth th =
+    let thd = th ⊗ polynomial params (powers th) in
     (thd ⊖ rth) ⊘ d-thd-wtr-th params (powers th)
 
 -- 149: the most updates
@@ -88,7 +89,7 @@ limit = 20
 -- 135 to 147: a pass updates first and then tests its step
 unfoldable pub pass : KannalaBrandtParams → Float → Reached → Reached
 pass params rth at =
-    let step = step params rth (at .th) in
+    let step = step-from params rth (at .th) in
     record { th = at .th ⊖ step; updates = at .updates + 1; ended = le (magnitude step) eps }
 
 -- 119 and 121
@@ -109,14 +110,14 @@ abbrev pub flag : Reached → Bool
 flag at = at .ended
 
 -- 157 to 159
-abbrev pub sign : Float → Float
-sign radius-undistorted = cond (le radius-undistorted zeros) (minus ones) ones
+abbrev pub sign-of : Float → Float
+sign-of radius-undistorted = cond (le radius-undistorted zeros) (minus ones) ones
 
 -- 155 to 167, from the tangent's result: past its limit there is no point
 abbrev pub outward : Slope → Reached → Float → Float → Float → Undistorted
 outward TooSteep at rth un vn = Refused AngleTooLarge
 outward (Is radius-undistorted) at rth un vn =
-    let sign = sign radius-undistorted in
+    let sign = sign-of radius-undistorted in
     At record {
       point = record { 0 = sign ⊗ radius-undistorted ⊗ un ⊘ rth; 1 = sign ⊗ radius-undistorted ⊗ vn ⊘ rth };
       updates = at .updates;
@@ -124,47 +125,49 @@ outward (Is radius-undistorted) at rth un vn =
     }
 
 -- 110 to 112
-abbrev pub un : KannalaBrandtParams → Pixel → Float
-un params pixel = (pixel .0 ⊖ params .cx) ⊘ params .fx
+abbrev pub un-of : KannalaBrandtParams → Pixel → Float
+un-of params pixel = (pixel .0 ⊖ params .cx) ⊘ params .fx
 
-abbrev pub vn : KannalaBrandtParams → Pixel → Float
-vn params pixel = (pixel .1 ⊖ params .cy) ⊘ params .fy
+abbrev pub vn-of : KannalaBrandtParams → Pixel → Float
+vn-of params pixel = (pixel .1 ⊖ params .cy) ⊘ params .fy
 
 abbrev pub rth2 : KannalaBrandtParams → Pixel → Float
-rth2 params pixel = squared-radius (un params pixel) (vn params pixel)
+rth2 params pixel = squared-radius (un-of params pixel) (vn-of params pixel)
 
 -- 114 to 119, 161. With 4 4 1 2, k0 = -2, the rest 0, and (2, 2): un = 1/4, vn = 0, rth = 1/4. Newton begins at 1/2,
 -- which bends to 1/2 · (1 - 2 · 1/4) = 1/4: the step is 0, after 1 update. If the tangent of 1/2 is 3/4, the point is
 -- (3/4, 0)
 abbrev pub undistort : (Float → Slope) → KannalaBrandtParams → Pixel → Undistorted
 undistort tan params pixel =
+    let un = un-of params pixel in
+    let vn = vn-of params pixel in
     let rth = root (rth2 params pixel) in
     let at = newton params rth in
     cond (le (rth2 params pixel) eps)
-    (At (direct record { 0 = un params pixel; 1 = vn params pixel }))
-    (outward (tan (at .th)) at rth (un params pixel) (vn params pixel))
+    (At (direct record { 0 = un; 1 = vn }))
+    (outward (tan (at .th)) at rth un vn)
 
 -- ---- the derivatives. The Rust's c6, c8, c10 and c8 * c8 are the powers of c5.
 
--- 199 to 205
-unfoldable pub c13 : KannalaBrandtParams → Float → Float → EvenPowers → Float
-c13 params c4 c5 t =
-    let c7 = t .theta2 ⊗ params .k0 in
-    let c9 = t .theta4 ⊗ params .k1 in
-    let c11 = t .theta6 ⊗ params .k2 in
-    let c12 = t .theta8 ⊗ params .k3 in
-    c4 ⊗ c5 ⊗ (c11 ⊕ c12 ⊕ c7 ⊕ c9 ⊕ ones)
+-- 199 to 204: the polynomial's terms behind its 1
+unfoldable pub terms-of : KannalaBrandtParams → EvenPowers → Terms
+terms-of params t = record {
+  c7 = t .theta2 ⊗ params .k0;
+  c9 = t .theta4 ⊗ params .k1;
+  c11 = t .theta6 ⊗ params .k2;
+  c12 = t .theta8 ⊗ params .k3;
+}
+
+-- 205
+unfoldable pub c13-of : Float → Float → Terms → Float
+c13-of c4 c5 s = c4 ⊗ c5 ⊗ (s .c11 ⊕ s .c12 ⊕ s .c7 ⊕ s .c9 ⊕ ones)
 
 -- 209 to 219
-unfoldable pub c17 : KannalaBrandtParams → EvenPowers → Float
-c17 params t =
-    let c7 = t .theta2 ⊗ params .k0 in
-    let c9 = t .theta4 ⊗ params .k1 in
-    let c11 = t .theta6 ⊗ params .k2 in
-    let c12 = t .theta8 ⊗ params .k3 in
+unfoldable pub c17-of : KannalaBrandtParams → EvenPowers → Terms → Float
+c17-of params t s =
     let inner =
     int 4 ⊗ t .theta6 ⊗ params .k3 ⊕ int 2 ⊗ t .theta2 ⊗ params .k1 ⊕ int 3 ⊗ t .theta4 ⊗ params .k2 ⊕ params .k0 in
-    c11 ⊕ c12 ⊕ int 2 ⊗ t .theta2 ⊗ inner ⊕ c7 ⊕ c9 ⊕ ones
+    s .c11 ⊕ s .c12 ⊕ int 2 ⊗ t .theta2 ⊗ inner ⊕ s .c7 ⊕ s .c9 ⊕ ones
 
 -- 226 and 227: what stands in the brackets of the diagonal's entries
 unfoldable pub diagonal : Float → Float → Float → Float → Float
@@ -199,14 +202,19 @@ dx-distort-x atan params point =
     let c2-sqrt = root c2 in
     let c4 = c2 ⊕ ones in
     let c5 = atan c2-sqrt in
+    -- 198 to 219
+    let t = powers c5 in
+    let s = terms-of params t in
+    let c13 = c13-of c4 c5 s in
+    let c17 = c17-of params t s in
     -- 187 to 189 and 230
     cond (le c2 eps)
     (twoRows (params .fx ∷ zeros ∷ []) (zeros ∷ params .fy ∷ []))
-    (off-axis params point c2 c2-sqrt c4 (c13 params c4 c5 (powers c5)) (c17 params (powers c5)))
+    (off-axis params point c2 c2-sqrt c4 c13 c17)
 
 -- 265 to 267
-unfoldable pub alpha : Float → Float → Float → Float
-alpha radius-sq radius theta = cond (le radius-sq eps) ones (theta ⊘ radius)
+unfoldable pub alpha-of : Float → Float → Float → Float
+alpha-of radius-sq radius theta = cond (le radius-sq eps) ones (theta ⊘ radius)
 
 -- 275 to 316: columns fx, fy, cx, cy, k0, k1, k2, k3
 unfoldable pub rows : KannalaBrandtParams → Float → Float → Float → EvenPowers → Jacobian
@@ -226,5 +234,5 @@ dx-distort-params atan params point =
     let radius = root radius-sq in
     let theta = atan radius in
     -- 265 to 273
-    let alpha = alpha radius-sq radius theta in
-    rows params (point .0 ⊗ alpha) (point .1 ⊗ alpha) (scaling-by-theta params (powers theta)) (powers theta)
+    let alpha = alpha-of radius-sq radius theta in
+    rows params (point .0 ⊗ alpha) (point .1 ⊗ alpha) (polynomial params (powers theta)) (powers theta)

@@ -195,11 +195,7 @@ pub fn all_finite(numbers: &[f64]) -> bool
 pub fn both_finite(x: f64, y: f64) -> bool
     ensures { λ r. ⌜ r ≡ (finite x && finite y) ⌝ }
 {
-    if exact::is_finite(x) {
-        exact::is_finite(y)
-    } else {
-        false
-    }
+    exact::is_finite(x) && exact::is_finite(y)
 }
 
 // 11 for a pixel that isn't finite.

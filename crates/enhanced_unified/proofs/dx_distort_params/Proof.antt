@@ -8,11 +8,11 @@ use Rattle.enhanced_unified.proofs.dx_distort_params.Tie as tie
 squared-radius-requires : tie.Need-squared-radius-requires
 squared-radius-requires c κs = search needs
 
-rho-requires : tie.Need-rho-requires
-rho-requires c κs = search needs
+rho-of-requires : tie.Need-rho-of-requires
+rho-of-requires c κs = search needs
 
-norm-requires : tie.Need-norm-requires
-norm-requires c κs = search needs
+norm-of-requires : tie.Need-norm-of-requires
+norm-of-requires c κs = search needs
 
 turned-requires : tie.Need-turned-requires
 turned-requires c κs = search needs
@@ -43,15 +43,15 @@ returns c =
     let t2 = t3 .before .before in
     let t1 = t2 .before .before in
     let n = t1 .before .before in
-    rw (c .two-rows .ensures, t4 .turned4 .ensures, t3 .turned3 .ensures, t2 .turned2 .ensures, t1 .turned .ensures, n .norm .ensures, n .before .rho .ensures, n .before .before .squared-radius .ensures) refl
+    rw (c .two-rows .ensures, t4 .turned4 .ensures, t3 .turned3 .ensures, t2 .turned2 .ensures, t1 .turned .ensures, n .norm-of .ensures, n .before .rho-of .ensures, n .before .before .squared-radius .ensures) refl
 
 pub dx-distort-params-spec : {M : Type 1} → statement M
 dx-distort-params-spec =
     tie.close
     (tie.spec
     squared-radius-requires
-    rho-requires
-    norm-requires
+    rho-of-requires
+    norm-of-requires
     turned-requires
     turned-requires-2
     turned-requires-3
