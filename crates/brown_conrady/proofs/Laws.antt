@@ -3,7 +3,7 @@ use mathlib.Core.Path.{_≡_, refl, sym, _∙_}
 use mathlib.Core.Bool.{Bool, true, false, cond}
 use Prim.Native.Nat.{ℕ, suc, _≤_}
 use native.Mathlib.Omega.{arith}
-use lib.Ieee.{Float, add, sub, mul, div, le, ofBits, ofInt}
+use lib.Ieee.{add, sub, mul, div, le, ofBits, ofInt}
 use Rattle.exact.specs.F64.{f64}
 use Rattle.exact.specs.Determined.{Determined}
 use Rattle.root.specs.Root.{root}
@@ -63,8 +63,11 @@ updates-limit params pixel =
 -- The numbers to check by hand. The camera 1 1 0 0 sends (1, 1) to (3, 5) with p1 = 1 and the rest 0, and to (5, 3) with p2 = 1 instead. With all
 -- coefficients 0 it sends the pixel (3, 4) back to (3, 4), with 0 updates and the flag yes.
 pub by-hand :
-    (distort (camera (int 1) (int 1) (int 0) (int 0) (int 0) (int 0) (int 1) (int 0) (int 0) (int 0) (int 0) (int 0)) (xy (int 1) (int 1)) ≡ uv (int 3) (int 5))
-    × (distort (camera (int 1) (int 1) (int 0) (int 0) (int 0) (int 0) (int 0) (int 1) (int 0) (int 0) (int 0) (int 0)) (xy (int 1) (int 1)) ≡ uv (int 5) (int 3))
-    × (undistort (camera (int 1) (int 1) (int 0) (int 0) (int 0) (int 0) (int 0) (int 0) (int 0) (int 0) (int 0) (int 0)) (uv (int 3) (int 4)) ≡ direct (xy (int 3) (int 4)))
+    (distort (camera (int 1) (int 1) (int 0) (int 0) (int 0) (int 0) (int 1) (int 0) (int 0) (int 0) (int 0) (int 0)) (xy (int 1) (int 1))
+    ≡ uv (int 3) (int 5))
+    × (distort (camera (int 1) (int 1) (int 0) (int 0) (int 0) (int 0) (int 0) (int 1) (int 0) (int 0) (int 0) (int 0)) (xy (int 1) (int 1))
+    ≡ uv (int 5) (int 3))
+    × (undistort (camera (int 1) (int 1) (int 0) (int 0) (int 0) (int 0) (int 0) (int 0) (int 0) (int 0) (int 0) (int 0)) (uv (int 3) (int 4))
+    ≡ direct (xy (int 3) (int 4)))
 unfolding passes pass step-from slopes-at shared-at distortion root le add sub mul div ofBits ofInt
 by-hand = (refl, refl, refl)

@@ -1,8 +1,8 @@
 -- The Rust's second copy of the slopes is the first one, but for sides of a sum or a product, a factor of 1 and which factor has the minus. Assumes nothing.
-use mathlib.Core.Path.{_≡_, refl, ap, _∙_, sym}
+use mathlib.Core.Path.{_≡_, ap, _∙_, sym}
 use lib.Ieee.{Float, binary64}
 use lib.Ieee.Fits.{mul-fits}
-use Rattle.exact.specs.F64.{minus, _⊕_, _⊗_, _⊘_}
+use Rattle.exact.specs.F64.{minus, _⊕_, _⊗_}
 use Rattle.exact.proofs.Swaps.{sum-swapped, product-swapped, minus-first, one-times}
 use Rattle.lens.specs.Constants.{int}
 use Rattle.lens.specs.Radius.{squared-radius}

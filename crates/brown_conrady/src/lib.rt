@@ -1,5 +1,6 @@
-// brown_conrady.rs: OpenCV's radial and tangential distortion. Its operations, in the Rust's order and by its names; none refuses. What the Rust leaves undone, dx_distort_params, is
-// not here: the camera refuses it.
+// brown_conrady.rs: OpenCV's radial and tangential distortion. Its operations, in the Rust's order and by its names.
+// None refuses: what isn't finite is for the camera to judge. What the Rust leaves undone, dx_distort_params, is not
+// here: the camera refuses it.
 ghost use mathlib.Core.Path.{_≡_};
 ghost use Prim.Native.Nat.{_<_};
 ghost use Rattle.brown_conrady.specs.BrownConrady.{affine-params, distortion, distort, shared-at, slopes-at, dx-distort-x, f-xy, small, solve, step-from, limit, pass, newton, undistort};
@@ -9,7 +10,8 @@ use lens::Pixel;
 use lens::Point;
 use lens::Settled;
 
-// The twelve parameters, in the Rust's order, which has k3 after p2. The Rust calls the last eight d0 d1 d2 k3 d4 d5 d6 d7, and in dx_distort_x d3 for its k3: mind that its k3 is p2.
+// The twelve parameters, in the Rust's order, which has k3 after p2. The Rust calls the last eight d0 d1 d2 k3 d4 d5 d6
+// d7, and in dx_distort_x d3 for its k3: mind that its k3 is p2.
 pub struct BrownConradyParams {
     pub fx: f64,
     pub fy: f64,
@@ -63,7 +65,8 @@ pub fn distort(params: BrownConradyParams, point: Point) -> Pixel
     affine::distort(affine_params(params), distortion(params, point))
 }
 
-// What the four slopes share, by the names of the Rust's Newton. In its dx_distort_x they are c7, c8, c14, c15, c16 and c21.
+// What the four slopes share, by the names of the Rust's Newton. In its dx_distort_x they are c7, c8, c14, c15, c16 and
+// c21.
 struct Shared {
     c5: f64,
     c6: f64,
@@ -73,8 +76,8 @@ struct Shared {
     c20: f64,
 }
 
-// What the slopes share at a point. The Rust has these lines and those of slopes_at twice, with sides swapped here and there; the law
-// `second-copy` says that both copies give the same bits, so one is enough.
+// What the slopes share at a point. The Rust has these lines and those of slopes_at twice, with sides swapped here and
+// there; the law `second-copy` says that both copies give the same bits, so one is enough.
 fn shared_at(params: BrownConradyParams, point: Point) -> Shared
     ensures { λ r. ⌜ r ≡ shared-at params point ⌝ }
 {
@@ -153,8 +156,9 @@ fn f_xy(params: BrownConradyParams, distorted: Point, xy: Point) -> Offset
 // The last f64 whose root is at most EPS: the f64 nearest to 1e-12. Another EPS has another, and the proof asks for it.
 const EPS_SQUARED: f64 = 1e-12;
 
-// Whether an offset's norm is at most EPS: the Rust's test of its step, and of what Newton leaves. The norm is a root, which in software costs more than all else in an update, and the
-// small processor has 3 ms a frame. A squared norm is past EPS_SQUARED exactly where its root is past EPS, so no root is taken.
+// Whether an offset's norm is at most EPS: the Rust's test of its step, and of what Newton leaves. The norm is a root,
+// which in software costs more than all else in an update, and the small processor has 3 ms a frame. A squared norm is
+// past EPS_SQUARED exactly where its root is past EPS, so no root is taken.
 fn small(offset: Offset) -> bool
     ensures { λ r. ⌜ r ≡ small offset ⌝ }
 {

@@ -1,7 +1,7 @@
 -- The numbers to check by hand, by model. A camera answers them as its model does: camera and place are taken, and the answer is finite. Assumes nothing.
 use mathlib.Core.Path.{_≡_, refl, ap, _∙_}
 use Prim.Native.Nat.{ℕ}
-use lib.Ieee.{div, neg, ofBits, ofInt}
+use lib.Ieee.{div, neg, ofInt}
 use Rattle.exact.specs.F64.{minus, isZero}
 use Rattle.arctan.specs.Arctangent.{arctangent}
 use Rattle.arctan.specs.Tangent.{tangent}

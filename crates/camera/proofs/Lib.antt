@@ -2,4 +2,5 @@ pub mod ByHand
 pub mod Fits
 pub mod Laws
 pub mod Steep
+pub mod Told
 pub mod Past

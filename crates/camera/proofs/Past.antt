@@ -1,15 +1,14 @@
 -- An angle has no tangent exactly if it is finite and its size is past arctan's limit. Assumes nothing.
 use mathlib.Core.Path.{_≡_, refl, sym, ap, _∙_}
 use mathlib.Core.Logic.{_↔_}
-use mathlib.Core.Bool.{Bool, true, false, not, _&&_, cond, false≢true}
+use mathlib.Core.Bool.{Bool, true, false, not, _&&_, false≢true}
 use mathlib.Core.List.{[], _∷_}
-use Prim.Native.Nat.{ℕ}
 use native.Mathlib.Omega.{arith}
 use lib.Dec.{T}
 use lib.Ieee.{Float, nan, inf, fin}
 use lib.Ieee.Scale.{finite}
 use Rattle.exact.specs.F64.{magnitude}
-use Rattle.exact.specs.Fraction.{exactly, over, _≺_}
+use Rattle.exact.specs.Fraction.{exactly, _≺_}
 use Rattle.arctan.specs.Series as series
 use Rattle.arctan.specs.Tangent.{tangent}
 use Rattle.arctan.specs.declared.Slope.{Slope}

@@ -1,4 +1,6 @@
-// One of four cameras: its model's four operations with the refusals that stand before and behind them. Whatever is handed in, there is an answer or a refusal's number.
+// One of four cameras: its model's four operations with the refusals that stand before and behind them. This is where
+// nothing goes unanswered: whatever is handed in, there is a finite answer or a refusal's number, which the models' own
+// functions don't promise.
 ghost use mathlib.Core.Path.{_≡_};
 ghost use Rattle.lens.specs.Distorted.{told-pixel};
 ghost use Rattle.lens.specs.Finite.{all-finite};
@@ -24,7 +26,8 @@ pub enum Camera {
     BrownConrady(BrownConradyParams),
 }
 
-// What the derivatives answer: number 0 and a Jacobian, or a refusal's number and zeros. No enum, since an enum can't hold the Jacobian's array.
+// What the derivatives answer: number 0 and a Jacobian, or a refusal's number and zeros. No enum, since an enum can't
+// hold the Jacobian's array.
 pub struct Differentiated {
     pub number: u8,
     pub jacobian: Jacobian,

@@ -1,5 +1,6 @@
-// enhanced_unified.rs: the ray bent towards a sphere (alpha) that may be stretched (beta). Its four operations, in the Rust's order and by its names; none refuses, and there is
-// no branch: not at alpha 0 and not near the axis.
+// enhanced_unified.rs: the ray bent towards a sphere (alpha) that may be stretched (beta). Its four operations, in the
+// Rust's order and by its names. None refuses: what isn't finite is for the camera to judge. There is no branch: not at
+// alpha 0 and not near the axis.
 ghost use mathlib.Core.Path.{_≡_};
 ghost use Rattle.enhanced_unified.specs.EnhancedUnified.{rho-of, norm-of, distort, k-of, undistort, dnorm-of, turned, dx-distort-x, dx-distort-params};
 use lens::Jacobian;

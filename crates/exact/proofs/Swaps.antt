@@ -9,7 +9,7 @@ use borrow.Author.Tests.{ltb-true, ltb-false}
 use lib.IntN.{ℤ, pos}
 use lib.Dec.{T, ltb, eqb}
 use lib.Pow.{pow-add, pow-pos}
-use lib.Ieee.{Float, nan, inf, fin, Format, binary64, prec, emax, low, up, down, unlike, odd, units, round, neg, sum, add, mul, fits, ofBits}
+use lib.Ieee.{Float, nan, inf, fin, binary64, prec, emax, low, up, down, unlike, odd, units, round, neg, sum, add, mul, fits, ofBits}
 use lib.Ieee.Exact.{round-exact}
 use lib.Ieee.Fits.{down-pos, round-fits, round-is}
 use lib.Ieee.Order.{drop, kept}

@@ -13,7 +13,7 @@ use Rattle.lens.specs.Passes.{passes}
 use Rattle.lens.specs.Undistorted.{direct}
 use Rattle.lens.specs.declared.Pixel.{Pixel}
 use Rattle.lens.specs.declared.Undistorted.{Undistorted}
-use Rattle.lens.specs.declared.Undistorted.the-variants.{At, Refused}
+use Rattle.lens.specs.declared.Undistorted.the-variants.{At}
 use Rattle.lens.proofs.Passes.{passes-keep}
 use Rattle.kannala_brandt.specs.KannalaBrandt.{step-from, pass, ended, start, newton, sign-of, outward, un-of, vn-of, rth2, undistort}
 use Rattle.kannala_brandt.specs.declared.KannalaBrandtParams.{KannalaBrandtParams}

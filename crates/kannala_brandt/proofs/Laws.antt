@@ -19,6 +19,7 @@ use Rattle.lens.specs.declared.Pixel.{Pixel}
 use Rattle.lens.specs.declared.Point.{Point}
 use Rattle.lens.specs.declared.Refusal.{Refusal}
 use Rattle.lens.specs.declared.Refusal.the-variants.{AngleTooLarge}
+use Rattle.lens.specs.declared.Undistorted.{Undistorted}
 use Rattle.lens.specs.declared.Undistorted.the-variants.{At, Refused}
 use Rattle.lens.proofs.Laws.{told-one-to-one}
 use Rattle.lens.proofs.Passes.{passes-most}
@@ -35,8 +36,15 @@ use Rattle.kannala_brandt.proofs.dx_distort_x.Reads as dx-distort-x-con
 use Rattle.kannala_brandt.proofs.dx_distort_params.Reads as dx-distort-params-contract
 
 -- Any two answers to one call that the contract of an operation permits are equal, for each of the four.
-pub determined : Determined distort-contract.Post × Determined undistort-contract.Post × Determined dx-distort-x-contract.Post × Determined dx-distort-params-contract.Post
-determined = (λ κ a s s' r r' p q. p ∙ sym q, λ κ a s s' r r' p q. told-one-to-one r r' (p ∙ sym q), λ κ a s s' r r' p q. p ∙ sym q, λ κ a s s' r r' p q. p ∙ sym q)
+pub determined :
+    Determined distort-contract.Post × Determined undistort-contract.Post
+    × Determined dx-distort-x-contract.Post × Determined dx-distort-params-contract.Post
+determined = (
+  λ κ a s s' r r' p q. p ∙ sym q,
+  λ κ a s s' r r' p q. told-one-to-one r r' (p ∙ sym q),
+  λ κ a s s' r r' p q. p ∙ sym q,
+  λ κ a s s' r r' p q. p ∙ sym q,
+)
 
 -- ---- whatever stands for arctangent and tangent
 
@@ -44,14 +52,17 @@ module _ (params : KannalaBrandtParams) where
   -- Two arctangents that agree on a point's radius give it the same pixel and the same derivatives: once the arctangent's result is given, kb's answers are.
   pub given-arctangent :
       (point : Point) (f g : Float → Float) → f (root (squared-radius (point .0) (point .1))) ≡ g (root (squared-radius (point .0) (point .1)))
-      → (distort f params point ≡ distort g params point) × (dx-distort-x f params point ≡ dx-distort-x g params point) × (dx-distort-params f params point ≡ dx-distort-params g params point)
+      → (distort f params point ≡ distort g params point)
+      × (dx-distort-x f params point ≡ dx-distort-x g params point)
+      × (dx-distort-params f params point ≡ dx-distort-params g params point)
   given-arctangent point f g e = (rw e refl, rw e refl, rw e refl)
 
-  -- Both derivatives as the Rust's text has them, with its factors of 1, its c8 * c6 and its size of the squared radius, give the bits that ours give: for every point, NaN and
-  -- infinities among the numbers, whatever stands for the arctangent.
+  -- Both derivatives as the Rust's text has them, with its factors of 1, its c8 * c6 and its size of the squared radius, give the bits that ours give:
+  -- for every point, NaN and infinities among the numbers, whatever stands for the arctangent.
   pub as-written :
       (point : Point) (f : Float → Float)
-      → (dx-distort-x-as-written f params point ≡ dx-distort-x f params point) × (dx-distort-params-as-written f params point ≡ dx-distort-params f params point)
+      → (dx-distort-x-as-written f params point ≡ dx-distort-x f params point)
+      × (dx-distort-params-as-written f params point ≡ dx-distort-params f params point)
   as-written point f = (x-written f params point, params-written f params point)
 
   module _ (pixel : Pixel) where
@@ -64,12 +75,14 @@ module _ (params : KannalaBrandtParams) where
     given-tangent f g e = rw e refl
 
     -- Near the axis the answer is (un, vn), with 0 updates and the flag yes.
-    pub near-axis : (f : Float → Slope) → le (rth2 params pixel) eps ≡ true → undistort f params pixel ≡ At (direct record { 0 = un-of params pixel; 1 = vn-of params pixel })
+    pub near-axis :
+        (f : Float → Slope) → le (rth2 params pixel) eps ≡ true → undistort f params pixel ≡ At (direct (xy (un-of params pixel) (vn-of params pixel)))
     near-axis f h = rw h refl
 
     -- Elsewhere it is refused, always with 10, exactly if the angle where Newton ends has no tangent.
     pub refused-exactly :
-        (f : Float → Slope) (r : Refusal) → (undistort f params pixel ≡ Refused r) ↔ ((r ≡ AngleTooLarge) × (le (rth2 params pixel) eps ≡ false) × (f (end .th) ≡ TooSteep))
+        (f : Float → Slope) (r : Refusal)
+        → (undistort f params pixel ≡ Refused r) ↔ ((r ≡ AngleTooLarge) × (le (rth2 params pixel) eps ≡ false) × (f (end .th) ≡ TooSteep))
     refused-exactly f r = (forth (le (rth2 params pixel) eps) refl (f (end .th)) refl, λ h. rw (h .0, h .1, h .2) refl)
       where
         forth :
@@ -85,9 +98,17 @@ module _ (params : KannalaBrandtParams) where
     updates-limit f = go (le (rth2 params pixel) eps) (f (end .th))
       where
         most : end .updates ≤ 20
-        most = passes-most (pass params (root (rth2 params pixel))) ended updates (λ (at : Reached). omega (arith, one-update params (root (rth2 params pixel)) at)) limit (start (root (rth2 params pixel)))
+        most =
+            let rth = root (rth2 params pixel) in
+            passes-most (pass params rth) ended updates (λ (at : Reached). omega (arith, one-update params rth at)) limit (start rth)
 
-        go : (b : Bool) (s : Slope) → told (cond b (At (direct record { 0 = un-of params pixel; 1 = vn-of params pixel })) (outward s end (root (rth2 params pixel)) (un-of params pixel) (vn-of params pixel))) .settled .updates ≤ 20
+        near : Undistorted
+        near = At (direct (xy (un-of params pixel) (vn-of params pixel)))
+
+        far : Slope → Undistorted
+        far s = outward s end (root (rth2 params pixel)) (un-of params pixel) (vn-of params pixel)
+
+        go : (b : Bool) (s : Slope) → told (cond b near (far s)) .settled .updates ≤ 20
         go true s = lit≤ tt
         go false (Is t) = most
         go false TooSteep = lit≤ tt
@@ -98,7 +119,8 @@ module _ (params : KannalaBrandtParams) where
 pub by-hand :
     (f : Float → Float) (g : Float → Slope)
     → (distort f (camera (int 1000) (int 1000) (int 320) (int 280) (int 0) (int 0) (int 0) (int 0)) (xy (int 0) (int 0)) ≡ uv (int 320) (int 280))
-    × (undistort g (camera (int 1000) (int 1000) (int 320) (int 280) (int 0) (int 0) (int 0) (int 0)) (uv (int 320) (int 280)) ≡ At (direct (xy (int 0) (int 0))))
+    × (undistort g (camera (int 1000) (int 1000) (int 320) (int 280) (int 0) (int 0) (int 0) (int 0)) (uv (int 320) (int 280))
+    ≡ At (direct (xy (int 0) (int 0))))
 unfolding add sub mul div le ofBits ofInt
 by-hand f g = (refl, refl)
 
@@ -113,5 +135,6 @@ by-hand-bent f h = bent-distorted f h
 -- Newton begins at 1/2, the root of 1/4, which is bent to 1/2 · (1 - 2/4) = 1/4, and its step is 0.
 pub by-hand-unbent :
     (g : Float → Slope) → g (halves 1) ≡ Is (quarters 3)
-    → undistort g (camera (int 4) (int 4) (int 1) (int 2) (minus (int 2)) (int 0) (int 0) (int 0)) (uv (int 2) (int 2)) ≡ At record { point = xy (quarters 3) (int 0); updates = 1; flag = true }
+    → undistort g (camera (int 4) (int 4) (int 1) (int 2) (minus (int 2)) (int 0) (int 0) (int 0)) (uv (int 2) (int 2))
+    ≡ At record { point = xy (quarters 3) (int 0); updates = 1; flag = true }
 by-hand-unbent g h = bent-undistorted g h

@@ -1,5 +1,5 @@
 -- The Rust's own lines of the derivatives are our definitions, but for factors of 1, the sides of one product, and a size taken of what has no sign. Assumes nothing.
-use mathlib.Core.Path.{_≡_, refl}
+use mathlib.Core.Path.{_≡_}
 use lib.Ieee.{Float, binary64}
 use lib.Ieee.Fits.{add-fits, mul-fits}
 use Rattle.exact.specs.F64.{_⊗_}

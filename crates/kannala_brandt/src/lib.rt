@@ -1,5 +1,6 @@
-// kannala_brandt.rs: the angle off the axis bent by a polynomial. Its four operations, in the Rust's order and by its names. Near the axis the Rust selects a plain answer, here
-// by a branch; undistort refuses an angle past the tangent's limit.
+// kannala_brandt.rs: the angle off the axis bent by a polynomial. Its four operations, in the Rust's order and by its
+// names. Near the axis the Rust selects a plain answer, here by a branch; undistort refuses an angle past the tangent's
+// limit. What isn't finite is for the camera to judge.
 ghost use mathlib.Core.Path.{_≡_};
 ghost use Prim.Native.Nat.{_<_};
 ghost use Rattle.arctan.specs.Arctangent.{arctangent};
@@ -173,7 +174,8 @@ fn outward(at: Reached, rth: f64, un: f64, vn: f64) -> Undistorted
     }
 }
 
-// The point of a pixel: near the axis at once, else by Newton. Refused with 10 where Newton ends past the tangent's limit.
+// The point of a pixel: near the axis at once, else by Newton. Refused with 10 where Newton ends past the tangent's
+// limit.
 pub fn undistort(params: KannalaBrandtParams, pixel: Pixel) -> Undistorted
     ensures { λ r. ⌜ told r ≡ told (undistort tangent params pixel) ⌝ }
 {
