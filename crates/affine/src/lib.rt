@@ -1,4 +1,5 @@
-// affine.rs: no distortion in the usual sense, but a scale and a shift along each axis. Its four operations, in the Rust's order; none refuses.
+// affine.rs: no distortion in the usual sense, but a scale and a shift along each axis. Its four operations, in the
+// Rust's order. None refuses: what isn't finite is for the camera to judge.
 ghost use mathlib.Core.Path.{_≡_};
 ghost use Rattle.affine.specs.Affine.{distort, undistort, dx-distort-x, dx-distort-params};
 use lens::Jacobian;
@@ -41,7 +42,8 @@ pub fn dx_distort_x(params: AffineParams, point: Point) -> Jacobian
     lens::two_columns(params.fx, 0.0, 0.0, params.fy)
 }
 
-// The derivative of distort by fx, fy, cx and cy, the same for all parameters: x 0 1 0 above 0 y 0 1, stored one by one: 6 instructions, where the loop of `two_rows` took 198.
+// The derivative of distort by fx, fy, cx and cy, the same for all parameters: x 0 1 0 above 0 y 0 1, stored one by
+// one: 6 instructions, where the loop of `two_rows` took 198.
 pub fn dx_distort_params(params: AffineParams, point: Point) -> Jacobian
     ensures { λ r. ⌜ r ≡ dx-distort-params params point ⌝ }
 {

@@ -8,7 +8,7 @@ use Rattle.lens.specs.declared.Point.{Point}
 use Rattle.lens.proofs.Passes.{passes-keep}
 use Rattle.affine.specs.Affine as affine
 use Rattle.affine.proofs.Fits as affine-fits
-use Rattle.brown_conrady.specs.BrownConrady.{affine-params, small, step, pass, limit, start, ended, undistort}
+use Rattle.brown_conrady.specs.BrownConrady.{affine-params, small, step-from, pass, limit, start, ended, undistort}
 use Rattle.brown_conrady.specs.declared.BrownConradyParams.{BrownConradyParams}
 use Rattle.brown_conrady.specs.declared.Search.{Search}
 
@@ -18,7 +18,7 @@ XyFits at = Fit (at .xy .0) × Fit (at .xy .1)
 pass-fits : (params : BrownConradyParams) (distorted : Point) (at : Search) → XyFits at → XyFits (pass params distorted at)
 unfolding pass
 pass-fits params distorted at h =
-    go (small (step params distorted (at .xy))) _ _ h (sub-fits binary64 (at .xy .0) (step params distorted (at .xy) .0), sub-fits binary64 (at .xy .1) (step params distorted (at .xy) .1))
+    go (small (step-from params distorted (at .xy))) _ _ h (sub-fits binary64 (at .xy .0) (step-from params distorted (at .xy) .0), sub-fits binary64 (at .xy .1) (step-from params distorted (at .xy) .1))
   where
     go : (b : Bool) (s t : Search) → XyFits s → XyFits t → XyFits (cond b s t)
     go true s t p q = p

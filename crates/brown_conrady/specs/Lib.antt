@@ -1,1 +1,2 @@
 pub mod BrownConrady
+pub mod AsWritten

@@ -1,15 +1,17 @@
-// brown_conrady.rs: OpenCV's radial and tangential distortion. Its operations, in the Rust's order and by its names; none refuses. What the Rust leaves undone, dx_distort_params, is
-// not here: the camera refuses it.
+// brown_conrady.rs: OpenCV's radial and tangential distortion. Its operations, in the Rust's order and by its names.
+// None refuses: what isn't finite is for the camera to judge. What the Rust leaves undone, dx_distort_params, is not
+// here: the camera refuses it.
 ghost use mathlib.Core.Path.{_≡_};
 ghost use Prim.Native.Nat.{_<_};
-ghost use Rattle.brown_conrady.specs.BrownConrady.{affine-params, distortion, distort, shared-at, slopes-at, dx-distort-x, f-xy, small, solve, step, limit, pass, newton, undistort};
+ghost use Rattle.brown_conrady.specs.BrownConrady.{affine-params, distortion, distort, shared-at, slopes-at, dx-distort-x, f-xy, small, solve, step-from, limit, pass, newton, undistort};
 use affine::AffineParams;
 use lens::Jacobian;
 use lens::Pixel;
 use lens::Point;
 use lens::Settled;
 
-// The twelve parameters, in the Rust's order, which has k3 after p2. The Rust calls the last eight d0 d1 d2 k3 d4 d5 d6 d7, and in dx_distort_x d3 for its k3: mind that its k3 is p2.
+// The twelve parameters, in the Rust's order, which has k3 after p2. The Rust calls the last eight d0 d1 d2 k3 d4 d5 d6
+// d7, and in dx_distort_x d3 for its k3: mind that its k3 is p2.
 pub struct BrownConradyParams {
     pub fx: f64,
     pub fy: f64,
@@ -63,7 +65,8 @@ pub fn distort(params: BrownConradyParams, point: Point) -> Pixel
     affine::distort(affine_params(params), distortion(params, point))
 }
 
-// What the four slopes share, by the names of the Rust's Newton. In its dx_distort_x they are c7, c8, c14, c15, c16 and c21.
+// What the four slopes share, by the names of the Rust's Newton. In its dx_distort_x they are c7, c8, c14, c15, c16 and
+// c21.
 struct Shared {
     c5: f64,
     c6: f64,
@@ -73,8 +76,8 @@ struct Shared {
     c20: f64,
 }
 
-// What the slopes share at a point. The Rust has these lines and those of slopes_at twice; the copies differ in the sides of a sum or a product, in a factor 1 and in which factor has
-// the minus, and none of that changes a bit (docs/RULES.md, 2.3).
+// What the slopes share at a point. The Rust has these lines and those of slopes_at twice, with sides swapped here and
+// there; the law `second-copy` says that both copies give the same bits, so one is enough.
 fn shared_at(params: BrownConradyParams, point: Point) -> Shared
     ensures { λ r. ⌜ r ≡ shared-at params point ⌝ }
 {
@@ -153,8 +156,9 @@ fn f_xy(params: BrownConradyParams, distorted: Point, xy: Point) -> Offset
 // The last f64 whose root is at most EPS: the f64 nearest to 1e-12. Another EPS has another, and the proof asks for it.
 const EPS_SQUARED: f64 = 1e-12;
 
-// Whether an offset's norm is at most EPS: the Rust's test of its step, and of what Newton leaves. The norm is a root, which in software costs more than all else in an update, and the
-// small processor has 3 ms a frame. A squared norm is past EPS_SQUARED exactly where its root is past EPS, so no root is taken.
+// Whether an offset's norm is at most EPS: the Rust's test of its step, and of what Newton leaves. The norm is a root,
+// which in software costs more than all else in an update, and the small processor has 3 ms a frame. A squared norm is
+// past EPS_SQUARED exactly where its root is past EPS, so no root is taken.
 fn small(offset: Offset) -> bool
     ensures { λ r. ⌜ r ≡ small offset ⌝ }
 {
@@ -170,12 +174,17 @@ fn solve(a: f64, b: f64, c: f64, d: f64, f: Offset) -> Offset
 }
 
 // Newton's step at xy.
-fn step(params: BrownConradyParams, distorted: Point, xy: Point) -> Offset
-    ensures { λ r. ⌜ r ≡ step params distorted xy ⌝ }
+fn step_from(params: BrownConradyParams, distorted: Point, xy: Point) -> Offset
+    ensures { λ r. ⌜ r ≡ step-from params distorted xy ⌝ }
 {
-    let f_xy = f_xy(params, distorted, xy);
     let s = slopes_at(params, xy);
-    solve(s.c7 * s.ux, s.c7 * s.uy, s.c7 * s.vx, s.c7 * s.vy, f_xy)
+    solve(
+        s.c7 * s.ux,
+        s.c7 * s.uy,
+        s.c7 * s.vx,
+        s.c7 * s.vy,
+        f_xy(params, distorted, xy),
+    )
 }
 
 // How many updates Newton may make.
@@ -194,7 +203,7 @@ fn pass(params: BrownConradyParams, distorted: Point, at: Search) -> Search
     ensures { λ r. ⌜ r ≡ pass params distorted at ⌝ }
 {
     let xy = at.xy;
-    let step = step(params, distorted, xy);
+    let step = step_from(params, distorted, xy);
     if small(step) {
         return Search {
             xy,

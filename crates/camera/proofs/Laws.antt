@@ -1,57 +1,52 @@
 -- What a caller may rely on, of the definitions of specs/ and of the contracts of src/. Assumes nothing.
 use mathlib.Core.Path.{_≡_, refl, sym, ap, _∙_}
-use mathlib.Core.Bool.{Bool, true, false, not, cond, _&&_}
-use mathlib.Core.List.{[], _∷_}
-use Prim.Native.Nat.{ℕ, _≤_}
-use native.Mathlib.Omega.{arith}
-use lib.Dec.{lit≤}
-use lib.Ieee.{Float, nan, le, add, sub, mul, div, ofBits}
+use mathlib.Core.Bool.{true, false, _&&_}
+use mathlib.Core.Logic.{_↔_}
+use Prim.Native.Nat.{_≤_}
+use lib.Dec.{T, lit≤}
+use lib.Ieee.{Float, nan, le, add, sub, mul, div, ofBits, ofInt}
 use lib.Ieee.Scale.{finite}
 use Rattle.exact.specs.Determined.{Determined}
-use Rattle.exact.specs.F64.{f64, isZero}
+use Rattle.exact.specs.F64.{f64, minus, magnitude, isZero}
+use Rattle.exact.specs.Fraction.{exactly, _≺_}
 use Rattle.root.specs.Root.{root}
 use Rattle.root.proofs.Laws as root-laws
-use Rattle.arctan.specs.Arctangent.{arctangent}
+use Rattle.arctan.specs.Series as series
 use Rattle.arctan.specs.Tangent.{tangent}
 use Rattle.arctan.specs.declared.Slope.{Slope}
-use Rattle.arctan.specs.declared.Slope.the-variants.{Is, TooSteep}
-use Rattle.lens.specs.Constants.{zeros, ones, eps}
+use Rattle.arctan.specs.declared.Slope.the-variants.{Is}
+use Rattle.lens.specs.ByHand.{halves, quarters, xy, uv}
+use Rattle.lens.specs.Constants.{zeros, ones, eps, int}
 use Rattle.lens.specs.Finite.{all-finite}
-use Rattle.lens.specs.Judgement.{decided}
-use Rattle.lens.specs.Refusal.{number}
-use Rattle.lens.specs.Rows.{_when_, first}
-use Rattle.lens.specs.Undistorted.{direct, told}
-use Rattle.lens.specs.declared.Jacobian.{Jacobian}
+use Rattle.lens.specs.Rows.{first}
+use Rattle.lens.specs.Undistorted.{told}
 use Rattle.lens.specs.declared.Pixel.{Pixel}
 use Rattle.lens.specs.declared.Point.{Point}
-use Rattle.lens.specs.declared.Refusal.{Refusal}
-use Rattle.lens.specs.declared.Refusal.the-variants.{NotFinite, ZeroFocalLength, AnswerNotFinite}
+use Rattle.lens.specs.declared.Refusal.the-variants.{AnswerNotFinite}
 use Rattle.lens.specs.declared.Settled.{Settled}
 use Rattle.lens.specs.declared.Undistorted.{Undistorted}
 use Rattle.lens.specs.declared.Undistorted.the-variants as found
-use Rattle.lens.proofs.Laws.{number-within, told-pixel-one-to-one, told-one-to-one}
+use Rattle.lens.proofs.Laws.{told-pixel-one-to-one, told-one-to-one}
 use Rattle.affine.specs.Affine as affine
 use Rattle.affine.specs.declared.AffineParams.{AffineParams}
-use Rattle.affine.proofs.Laws as affine-laws
 use Rattle.enhanced_unified.specs.EnhancedUnified as eucm
 use Rattle.enhanced_unified.specs.declared.EnhancedUnifiedParams.{EnhancedUnifiedParams}
-use Rattle.enhanced_unified.proofs.Laws as eucm-laws
 use Rattle.kannala_brandt.specs.KannalaBrandt as kb
+use Rattle.kannala_brandt.specs.declared.KannalaBrandtParams.{KannalaBrandtParams}
+use Rattle.kannala_brandt.proofs.Fits.{angle-fits}
 use Rattle.kannala_brandt.proofs.Laws as kb-laws
 use Rattle.brown_conrady.specs.BrownConrady as bc
-use Rattle.brown_conrady.proofs.Laws as bc-laws
-use Rattle.kannala_brandt.specs.declared.Reached.{Reached}
-use Rattle.camera.specs.Camera.{parameters, zero-focal, judged, pixel-of, distort, point-of, finite-point, undistort-judged, undistort, limit, slopes, finite-jacobian, refused, dx-distort-x, judged-params, parameter-slopes, dx-distort-params}
+use Rattle.camera.specs.Camera.{zero-focal, judged, pixel-of, distort, point-of, finite-point, undistort-judged, undistort, limit, slopes, dx-distort-x, judged-params, parameter-slopes, dx-distort-params}
 use Rattle.camera.specs.Rows.{not-finite, steep, too-steep, point-not-finite, distort-rows, undistort-rows, dx-distort-x-rows, dx-distort-params-rows}
 use Rattle.lens.specs.Distorted.{told-pixel, finite-pixel}
 use Rattle.camera.specs.declared.Camera.{Camera}
 use Rattle.camera.specs.declared.Camera.the-variants.{Affine, EnhancedUnified, KannalaBrandt, BrownConrady}
-use Rattle.camera.specs.declared.Differentiated.{Differentiated}
-use Rattle.lens.specs.declared.Judgement.{Judgement}
 use Rattle.lens.specs.declared.Judgement.the-variants as Judged
-use Rattle.lens.specs.declared.Distorted.{Distorted}
 use Rattle.lens.specs.declared.Distorted.the-variants.{At, Refused}
+use Rattle.camera.proofs.ByHand.{at-once, affines, eucms, kbs, bcs}
+use Rattle.camera.proofs.Past.{steep-past, first-is-10}
 use Rattle.camera.proofs.Steep as far-out
+use Rattle.camera.proofs.Told.{before, behind, given, pixel-number, point-number, answer-number, agree, jacobian-number, distort-own, undistort-own, jacobian-own, kept, most, flagged}
 use Rattle.camera.proofs.finite_parameters.Reads as finite-parameters-contract
 use Rattle.camera.proofs.zero_focal.Reads as zero-focal-contract
 use Rattle.camera.proofs.distort_judged.Reads as distort-judged-contract
@@ -65,7 +60,9 @@ use Rattle.camera.proofs.dx_distort_params.Reads as dx-distort-params-c
 -- ---- each contract permits one answer
 
 -- Any two answers to one call that the contract of an operation permits are equal, for each of the four.
-pub determined : Determined distort-contract.Post × Determined undistort-contract.Post × Determined dx-distort-x-contract.Post × Determined dx-distort-params-contract.Post
+pub determined :
+    Determined distort-contract.Post × Determined undistort-contract.Post
+    × Determined dx-distort-x-contract.Post × Determined dx-distort-params-contract.Post
 determined = (
   λ κ a s s' r r' p q. told-pixel-one-to-one r r' (p ∙ sym q),
   λ κ a s s' r r' p q. told-one-to-one r r' (p ∙ sym q),
@@ -74,7 +71,9 @@ determined = (
 )
 
 -- and so for the five functions that a table is built with.
-pub determined-parts : Determined finite-parameters-contract.Post × Determined zero-focal-contract.Post × Determined distort-judged-contract.Post × Determined undistort-judged-contract.Post × Determined limit-contract.Post
+pub determined-parts :
+    Determined finite-parameters-contract.Post × Determined zero-focal-contract.Post
+    × Determined distort-judged-contract.Post × Determined undistort-judged-contract.Post × Determined limit-contract.Post
 determined-parts = (
   λ κ a s s' r r' p q. p ∙ sym q,
   λ κ a s s' r r' p q. p ∙ sym q,
@@ -85,24 +84,6 @@ determined-parts = (
 
 -- ---- the refusals: the number told is that of the first row that holds, and 0 if none does
 
--- before: g says that all is finite, z that a focal length is zero; n is the number behind
-before : {A : Type 0} (say : A → ℕ) (refuse : Refusal → A) (answer : A) {n : ℕ} → ((r : Refusal) → say (refuse r) ≡ number r) → say answer ≡ n
-    → (g z : Bool) → say (decided (cond g (cond z (Judged.Refused ZeroFocalLength) Judged.Taken) (Judged.Refused NotFinite)) refuse answer) ≡ cond (not g) 4 (cond z 5 n)
-before say refuse answer r e false z = r NotFinite
-before say refuse answer r e true true = r ZeroFocalLength
-before say refuse answer r e true false = e
-
--- behind: f says that the answer is finite
-behind : {A : Type 0} (say : A → ℕ) (answer refusal : A) → say answer ≡ 0 → say refusal ≡ 11 → (f : Bool) → say (cond f answer refusal) ≡ first ((11 when not f) ∷ [])
-behind say answer refusal a r true = a
-behind say answer refusal a r false = r
-
-abbrev given : Camera → Float → Float → Bool
-given camera x y = all-finite (parameters camera) && (finite x && finite y)
-
-abbrev pixel-number : Distorted → ℕ
-pixel-number d = told-pixel d .number
-
 -- Distort gives 4, 5 or 11 exactly when the table says so, the lowest first.
 pub distort-number : (camera : Camera) (point : Point) → told-pixel (distort camera point) .number ≡ first (distort-rows camera point)
 unfolding judged
@@ -111,29 +92,6 @@ distort-number camera point =
     let answer = behind pixel-number (At pixel) (Refused AnswerNotFinite) refl refl (finite (pixel .0) && finite (pixel .1)) in
     before pixel-number Refused (finite-pixel pixel) (λ r. refl) answer (given camera (point .0) (point .1)) (zero-focal camera)
 
-abbrev point-number : Undistorted → ℕ
-point-number u = told u .number
-
--- what the model finds, and b that it found no tangent, say the same
-abbrev Agree : Undistorted → Bool → Type 0
-Agree (found.At s) b = b ≡ false
-Agree (found.Refused r) b = (number r ≡ 10) × (b ≡ true)
-
-answer-number : (u : Undistorted) (b : Bool) → Agree u b → point-number (finite-point u) ≡ first ((10 when b) ∷ (11 when point-not-finite u) ∷ [])
-answer-number (found.At s) b e = rw e (behind point-number (found.At s) (found.Refused AnswerNotFinite) refl refl (finite (s .point .0) && finite (s .point .1)))
-answer-number (found.Refused r) b e = rw (e .1) (e .0)
-
-kb-agree : (near : Bool) (slope : Slope) (point : Settled) (at : Reached) (rth un vn : Float) → Agree (cond near (found.At point) (kb.outward slope at rth un vn)) (not near && steep slope)
-kb-agree true slope point at rth un vn = refl
-kb-agree false (Is t) point at rth un vn = refl
-kb-agree false TooSteep point at rth un vn = (refl, refl)
-
-agree : (camera : Camera) (pixel : Pixel) → Agree (point-of camera pixel) (too-steep camera pixel)
-agree (Affine p) pixel = refl
-agree (EnhancedUnified p) pixel = refl
-agree (KannalaBrandt p) pixel = kb-agree (le (kb.rth2 p pixel) eps) (tangent (kb.newton p (root (kb.rth2 p pixel)) .th)) _ _ _ _ _
-agree (BrownConrady p) pixel = refl
-
 -- Undistort gives 4, 5, 10 or 11 exactly when the table says so, the lowest first.
 pub undistort-number : (camera : Camera) (pixel : Pixel) → told (undistort camera pixel) .number ≡ first (undistort-rows camera pixel)
 unfolding judged
@@ -141,16 +99,30 @@ undistort-number camera pixel =
     let answer = answer-number (point-of camera pixel) (too-steep camera pixel) (agree camera pixel) in
     before point-number found.Refused (finite-point (point-of camera pixel)) (λ r. refl) answer (given camera (pixel .0) (pixel .1)) (zero-focal camera)
 
-abbrev slope-number : Differentiated → ℕ
-slope-number d = d .number
+-- where kb's Newton ends, for a pixel
+abbrev theta : KannalaBrandtParams → Pixel → Float
+theta p pixel = kb.newton p (root (kb.rth2 p pixel)) .th
 
--- a Jacobian at a point
-jacobian-number : (camera : Camera) (point : Point) (j : Jacobian)
-    → slope-number (decided (judged camera (point .0) (point .1)) refused (finite-jacobian j)) ≡ first ((4 when not-finite camera (point .0) (point .1)) ∷ (5 when zero-focal camera) ∷ (11 when not (all-finite (j .entries))) ∷ [])
-unfolding judged
-jacobian-number camera point j =
-    let answer = behind slope-number record { number = 0; jacobian = j } (refused AnswerNotFinite) refl refl (all-finite (j .entries)) in
-    before slope-number refused (finite-jacobian j) (λ r. refl) answer (given camera (point .0) (point .1)) (zero-focal camera)
+-- Undistort of kb refuses with 10 exactly if neither 4 nor 5 does, the squared radius isn't ≤ EPS, and the last theta is finite and its size,
+-- as an exact fraction, above the limit that arctan names.
+pub refused-10 :
+    (p : KannalaBrandtParams) (pixel : Pixel)
+    → (told (undistort (KannalaBrandt p) pixel) .number ≡ 10)
+    ↔ ((not-finite (KannalaBrandt p) (pixel .0) (pixel .1) ≡ false)
+    × (zero-focal (KannalaBrandt p) ≡ false)
+    × (le (kb.rth2 p pixel) eps ≡ false)
+    × T (finite (theta p pixel))
+    × (series.limit ≺ exactly (magnitude (theta p pixel))))
+refused-10 p pixel =
+    let camera = KannalaBrandt p in
+    let says = undistort-number camera pixel in
+    let infinite = point-not-finite (point-of camera pixel) in
+    let beyond = steep (tangent (theta p pixel)) in
+    let rows = first-is-10 (not-finite camera (pixel .0) (pixel .1)) (zero-focal camera) (le (kb.rth2 p pixel) eps) beyond infinite in
+    let past = steep-past (theta p pixel) (angle-fits p (root (kb.rth2 p pixel))) in (
+      λ h. let r = rows .0 (sym says ∙ h) in (r .0, r .1, r .2, past .0 (r .3) .0, past .0 (r .3) .1),
+      λ h. says ∙ rows .1 (h .0, h .1, h .2, past .1 (h .3, h .4)),
+    )
 
 -- The derivative by the point gives 4, 5 or 11 exactly when the table says so, the lowest first.
 pub dx-distort-x-number : (camera : Camera) (point : Point) → dx-distort-x camera point .number ≡ first (dx-distort-x-rows camera point)
@@ -165,38 +137,15 @@ dx-distort-params-number (BrownConrady p) point = refl
 
 -- ---- an answered call has the number 0, and its answer is the model's own
 
-none : (r : Refusal) → number r ≡ 0 → ⊥
-none r e = omega (arith, number-within r)
-
-distort-own : (j : Judgement) (f : Bool) (pixel : Pixel) → pixel-number (decided j Refused (cond f (At pixel) (Refused AnswerNotFinite))) ≡ 0 → decided j Refused (cond f (At pixel) (Refused AnswerNotFinite)) ≡ At pixel
-distort-own (Judged.Refused r) f pixel e = absurd (none r e)
-distort-own Judged.Taken true pixel e = refl
-distort-own Judged.Taken false pixel e = absurd (none AnswerNotFinite e)
-
 -- A distort that tells 0 is the pixel of the model's formula.
 pub distort-answered : (camera : Camera) (point : Point) → told-pixel (distort camera point) .number ≡ 0 → distort camera point ≡ At (pixel-of camera point)
-distort-answered camera point = distort-own (judged camera (point .0) (point .1)) (finite (pixel-of camera point .0) && finite (pixel-of camera point .1)) (pixel-of camera point)
-
-point-own : (u : Undistorted) → point-number (finite-point u) ≡ 0 → finite-point u ≡ u
-point-own (found.At s) e = go (finite (s .point .0) && finite (s .point .1)) e
-  where
-    go : (f : Bool) → point-number (cond f (found.At s) (found.Refused AnswerNotFinite)) ≡ 0 → cond f (found.At s) (found.Refused AnswerNotFinite) ≡ found.At s
-    go true e = refl
-    go false e = absurd (none AnswerNotFinite e)
-point-own (found.Refused r) e = refl
-
-undistort-own : (j : Judgement) (u : Undistorted) → point-number (decided j found.Refused (finite-point u)) ≡ 0 → decided j found.Refused (finite-point u) ≡ u
-undistort-own (Judged.Refused r) u e = absurd (none r e)
-undistort-own Judged.Taken u e = point-own u e
+distort-answered camera point =
+    let pixel = pixel-of camera point in
+    distort-own (judged camera (point .0) (point .1)) (finite (pixel .0) && finite (pixel .1)) pixel
 
 -- An undistort that tells 0 is the point, updates and flag of the model's rules.
 pub undistort-answered : (camera : Camera) (pixel : Pixel) → told (undistort camera pixel) .number ≡ 0 → undistort camera pixel ≡ point-of camera pixel
 undistort-answered camera pixel = undistort-own (judged camera (pixel .0) (pixel .1)) (point-of camera pixel)
-
-jacobian-own : (v : Judgement) (f : Bool) (j : Jacobian) → slope-number (decided v refused (cond f record { number = 0; jacobian = j } (refused AnswerNotFinite))) ≡ 0 → decided v refused (cond f record { number = 0; jacobian = j } (refused AnswerNotFinite)) .jacobian ≡ j
-jacobian-own (Judged.Refused r) f j e = absurd (none r e)
-jacobian-own Judged.Taken true j e = refl
-jacobian-own Judged.Taken false j e = absurd (none AnswerNotFinite e)
 
 -- A derivative that tells 0 is the Jacobian of the model's formula, by the point or by the parameters.
 pub dx-answered :
@@ -210,26 +159,6 @@ dx-answered camera point = (
 
 -- ---- updates and flag
 
--- no more than the model made
-kept : (j : Judgement) (u : Undistorted) {n : ℕ} → told u .settled .updates ≤ n → told (decided j found.Refused (finite-point u)) .settled .updates ≤ n
-kept (Judged.Refused r) u h = omega arith
-kept Judged.Taken (found.Refused r) h = h
-kept Judged.Taken (found.At s) {n} h = go (finite (s .point .0) && finite (s .point .1))
-  where
-    go : (f : Bool) → told (cond f (found.At s) (found.Refused AnswerNotFinite)) .settled .updates ≤ n
-    go true = h
-    go false = omega arith
-
-most : (camera : Camera) (pixel : Pixel) → told (point-of camera pixel) .settled .updates ≤ limit camera
-most (Affine p) pixel = omega arith
-most (EnhancedUnified p) pixel = omega arith
-most (KannalaBrandt p) pixel = kb-laws.updates-limit p pixel tangent
-most (BrownConrady p) pixel = bc-laws.updates-limit p pixel
-
--- The same of a judged camera and pixel.
-pub updates-limit-judged : (camera : Camera) (pixel : Pixel) → told (undistort-judged camera pixel) .settled .updates ≤ limit camera
-updates-limit-judged camera pixel = kept Judged.Taken (point-of camera pixel) (most camera pixel)
-
 -- No model's limit is above 50.
 pub limit-most : (camera : Camera) → limit camera ≤ 50
 limit-most (Affine p) = lit≤ tt
@@ -241,13 +170,9 @@ limit-most (BrownConrady p) = lit≤ tt
 pub updates-limit : (camera : Camera) (pixel : Pixel) → told (undistort camera pixel) .settled .updates ≤ limit camera
 updates-limit camera pixel = kept (judged camera (pixel .0) (pixel .1)) (point-of camera pixel) (most camera pixel)
 
-flagged : (s : Settled) (j : Judgement) (t : Settled) → decided j found.Refused (finite-point (found.At t)) ≡ found.At s → s ≡ t
-flagged s (Judged.Refused r) t e = let z : _≡_ {A = ℕ} 0 1 = cc in absurd (omega arith)
-flagged s Judged.Taken t e = go (finite (t .point .0) && finite (t .point .1)) e
-  where
-    go : (f : Bool) → cond f (found.At t) (found.Refused AnswerNotFinite) ≡ found.At s → s ≡ t
-    go true e = cc
-    go false e = let z : _≡_ {A = ℕ} 0 1 = cc in absurd (omega arith)
+-- The same of a judged camera and pixel.
+pub updates-limit-judged : (camera : Camera) (pixel : Pixel) → told (undistort-judged camera pixel) .settled .updates ≤ limit camera
+updates-limit-judged camera pixel = kept Judged.Taken (point-of camera pixel) (most camera pixel)
 
 -- Affine and eucm always settle: an answer of theirs has 0 updates and the flag yes.
 pub settled :
@@ -263,91 +188,94 @@ settled pixel s a e = (
 
 -- a NaN; a lens with a zero focal length; (2 ^ 1000, 0), whose squared radius overflows
 abbrev nowhere : Point
-nowhere = record { 0 = nan; 1 = zeros }
+nowhere = xy nan zeros
 
 abbrev flat : Camera
-flat = Affine record { fx = zeros; fy = ones; cx = zeros; cy = zeros }
+flat = Affine (affine.camera zeros ones zeros zeros)
 
 abbrev far : Point
-far = record { 0 = f64 0x7e70_0000_0000_0000; 1 = zeros }
+far = xy (f64 0x7e70_0000_0000_0000) zeros
 
 -- fx is 2 ^ 1000
 abbrev long : Camera
-long = Affine record { fx = f64 0x7e70_0000_0000_0000; fy = ones; cx = zeros; cy = zeros }
+long = Affine (affine.camera (f64 0x7e70_0000_0000_0000) ones zeros zeros)
+
+-- bc with no coefficient
+abbrev plain : Camera
+plain = BrownConrady (bc.camera ones ones zeros zeros zeros zeros zeros zeros zeros zeros zeros zeros)
 
 -- Distort is refused with 4, 5 and 11.
-pub distort-reached : (told-pixel (distort flat nowhere) .number ≡ 4) × (told-pixel (distort flat far) .number ≡ 5) × (told-pixel (distort long far) .number ≡ 11)
+pub distort-reached :
+    (told-pixel (distort flat nowhere) .number ≡ 4)
+    × (told-pixel (distort flat far) .number ≡ 5)
+    × (told-pixel (distort long far) .number ≡ 11)
 unfolding judged all-finite isZero add mul ofBits
 distort-reached = (refl, refl, refl)
 
 -- Undistort with 4, 5, 10 and 11.
 pub undistort-reached :
-    (told (undistort flat record { 0 = nan; 1 = zeros }) .number ≡ 4)
-    × (told (undistort flat record { 0 = zeros; 1 = zeros }) .number ≡ 5)
+    (told (undistort flat (uv nan zeros)) .number ≡ 4)
+    × (told (undistort flat (uv zeros zeros)) .number ≡ 5)
     × (told (undistort (KannalaBrandt far-out.lens) far-out.pixel) .number ≡ 10)
-    × (told (undistort (Affine record { fx = f64 0x0000_0000_0000_0001; fy = ones; cx = zeros; cy = zeros }) record { 0 = ones; 1 = zeros }) .number ≡ 11)
-unfolding judged all-finite isZero add sub mul div ofBits
+    × (told (undistort (Affine (affine.camera (f64 0x0000_0000_0000_0001) ones zeros zeros)) (uv ones zeros)) .number ≡ 11)
+unfolding judged all-finite isZero add sub mul div ofBits ofInt
 undistort-reached = (refl, refl, ap (λ (u : Undistorted). told (finite-point u) .number) far-out.refused, refl)
 
 -- The derivative by the point with 4, 5 and 11.
-pub dx-distort-x-reached : (dx-distort-x flat nowhere .number ≡ 4) × (dx-distort-x flat far .number ≡ 5) × (dx-distort-x (BrownConrady bc-laws.plain) far .number ≡ 11)
+pub dx-distort-x-reached : (dx-distort-x flat nowhere .number ≡ 4) × (dx-distort-x flat far .number ≡ 5) × (dx-distort-x plain far .number ≡ 11)
 unfolding judged all-finite isZero bc.slopes-at bc.shared-at add mul div ofBits
 dx-distort-x-reached = (refl, refl, refl)
 
 -- The derivative by the parameters with 2, 4, 5 and 11.
 pub dx-distort-params-reached :
-    (dx-distort-params (BrownConrady bc-laws.plain) nowhere .number ≡ 2)
+    (dx-distort-params plain nowhere .number ≡ 2)
     × (dx-distort-params flat nowhere .number ≡ 4)
     × (dx-distort-params flat far .number ≡ 5)
-    × (dx-distort-params (EnhancedUnified eucm-laws.camera) far .number ≡ 11)
-unfolding judged all-finite isZero root add sub mul div ofBits
+    × (dx-distort-params (EnhancedUnified (eucm.camera ones ones zeros zeros (halves 1) ones)) far .number ≡ 11)
+unfolding judged all-finite isZero root add sub mul div ofBits ofInt
 dx-distort-params-reached = (refl, refl, refl, refl)
 
 -- ---- the numbers to check by hand
 
--- An undistort with no update: what the models' laws call `direct`.
-abbrev at-once : Point → Undistorted
-at-once point = found.At (direct point)
-
--- how a camera answers, once its model's answer is known
-by-distort : (camera : Camera) (point : Point) (pixel : Pixel) → judged camera (point .0) (point .1) ≡ Judged.Taken → pixel-of camera point ≡ pixel → finite-pixel pixel ≡ At pixel → distort camera point ≡ At pixel
-by-distort camera point pixel j e f = ap (λ (v : Judgement). decided v Refused (finite-pixel (pixel-of camera point))) j ∙ ap finite-pixel e ∙ f
-
-by-undistort : (camera : Camera) (pixel : Pixel) (u w : Undistorted) → judged camera (pixel .0) (pixel .1) ≡ Judged.Taken → point-of camera pixel ≡ u → finite-point u ≡ w → undistort camera pixel ≡ w
-by-undistort camera pixel u w j e f = ap (λ (v : Judgement). decided v found.Refused (finite-point (point-of camera pixel))) j ∙ ap finite-point e ∙ f
-
-abbrev three-five : Pixel
-three-five = record { 0 = bc.three; 1 = bc-laws.five }
-
-abbrev five-three : Pixel
-five-three = record { 0 = bc-laws.five; 1 = bc.three }
-
--- The rules' numbers to check by hand, marked there as to be proved. Affine 600 600 1 0.5 sends (0.5, -0.25) to (301, -149.5), and back. Eucm 1 1 0 0 0.5 1 sends (2, 2) to (1, 1), and back, and refuses the
--- pixel (2, 0) with 11. Kb 1000 1000 320 280 sends (0, 0) to (320, 280), and back with 0 updates. Bc 1 1 0 0 sends (1, 1) to (3, 5) with p1 = 1, to (5, 3) with p2 = 1, and with no
--- coefficient the pixel (3, 4) back to (3, 4) with 0 updates. The root of 2.25 is 1.5.
+-- The rules' numbers to check by hand that are to be proved (docs/RULES.md, 17), as they stand there: 600 is `int 600`, -149.5 `minus (halves 299)`, and a
+-- camera's numbers come in its model's order. An answer `at-once` has 0 updates and the flag yes. Off the axis kb's hold for any arctangent, or tangent,
+-- that has the value said; the other lines are of the camera itself.
 pub by-hand :
-    (distort (Affine affine-laws.camera) affine-laws.point ≡ At affine-laws.pixel)
-    × (undistort (Affine affine-laws.camera) affine-laws.pixel ≡ at-once affine-laws.point)
-    × (distort (EnhancedUnified eucm-laws.camera) eucm-laws.point ≡ At eucm-laws.pixel)
-    × (undistort (EnhancedUnified eucm-laws.camera) eucm-laws.pixel ≡ at-once eucm-laws.point)
-    × (undistort (EnhancedUnified eucm-laws.camera) eucm-laws.sideways ≡ found.Refused AnswerNotFinite)
-    × (distort (KannalaBrandt kb-laws.camera) kb-laws.point ≡ At kb-laws.pixel)
-    × (undistort (KannalaBrandt kb-laws.camera) kb-laws.pixel ≡ at-once kb-laws.point)
-    × (distort (BrownConrady (bc-laws.camera ones zeros)) bc-laws.corner ≡ At three-five)
-    × (distort (BrownConrady (bc-laws.camera zeros ones)) bc-laws.corner ≡ At five-three)
-    × (undistort (BrownConrady bc-laws.plain) bc-laws.pixel ≡ at-once bc-laws.point)
-    × (root (f64 0x4002_0000_0000_0000) ≡ f64 0x3ff8_0000_0000_0000)
-unfolding judged all-finite isZero ofBits
+    (distort (Affine (affine.camera (int 600) (int 600) (int 1) (halves 1))) (xy (halves 1) (minus (quarters 1))) ≡ At (uv (int 301) (minus (halves 299))))
+    × (undistort (Affine (affine.camera (int 600) (int 600) (int 1) (halves 1))) (uv (int 301) (minus (halves 299)))
+    ≡ at-once (xy (halves 1) (minus (quarters 1))))
+    × (distort (EnhancedUnified (eucm.camera (int 1) (int 1) (int 0) (int 0) (halves 1) (int 1))) (xy (int 2) (int 2)) ≡ At (uv (int 1) (int 1)))
+    × (undistort (EnhancedUnified (eucm.camera (int 1) (int 1) (int 0) (int 0) (halves 1) (int 1))) (uv (int 1) (int 1)) ≡ at-once (xy (int 2) (int 2)))
+    × (undistort (EnhancedUnified (eucm.camera (int 1) (int 1) (int 0) (int 0) (halves 1) (int 1))) (uv (int 2) (int 0)) ≡ found.Refused AnswerNotFinite)
+    × (distort (KannalaBrandt (kb.camera (int 1000) (int 1000) (int 320) (int 280) (int 0) (int 0) (int 0) (int 0))) (xy (int 0) (int 0))
+    ≡ At (uv (int 320) (int 280)))
+    × (undistort (KannalaBrandt (kb.camera (int 1000) (int 1000) (int 320) (int 280) (int 0) (int 0) (int 0) (int 0))) (uv (int 320) (int 280))
+    ≡ at-once (xy (int 0) (int 0)))
+    × ((f : Float → Float) → f (int 5) ≡ int 1
+    → kb.distort f (kb.camera (int 10) (int 10) (int 1) (int 2) (halves 3) (int 0) (int 0) (int 0)) (xy (int 3) (int 4)) ≡ uv (int 16) (int 22))
+    × ((g : Float → Slope) → g (halves 1) ≡ Is (quarters 3)
+    → kb.undistort g (kb.camera (int 4) (int 4) (int 1) (int 2) (minus (int 2)) (int 0) (int 0) (int 0)) (uv (int 2) (int 2))
+    ≡ found.At record { point = xy (quarters 3) (int 0); updates = 1; flag = true })
+    × (distort (BrownConrady (bc.camera (int 1) (int 1) (int 0) (int 0) (int 0) (int 0) (int 1) (int 0) (int 0) (int 0) (int 0) (int 0))) (xy (int 1) (int 1))
+    ≡ At (uv (int 3) (int 5)))
+    × (distort (BrownConrady (bc.camera (int 1) (int 1) (int 0) (int 0) (int 0) (int 0) (int 0) (int 1) (int 0) (int 0) (int 0) (int 0))) (xy (int 1) (int 1))
+    ≡ At (uv (int 5) (int 3)))
+    × (undistort (BrownConrady (bc.camera (int 1) (int 1) (int 0) (int 0) (int 0) (int 0) (int 0) (int 0) (int 0) (int 0) (int 0) (int 0))) (uv (int 3) (int 4))
+    ≡ at-once (xy (int 3) (int 4)))
+    × (root (quarters 9) ≡ halves 3)
+unfolding div ofBits ofInt
 by-hand = (
-  by-distort (Affine affine-laws.camera) affine-laws.point affine-laws.pixel refl (affine-laws.by-hand .0) refl,
-  by-undistort (Affine affine-laws.camera) affine-laws.pixel _ _ refl (ap found.At (affine-laws.by-hand .1)) refl,
-  by-distort (EnhancedUnified eucm-laws.camera) eucm-laws.point eucm-laws.pixel refl (eucm-laws.by-hand .0) refl,
-  by-undistort (EnhancedUnified eucm-laws.camera) eucm-laws.pixel _ _ refl (ap found.At (eucm-laws.by-hand .1)) refl,
-  by-undistort (EnhancedUnified eucm-laws.camera) eucm-laws.sideways _ _ refl (ap found.At (eucm-laws.by-hand .2)) refl,
-  by-distort (KannalaBrandt kb-laws.camera) kb-laws.point kb-laws.pixel refl (kb-laws.by-hand arctangent tangent .0) refl,
-  by-undistort (KannalaBrandt kb-laws.camera) kb-laws.pixel _ _ refl (kb-laws.by-hand arctangent tangent .1) refl,
-  by-distort (BrownConrady (bc-laws.camera ones zeros)) bc-laws.corner three-five refl (bc-laws.by-hand .0) refl,
-  by-distort (BrownConrady (bc-laws.camera zeros ones)) bc-laws.corner five-three refl (bc-laws.by-hand .1) refl,
-  by-undistort (BrownConrady bc-laws.plain) bc-laws.pixel _ _ refl (ap found.At (bc-laws.by-hand .2)) refl,
+  affines .0,
+  affines .1,
+  eucms .0 .0,
+  eucms .0 .1,
+  eucms .1,
+  kbs .0,
+  kbs .1,
+  kb-laws.by-hand-bent,
+  kb-laws.by-hand-unbent,
+  bcs .0,
+  bcs .1,
+  bcs .2,
   root-laws.by-hand,
 )

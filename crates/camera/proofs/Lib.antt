@@ -1,3 +1,6 @@
+pub mod ByHand
 pub mod Fits
 pub mod Laws
 pub mod Steep
+pub mod Told
+pub mod Past

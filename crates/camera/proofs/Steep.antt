@@ -4,90 +4,65 @@ use mathlib.Core.Bool.{true, false}
 use Prim.Native.Nat.{_*_, _^_}
 use native.Mathlib.Nat.{mul-pos}
 use lib.Dec.{lit≤}
+use lib.IntN.{pos}
 use lib.Pow.{pow-pos}
-use lib.Ieee.{Float, binary64, le, add, sub, mul, div, ofBits}
-use lib.Ieee.Bits.{ofBits-fits}
-use lib.Ieee.Exact.{HasValue}
-use Rattle.exact.specs.F64.{f64, magnitude}
+use lib.Ieee.{Float, binary64, le, add, sub, mul, div, ofBits, ofInt}
+use lib.Ieee.Fits.{ofInt-fits}
+use Rattle.exact.specs.F64.{magnitude}
 use Rattle.exact.specs.Fraction.{over}
 use Rattle.root.specs.Root.{root}
 use Rattle.root.proofs.Laws.{root-exact}
 use Rattle.arctan.specs.Tangent.{tangent}
 use Rattle.arctan.specs.declared.Slope.the-variants.{TooSteep}
 use Rattle.arctan.proofs.Laws.{tangent-refused-past}
-use Rattle.lens.specs.Constants.{zeros, ones, eps}
+use Rattle.lens.specs.ByHand.{uv}
+use Rattle.lens.specs.Constants.{eps, int}
 use Rattle.lens.specs.Passes.{passes}
 use Rattle.lens.specs.declared.Pixel.{Pixel}
 use Rattle.lens.specs.declared.Refusal.the-variants.{AngleTooLarge}
 use Rattle.lens.specs.declared.Undistorted.the-variants.{Refused}
-use Rattle.kannala_brandt.specs.KannalaBrandt.{powers, scaling-by-theta, d-thd-wtr-th, step, pass, limit, newton, rth2, undistort}
+use Rattle.kannala_brandt.specs.KannalaBrandt.{camera, powers, polynomial, d-thd-wtr-th, step-from, pass, limit, ended, newton, rth2, undistort}
 use Rattle.kannala_brandt.specs.declared.KannalaBrandtParams.{KannalaBrandtParams}
 use Rattle.kannala_brandt.specs.declared.Reached.{Reached}
 use Rattle.kannala_brandt.proofs.Laws.{refused-exactly}
 
 abbrev pub lens : KannalaBrandtParams
-lens = record {
-  fx = ones;
-  fy = ones;
-  cx = zeros;
-  cy = zeros;
-  k0 = zeros;
-  k1 = zeros;
-  k2 = zeros;
-  k3 = zeros;
-}
-
-abbrev two : Float
-two = f64 0x4000_0000_0000_0000
-
-abbrev four : Float
-four = f64 0x4010_0000_0000_0000
-
-abbrev sixteen : Float
-sixteen = f64 0x4030_0000_0000_0000
+lens = camera (int 1) (int 1) (int 0) (int 0) (int 0) (int 0) (int 0) (int 0)
 
 abbrev pub pixel : Pixel
-pixel = record { 0 = four; 1 = zeros }
+pixel = uv (int 4) (int 0)
 
-root-of-four : root four ≡ two
-root-of-four = root-exact four two (2 * 2 ^ 1074) (ofBits-fits binary64 0x4010_0000_0000_0000) (ofBits-fits binary64 0x4000_0000_0000_0000) (mul-pos {m = 2} (lit≤ tt) (pow-pos 1074)) squared itself
-  where
-    squared : HasValue four false (2 * 2 ^ 1074 * (2 * 2 ^ 1074)) (2 ^ 2148)
-    squared = unfold ofBits in (refl, refl)
+root-of-four : root (int 4) ≡ int 2
+root-of-four =
+    root-exact (int 4) (int 2) (2 * 2 ^ 1074) (ofInt-fits binary64 (pos 4)) (ofInt-fits binary64 (pos 2)) (mul-pos {m = 2} (lit≤ tt) (pow-pos 1074))
+    (unfold ofInt in (refl, refl)) (unfold ofInt in (refl, refl))
 
-    itself : HasValue two false (2 * 2 ^ 1074) (2 ^ 1074)
-    itself = unfold ofBits in (refl, refl)
+root-of-sixteen : root (int 16) ≡ int 4
+root-of-sixteen =
+    root-exact (int 16) (int 4) (4 * 2 ^ 1074) (ofInt-fits binary64 (pos 16)) (ofInt-fits binary64 (pos 4)) (mul-pos {m = 4} (lit≤ tt) (pow-pos 1074))
+    (unfold ofInt in (refl, refl)) (unfold ofInt in (refl, refl))
 
-root-of-sixteen : root sixteen ≡ four
-root-of-sixteen = root-exact sixteen four (4 * 2 ^ 1074) (ofBits-fits binary64 0x4030_0000_0000_0000) (ofBits-fits binary64 0x4010_0000_0000_0000) (mul-pos {m = 4} (lit≤ tt) (pow-pos 1074)) squared itself
-  where
-    squared : HasValue sixteen false (4 * 2 ^ 1074 * (4 * 2 ^ 1074)) (2 ^ 2148)
-    squared = unfold ofBits in (refl, refl)
-
-    itself : HasValue four false (4 * 2 ^ 1074) (2 ^ 1074)
-    itself = unfold ofBits in (refl, refl)
-
-radius : rth2 lens pixel ≡ sixteen
-unfolding add sub mul div ofBits
+radius : rth2 lens pixel ≡ int 16
+unfolding add sub mul div ofInt
 radius = refl
 
 abbrev from-start : Float → Reached
-from-start th = passes (pass lens four) (λ (at : Reached). at .ended) limit record { th = th; updates = 0; ended = false }
+from-start th = passes (pass lens (int 4)) ended limit record { th = th; updates = 0; ended = false }
 
-two-passes : from-start two ≡ record { th = four; updates = 2; ended = true }
-unfolding passes pass step powers scaling-by-theta d-thd-wtr-th magnitude le add sub mul div ofBits
+two-passes : from-start (int 2) ≡ record { th = int 4; updates = 2; ended = true }
+unfolding passes pass step-from powers polynomial d-thd-wtr-th magnitude le add sub mul div ofBits ofInt
 two-passes = refl
 
-newton-ends : newton lens (root (rth2 lens pixel)) .th ≡ four
+newton-ends : newton lens (root (rth2 lens pixel)) .th ≡ int 4
 unfolding newton
 newton-ends = ap (λ (q : Float). newton lens (root q) .th) radius ∙ ap (λ (r : Float). newton lens r .th) root-of-sixteen ∙ ap (λ (th : Float). from-start th .th) root-of-four ∙ ap (λ (at : Reached). at .th) two-passes
 
-four-steep : tangent four ≡ TooSteep
-unfolding ofBits over
-four-steep = tangent-refused-past false _ _ (ofBits-fits binary64 0x4010_0000_0000_0000) .1 record { holds = lit≤ tt }
+four-steep : tangent (int 4) ≡ TooSteep
+unfolding ofInt over
+four-steep = tangent-refused-past false _ _ (ofInt-fits binary64 (pos 4)) .1 record { holds = lit≤ tt }
 
 off-axis : le (rth2 lens pixel) eps ≡ false
-unfolding le add sub mul div ofBits
+unfolding le add sub mul div ofBits ofInt
 off-axis = refl
 
 pub refused : undistort tangent lens pixel ≡ Refused AngleTooLarge

@@ -1,4 +1,5 @@
--- The four operations of a camera: what refuses a call beforehand, the model's own definition, and what refuses its answer. Definitions only.
+-- The four operations of a camera: what refuses a call beforehand, the model's own definition, and what refuses its
+-- answer. Definitions only.
 use mathlib.Core.Bool.{Bool, cond, _&&_, _||_}
 use mathlib.Core.List.{List, [], _∷_}
 use Prim.Native.Nat.{ℕ}
@@ -37,7 +38,8 @@ abbrev pub parameters : Camera → List Float
 parameters (Affine p) = p .fx ∷ p .fy ∷ p .cx ∷ p .cy ∷ []
 parameters (EnhancedUnified p) = p .fx ∷ p .fy ∷ p .cx ∷ p .cy ∷ p .alpha ∷ p .beta ∷ []
 parameters (KannalaBrandt p) = p .fx ∷ p .fy ∷ p .cx ∷ p .cy ∷ p .k0 ∷ p .k1 ∷ p .k2 ∷ p .k3 ∷ []
-parameters (BrownConrady p) = p .fx ∷ p .fy ∷ p .cx ∷ p .cy ∷ p .k1 ∷ p .k2 ∷ p .p1 ∷ p .p2 ∷ p .k3 ∷ p .k4 ∷ p .k5 ∷ p .k6 ∷ []
+parameters (BrownConrady p) =
+    p .fx ∷ p .fy ∷ p .cx ∷ p .cy ∷ p .k1 ∷ p .k2 ∷ p .p1 ∷ p .p2 ∷ p .k3 ∷ p .k4 ∷ p .k5 ∷ p .k6 ∷ []
 
 abbrev pub either-zero : Float → Float → Bool
 either-zero fx fy = isZero fx || isZero fy
@@ -78,7 +80,8 @@ point-of (KannalaBrandt p) pixel = kb.undistort tangent p pixel
 point-of (BrownConrady p) pixel = found.At (bc.undistort p pixel)
 
 abbrev pub finite-point : Undistorted → Undistorted
-finite-point (found.At settled) = cond (finite (settled .point .0) && finite (settled .point .1)) (found.At settled) (found.Refused AnswerNotFinite)
+finite-point (found.At settled) =
+    cond (finite (settled .point .0) && finite (settled .point .1)) (found.At settled) (found.Refused AnswerNotFinite)
 finite-point (found.Refused refusal) = found.Refused refusal
 
 abbrev pub undistort-judged : Camera → Pixel → Undistorted
@@ -100,7 +103,8 @@ abbrev pub refused : Refusal → Differentiated
 refused refusal = record { number = number refusal; jacobian = twoRows [] [] }
 
 abbrev pub finite-jacobian : Jacobian → Differentiated
-finite-jacobian jacobian = cond (all-finite (jacobian .entries)) record { number = 0; jacobian = jacobian } (refused AnswerNotFinite)
+finite-jacobian jacobian =
+    cond (all-finite (jacobian .entries)) record { number = 0; jacobian = jacobian } (refused AnswerNotFinite)
 
 abbrev pub slopes : Camera → Point → Jacobian
 slopes (Affine p) point = affine.dx-distort-x p point
@@ -109,7 +113,8 @@ slopes (KannalaBrandt p) point = kb.dx-distort-x arctangent p point
 slopes (BrownConrady p) point = bc.dx-distort-x p point
 
 abbrev pub dx-distort-x : Camera → Point → Differentiated
-dx-distort-x camera point = decided (judged camera (point .0) (point .1)) refused (finite-jacobian (slopes camera point))
+dx-distort-x camera point =
+    decided (judged camera (point .0) (point .1)) refused (finite-jacobian (slopes camera point))
 
 -- bc's parameter Jacobian is refused before all else
 abbrev pub judged-params : Camera → Float → Float → Judgement
@@ -125,4 +130,5 @@ parameter-slopes (KannalaBrandt p) point = kb.dx-distort-params arctangent p poi
 parameter-slopes (BrownConrady p) point = twoRows [] []
 
 abbrev pub dx-distort-params : Camera → Point → Differentiated
-dx-distort-params camera point = decided (judged-params camera (point .0) (point .1)) refused (finite-jacobian (parameter-slopes camera point))
+dx-distort-params camera point =
+    decided (judged-params camera (point .0) (point .1)) refused (finite-jacobian (parameter-slopes camera point))

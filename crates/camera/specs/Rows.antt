@@ -1,8 +1,7 @@
--- The rows of the refusal table (docs/RULES.md, 5.1) that a call with one point can meet, in the order they are tried: each number, and when it is given. The laws hold the four
--- operations to them. Definitions only.
+-- The rows of the refusal table (docs/RULES.md, 5.1) that a call with one point can meet, in the order they are tried:
+-- each number, and when it is given. The laws hold the four operations to them. Definitions only.
 use mathlib.Core.Bool.{Bool, true, false, not, _&&_}
 use mathlib.Core.List.{List, [], _∷_}
-use Prim.Native.Nat.{ℕ}
 use lib.Ieee.{Float, le}
 use lib.Ieee.Scale.{finite}
 use Rattle.root.specs.Root.{root}
@@ -40,7 +39,8 @@ steep (Is t) = false
 abbrev pub too-steep : Camera → Pixel → Bool
 too-steep (Affine p) pixel = false
 too-steep (EnhancedUnified p) pixel = false
-too-steep (KannalaBrandt p) pixel = not (le (kb.rth2 p pixel) eps) && steep (tangent (kb.newton p (root (kb.rth2 p pixel)) .th))
+too-steep (KannalaBrandt p) pixel =
+    not (le (kb.rth2 p pixel) eps) && steep (tangent (kb.newton p (root (kb.rth2 p pixel)) .th))
 too-steep (BrownConrady p) pixel = false
 
 -- 11: a number of the answer is NaN or infinite

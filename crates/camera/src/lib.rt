@@ -1,4 +1,6 @@
-// One of four cameras: its model's four operations with the refusals that stand before and behind them. Whatever is handed in, there is an answer or a refusal's number.
+// One of four cameras: its model's four operations with the refusals that stand before and behind them. This is where
+// nothing goes unanswered: whatever is handed in, there is a finite answer or a refusal's number, which the models' own
+// functions don't promise.
 ghost use mathlib.Core.Path.{_≡_};
 ghost use Rattle.lens.specs.Distorted.{told-pixel};
 ghost use Rattle.lens.specs.Finite.{all-finite};
@@ -24,7 +26,8 @@ pub enum Camera {
     BrownConrady(BrownConradyParams),
 }
 
-// What the derivatives answer: number 0 and a Jacobian, or a refusal's number and zeros. No enum, since an enum can't hold the Jacobian's array.
+// What the derivatives answer: number 0 and a Jacobian, or a refusal's number and zeros. No enum, since an enum can't
+// hold the Jacobian's array.
 pub struct Differentiated {
     pub number: u8,
     pub jacobian: Jacobian,
@@ -63,11 +66,7 @@ pub fn finite_parameters(camera: Camera) -> bool
 fn either_zero(fx: f64, fy: f64) -> bool
     ensures { λ r. ⌜ r ≡ either-zero fx fy ⌝ }
 {
-    if exact::is_zero(fx) {
-        true
-    } else {
-        exact::is_zero(fy)
-    }
+    exact::is_zero(fx) || exact::is_zero(fy)
 }
 
 // The same of a camera: what 5 asks.
@@ -86,15 +85,11 @@ pub fn zero_focal(camera: Camera) -> bool
 fn judged(camera: Camera, x: f64, y: f64) -> Judgement
     ensures { λ r. ⌜ r ≡ judged camera x y ⌝ }
 {
-    if finite_parameters(camera) {
-        if lens::both_finite(x, y) {
-            if zero_focal(camera) {
-                Judgement::Refused(Refusal::ZeroFocalLength)
-            } else {
-                Judgement::Taken
-            }
+    if finite_parameters(camera) && lens::both_finite(x, y) {
+        if zero_focal(camera) {
+            Judgement::Refused(Refusal::ZeroFocalLength)
         } else {
-            Judgement::Refused(Refusal::NotFinite)
+            Judgement::Taken
         }
     } else {
         Judgement::Refused(Refusal::NotFinite)

@@ -1,9 +1,10 @@
--- The four operations of enhanced_unified.rs by its local names: each product, sum, difference and quotient rounds once, in the Rust's order. Definitions only.
+-- The four operations of enhanced_unified.rs by its local names: each product, sum, difference and quotient rounds
+-- once, in the Rust's order. Numbers in comments are lines of that file. Definitions only.
 use mathlib.Core.List.{[], _∷_}
 use lib.Ieee.{Float}
-use Rattle.exact.specs.F64.{f64, minus, _⊕_, _⊖_, _⊗_, _⊘_}
+use Rattle.exact.specs.F64.{minus, _⊕_, _⊖_, _⊗_, _⊘_}
 use Rattle.root.specs.Root.{root}
-use Rattle.lens.specs.Constants.{zeros, ones}
+use Rattle.lens.specs.Constants.{zeros, ones, int}
 use Rattle.lens.specs.Jacobian.{twoRows}
 use Rattle.lens.specs.Radius.{squared-radius}
 use Rattle.lens.specs.Undistorted.{direct}
@@ -13,33 +14,38 @@ use Rattle.lens.specs.declared.Point.{Point}
 use Rattle.lens.specs.declared.Settled.{Settled}
 use Rattle.enhanced_unified.specs.declared.EnhancedUnifiedParams.{EnhancedUnifiedParams}
 
--- 2
-abbrev pub two : Float
-two = f64 0x4000_0000_0000_0000
+-- a camera by its numbers
+abbrev pub camera : Float → Float → Float → Float → Float → Float → EnhancedUnifiedParams
+camera fx fy cx cy alpha beta = record { fx = fx; fy = fy; cx = cx; cy = cy; alpha = alpha; beta = beta }
 
 -- ---- what distort and both derivatives begin with
 
-abbrev pub rho : Float → Float → Float
-rho beta r2 = root (beta ⊗ r2 ⊕ ones)
+-- 80 and 81; again 169 and 170, 210 and 211
+abbrev pub rho-of : Float → Float → Float
+rho-of beta r2 = root (beta ⊗ r2 ⊕ ones)
 
-abbrev pub norm : Float → Float → Float
-norm alpha rho = alpha ⊗ rho ⊕ (ones ⊖ alpha)
+-- 83; again 172, 213
+abbrev pub norm-of : Float → Float → Float
+norm-of alpha rho = alpha ⊗ rho ⊕ (ones ⊖ alpha)
 
 -- ---- distort
 
+-- With 1 1 0 0 0.5 1 and (2, 2): r2 = 8, rho = root 9 = 3, norm = 0.5 · 3 + 0.5 = 2, and the pixel is (1, 1)
 abbrev pub distort : EnhancedUnifiedParams → Point → Pixel
 distort params point =
+    -- 79 to 83
     let r2 = squared-radius (point .0) (point .1) in
-    let norm = norm (params .alpha) (rho (params .beta) r2) in
+    let norm = norm-of (params .alpha) (rho-of (params .beta) r2) in
+    -- 85 to 88
     let mx = point .0 ⊘ norm in
     let my = point .1 ⊘ norm in
     record { 0 = params .fx ⊗ mx ⊕ params .cx; 1 = params .fy ⊗ my ⊕ params .cy }
 
 -- ---- undistort
 
--- the z of the observed ray
-abbrev pub k : Float → Float → Float → Float
-k alpha beta r2 =
+-- 109 to 114: the z of the observed ray
+abbrev pub k-of : Float → Float → Float → Float
+k-of alpha beta r2 =
     let gamma = ones ⊖ alpha in
     let nominator = ones ⊖ alpha ⊗ alpha ⊗ beta ⊗ r2 in
     let denominator = alpha ⊗ root (ones ⊖ (alpha ⊖ gamma) ⊗ beta ⊗ r2) ⊕ gamma in
@@ -47,18 +53,20 @@ k alpha beta r2 =
 
 abbrev pub undistort : EnhancedUnifiedParams → Pixel → Settled
 undistort params pixel =
+    -- 105 and 106
     let mx = (pixel .0 ⊖ params .cx) ⊘ params .fx in
     let my = (pixel .1 ⊖ params .cy) ⊘ params .fy in
-    let k = k (params .alpha) (params .beta) (squared-radius mx my) in
+    -- 108 to 116
+    let k = k-of (params .alpha) (params .beta) (squared-radius mx my) in
     direct record { 0 = mx ⊘ k; 1 = my ⊘ k }
 
 -- ---- the derivatives
 
--- of norm by a coordinate x
-abbrev pub dnorm : Float → Float → Float → Float → Float
-dnorm alpha beta rho x = alpha ⊗ (two ⊗ beta ⊗ x ⊘ (two ⊗ rho))
+-- 175, 178 and 181 for x, 176, 179 and 182 for y: of norm by a coordinate x
+abbrev pub dnorm-of : Float → Float → Float → Float → Float
+dnorm-of alpha beta rho x = alpha ⊗ (int 2 ⊗ beta ⊗ x ⊘ (int 2 ⊗ rho))
 
--- of x / norm, where norm moves by dnorm and x stays
+-- 185 and 187, 225 to 229: of x / norm, where norm moves by dnorm and x stays
 abbrev pub turned : Float → Float → Float → Float
 turned x norm dnorm = minus x ⊗ dnorm ⊘ (norm ⊗ norm)
 
@@ -66,10 +74,13 @@ abbrev pub dx-distort-x : EnhancedUnifiedParams → Point → Jacobian
 dx-distort-x params point =
     let x = point .0 in
     let y = point .1 in
-    let rho = rho (params .beta) (squared-radius x y) in
-    let norm = norm (params .alpha) rho in
-    let dnorm-dx = dnorm (params .alpha) (params .beta) rho x in
-    let dnorm-dy = dnorm (params .alpha) (params .beta) rho y in
+    -- 168 to 172
+    let rho = rho-of (params .beta) (squared-radius x y) in
+    let norm = norm-of (params .alpha) rho in
+    -- 175 to 182
+    let dnorm-dx = dnorm-of (params .alpha) (params .beta) rho x in
+    let dnorm-dy = dnorm-of (params .alpha) (params .beta) rho y in
+    -- 184 to 190
     let dmx-dx = (norm ⊖ x ⊗ dnorm-dx) ⊘ (norm ⊗ norm) in
     let dmx-dy = turned x norm dnorm-dy in
     let dmy-dx = turned y norm dnorm-dx in
@@ -83,11 +94,18 @@ abbrev pub dx-distort-params : EnhancedUnifiedParams → Point → Jacobian
 dx-distort-params params point =
     let x = point .0 in
     let y = point .1 in
+    -- 209 to 213
     let r2 = squared-radius x y in
-    let rho = rho (params .beta) r2 in
-    let norm = norm (params .alpha) rho in
+    let rho = rho-of (params .beta) r2 in
+    let norm = norm-of (params .alpha) rho in
+    -- 216 to 220
     let dnorm-dalpha = rho ⊖ ones in
-    let dnorm-dbeta = params .alpha ⊗ (r2 ⊘ (two ⊗ rho)) in
+    let dnorm-dbeta = params .alpha ⊗ (r2 ⊘ (int 2 ⊗ rho)) in
+    -- 222 to 248
+    let ua = params .fx ⊗ turned x norm dnorm-dalpha in
+    let ub = params .fx ⊗ turned x norm dnorm-dbeta in
+    let va = params .fy ⊗ turned y norm dnorm-dalpha in
+    let vb = params .fy ⊗ turned y norm dnorm-dbeta in
     twoRows
-    (x ⊘ norm ∷ zeros ∷ ones ∷ zeros ∷ params .fx ⊗ turned x norm dnorm-dalpha ∷ params .fx ⊗ turned x norm dnorm-dbeta ∷ [])
-    (zeros ∷ y ⊘ norm ∷ zeros ∷ ones ∷ params .fy ⊗ turned y norm dnorm-dalpha ∷ params .fy ⊗ turned y norm dnorm-dbeta ∷ [])
+    (x ⊘ norm ∷ zeros ∷ ones ∷ zeros ∷ ua ∷ ub ∷ [])
+    (zeros ∷ y ⊘ norm ∷ zeros ∷ ones ∷ va ∷ vb ∷ [])

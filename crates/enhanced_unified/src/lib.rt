@@ -1,7 +1,8 @@
-// enhanced_unified.rs: the ray bent towards a sphere (alpha) that may be stretched (beta). Its four operations, in the Rust's order and by its names; none refuses, and there is
-// no branch: not at alpha 0 and not near the axis.
+// enhanced_unified.rs: the ray bent towards a sphere (alpha) that may be stretched (beta). Its four operations, in the
+// Rust's order and by its names. None refuses: what isn't finite is for the camera to judge. There is no branch: not at
+// alpha 0 and not near the axis.
 ghost use mathlib.Core.Path.{_≡_};
-ghost use Rattle.enhanced_unified.specs.EnhancedUnified.{rho, norm, distort, k, undistort, dnorm, turned, dx-distort-x, dx-distort-params};
+ghost use Rattle.enhanced_unified.specs.EnhancedUnified.{rho-of, norm-of, distort, k-of, undistort, dnorm-of, turned, dx-distort-x, dx-distort-params};
 use lens::Jacobian;
 use lens::Pixel;
 use lens::Point;
@@ -18,15 +19,15 @@ pub struct EnhancedUnifiedParams {
 }
 
 // The length of the stretched ray.
-fn rho(beta: f64, r2: f64) -> f64
-    ensures { λ r. ⌜ r ≡ rho beta r2 ⌝ }
+fn rho_of(beta: f64, r2: f64) -> f64
+    ensures { λ r. ⌜ r ≡ rho-of beta r2 ⌝ }
 {
     root::root(beta * r2 + 1.0)
 }
 
 // What a point is divided by.
-fn norm(alpha: f64, rho: f64) -> f64
-    ensures { λ r. ⌜ r ≡ norm alpha rho ⌝ }
+fn norm_of(alpha: f64, rho: f64) -> f64
+    ensures { λ r. ⌜ r ≡ norm-of alpha rho ⌝ }
 {
     alpha * rho + (1.0 - alpha)
 }
@@ -36,15 +37,15 @@ pub fn distort(params: EnhancedUnifiedParams, point: Point) -> Pixel
     ensures { λ r. ⌜ r ≡ distort params point ⌝ }
 {
     let r2 = lens::squared_radius(point.0, point.1);
-    let norm = norm(params.alpha, rho(params.beta, r2));
+    let norm = norm_of(params.alpha, rho_of(params.beta, r2));
     let mx = point.0 / norm;
     let my = point.1 / norm;
     Pixel(params.fx * mx + params.cx, params.fy * my + params.cy)
 }
 
 // The z of the observed ray. It is zero at 90 degrees off the axis and negative beyond.
-fn k(alpha: f64, beta: f64, r2: f64) -> f64
-    ensures { λ r. ⌜ r ≡ k alpha beta r2 ⌝ }
+fn k_of(alpha: f64, beta: f64, r2: f64) -> f64
+    ensures { λ r. ⌜ r ≡ k-of alpha beta r2 ⌝ }
 {
     let gamma = 1.0 - alpha;
     let nominator = 1.0 - alpha * alpha * beta * r2;
@@ -58,13 +59,13 @@ pub fn undistort(params: EnhancedUnifiedParams, pixel: Pixel) -> Settled
 {
     let mx = (pixel.0 - params.cx) / params.fx;
     let my = (pixel.1 - params.cy) / params.fy;
-    let k = k(params.alpha, params.beta, lens::squared_radius(mx, my));
+    let k = k_of(params.alpha, params.beta, lens::squared_radius(mx, my));
     lens::direct(Point(mx / k, my / k))
 }
 
 // The derivative of norm by the coordinate x.
-fn dnorm(alpha: f64, beta: f64, rho: f64, x: f64) -> f64
-    ensures { λ r. ⌜ r ≡ dnorm alpha beta rho x ⌝ }
+fn dnorm_of(alpha: f64, beta: f64, rho: f64, x: f64) -> f64
+    ensures { λ r. ⌜ r ≡ dnorm-of alpha beta rho x ⌝ }
 {
     let drho2_dx = 2.0 * beta * x;
     let drho_dx = drho2_dx / (2.0 * rho);
@@ -84,10 +85,10 @@ pub fn dx_distort_x(params: EnhancedUnifiedParams, point: Point) -> Jacobian
 {
     let x = point.0;
     let y = point.1;
-    let rho = rho(params.beta, lens::squared_radius(x, y));
-    let norm = norm(params.alpha, rho);
-    let dnorm_dx = dnorm(params.alpha, params.beta, rho, x);
-    let dnorm_dy = dnorm(params.alpha, params.beta, rho, y);
+    let rho = rho_of(params.beta, lens::squared_radius(x, y));
+    let norm = norm_of(params.alpha, rho);
+    let dnorm_dx = dnorm_of(params.alpha, params.beta, rho, x);
+    let dnorm_dy = dnorm_of(params.alpha, params.beta, rho, y);
     let dmx_dx = (norm - x * dnorm_dx) / (norm * norm);
     let dmx_dy = turned(x, norm, dnorm_dy);
     let dmy_dx = turned(y, norm, dnorm_dx);
@@ -107,8 +108,8 @@ pub fn dx_distort_params(params: EnhancedUnifiedParams, point: Point) -> Jacobia
     let x = point.0;
     let y = point.1;
     let r2 = lens::squared_radius(x, y);
-    let rho = rho(params.beta, r2);
-    let norm = norm(params.alpha, rho);
+    let rho = rho_of(params.beta, r2);
+    let norm = norm_of(params.alpha, rho);
     let dnorm_dalpha = rho - 1.0;
     let dnorm_dbeta = params.alpha * (r2 / (2.0 * rho));
     let ua = params.fx * turned(x, norm, dnorm_dalpha);

@@ -7,3 +7,4 @@ pub mod Infinite
 pub mod Laws
 pub mod Fractions
 pub mod Operations
+pub mod Swaps

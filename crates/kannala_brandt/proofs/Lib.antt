@@ -1,3 +1,5 @@
 pub mod Fits
 pub mod Laws
 pub mod Updates
+pub mod Written
+pub mod Bent

@@ -1,15 +1,11 @@
 -- A pass of kb's Newton makes one update. Assumes nothing.
 use mathlib.Core.Path.{_≡_}
-use mathlib.Core.Bool.{Bool}
 use Prim.Native.Nat.{ℕ, suc}
 use native.Mathlib.Numerals.{add-one}
 use lib.Ieee.{Float}
 use Rattle.kannala_brandt.specs.KannalaBrandt.{pass}
 use Rattle.kannala_brandt.specs.declared.KannalaBrandtParams.{KannalaBrandtParams}
 use Rattle.kannala_brandt.specs.declared.Reached.{Reached}
-
-abbrev pub ended : Reached → Bool
-ended at = at .ended
 
 abbrev pub updates : Reached → ℕ
 updates at = at .updates

@@ -1,1 +1,2 @@
 pub mod KannalaBrandt
+pub mod AsWritten

@@ -1,11 +1,12 @@
-// kannala_brandt.rs: the angle off the axis bent by a polynomial. Its four operations, in the Rust's order and by its names. Near the axis the Rust selects a plain answer, here
-// by a branch; undistort refuses an angle past the tangent's limit.
+// kannala_brandt.rs: the angle off the axis bent by a polynomial. Its four operations, in the Rust's order and by its
+// names. Near the axis the Rust selects a plain answer, here by a branch; undistort refuses an angle past the tangent's
+// limit. What isn't finite is for the camera to judge.
 ghost use mathlib.Core.Path.{_≡_};
 ghost use Prim.Native.Nat.{_<_};
 ghost use Rattle.arctan.specs.Arctangent.{arctangent};
 ghost use Rattle.arctan.specs.Tangent.{tangent};
 ghost use Rattle.lens.specs.Undistorted.{told};
-ghost use Rattle.kannala_brandt.specs.KannalaBrandt.{powers, scaling-by-theta, scaling, distort, d-thd-wtr-th, step, limit, pass, newton, flag, sign, outward, undistort, c13, c17, diagonal, off-axis, dx-distort-x, alpha, rows, dx-distort-params};
+ghost use Rattle.kannala_brandt.specs.KannalaBrandt.{powers, polynomial, scaling-of, distort, d-thd-wtr-th, step-from, limit, pass, newton, flag, sign-of, outward, undistort, terms-of, c13-of, c17-of, diagonal, off-axis, dx-distort-x, alpha-of, rows, dx-distort-params};
 use lens::Jacobian;
 use lens::Pixel;
 use lens::Point;
@@ -57,15 +58,15 @@ fn powers(theta: f64) -> EvenPowers
 }
 
 // What the lens makes of an angle, over the angle.
-fn scaling_by_theta(params: KannalaBrandtParams, t: EvenPowers) -> f64
-    ensures { λ r. ⌜ r ≡ scaling-by-theta params t ⌝ }
+fn polynomial(params: KannalaBrandtParams, t: EvenPowers) -> f64
+    ensures { λ r. ⌜ r ≡ polynomial params t ⌝ }
 {
     1.0 + params.k0 * t.theta2 + params.k1 * t.theta4 + params.k2 * t.theta6 + params.k3 * t.theta8
 }
 
 // How far out a point goes, over its radius: 1 near the axis.
-fn scaling(params: KannalaBrandtParams, radius_sq: f64) -> f64
-    ensures { λ r. ⌜ r ≡ scaling arctangent params «radius_sq» ⌝ }
+fn scaling_of(params: KannalaBrandtParams, radius_sq: f64) -> f64
+    ensures { λ r. ⌜ r ≡ scaling-of arctangent params «radius_sq» ⌝ }
 {
     if radius_sq <= lens::EPS {
         return 1.0;
@@ -73,7 +74,7 @@ fn scaling(params: KannalaBrandtParams, radius_sq: f64) -> f64
     let radius = root::root(radius_sq);
     let radius_inverse = 1.0 / radius;
     let theta = arctan::arctangent(radius);
-    let r_distorted = theta * scaling_by_theta(params, powers(theta));
+    let r_distorted = theta * polynomial(params, powers(theta));
     r_distorted * radius_inverse
 }
 
@@ -81,7 +82,7 @@ fn scaling(params: KannalaBrandtParams, radius_sq: f64) -> f64
 pub fn distort(params: KannalaBrandtParams, point: Point) -> Pixel
     ensures { λ r. ⌜ r ≡ distort arctangent params point ⌝ }
 {
-    let scaling = scaling(params, lens::squared_radius(point.0, point.1));
+    let scaling = scaling_of(params, lens::squared_radius(point.0, point.1));
     Pixel(
         scaling * point.0 * params.fx + params.cx,
         scaling * point.1 * params.fy + params.cy,
@@ -100,11 +101,11 @@ fn d_thd_wtr_th(params: KannalaBrandtParams, t: EvenPowers) -> f64
 }
 
 // Newton's step from th, for an angle that the lens makes rth of.
-fn step(params: KannalaBrandtParams, rth: f64, th: f64) -> f64
-    ensures { λ r. ⌜ r ≡ step params rth th ⌝ }
+fn step_from(params: KannalaBrandtParams, rth: f64, th: f64) -> f64
+    ensures { λ r. ⌜ r ≡ step-from params rth th ⌝ }
 {
     let t = powers(th);
-    let thd = th * scaling_by_theta(params, t);
+    let thd = th * polynomial(params, t);
     (thd - rth) / d_thd_wtr_th(params, t)
 }
 
@@ -113,7 +114,7 @@ fn pass(params: KannalaBrandtParams, rth: f64, at: Reached) -> Reached
     requires { ⌜ at .updates < limit ⌝ }
     ensures { λ r. ⌜ r ≡ pass params rth at ⌝ }
 {
-    let step = step(params, rth, at.th);
+    let step = step_from(params, rth, at.th);
     Reached {
         th: at.th - step,
         updates: at.updates + 1,
@@ -147,8 +148,8 @@ fn flag(at: Reached) -> bool
 }
 
 // Which way the point lies: a tangent that isn't above 0 has its sign turned.
-fn sign(radius_undistorted: f64) -> f64
-    ensures { λ r. ⌜ r ≡ sign «radius_undistorted» ⌝ }
+fn sign_of(radius_undistorted: f64) -> f64
+    ensures { λ r. ⌜ r ≡ sign-of «radius_undistorted» ⌝ }
 {
     if radius_undistorted <= 0.0 { -1.0 } else { 1.0 }
 }
@@ -160,7 +161,7 @@ fn outward(at: Reached, rth: f64, un: f64, vn: f64) -> Undistorted
     match arctan::tangent(at.th) {
         arctan::Slope::TooSteep => Undistorted::Refused(Refusal::AngleTooLarge),
         arctan::Slope::Is(radius_undistorted) => {
-            let sign = sign(radius_undistorted);
+            let sign = sign_of(radius_undistorted);
             Undistorted::At(Settled {
                 point: Point(
                     sign * radius_undistorted * un / rth,
@@ -173,7 +174,8 @@ fn outward(at: Reached, rth: f64, un: f64, vn: f64) -> Undistorted
     }
 }
 
-// The point of a pixel: near the axis at once, else by Newton. Refused with 10 where Newton ends past the tangent's limit.
+// The point of a pixel: near the axis at once, else by Newton. Refused with 10 where Newton ends past the tangent's
+// limit.
 pub fn undistort(params: KannalaBrandtParams, pixel: Pixel) -> Undistorted
     ensures { λ r. ⌜ told r ≡ told (undistort tangent params pixel) ⌝ }
 {
@@ -187,30 +189,41 @@ pub fn undistort(params: KannalaBrandtParams, pixel: Pixel) -> Undistorted
     outward(newton(params, rth), rth, un, vn)
 }
 
-// The Rust's c13: what the lens makes of the angle c5, times c4.
-fn c13(params: KannalaBrandtParams, c4: f64, c5: f64, t: EvenPowers) -> f64
-    ensures { λ r. ⌜ r ≡ c13 params c4 c5 t ⌝ }
+// The polynomial's terms behind its 1, by the Rust's names: c13 and c17 both add them up, each in its own order.
+struct Terms {
+    c7: f64,
+    c9: f64,
+    c11: f64,
+    c12: f64,
+}
+
+fn terms_of(params: KannalaBrandtParams, t: EvenPowers) -> Terms
+    ensures { λ r. ⌜ r ≡ terms-of params t ⌝ }
 {
-    let c7 = t.theta2 * params.k0;
-    let c9 = t.theta4 * params.k1;
-    let c11 = t.theta6 * params.k2;
-    let c12 = t.theta8 * params.k3;
-    c4 * c5 * (c11 + c12 + c7 + c9 + 1.0)
+    Terms {
+        c7: t.theta2 * params.k0,
+        c9: t.theta4 * params.k1,
+        c11: t.theta6 * params.k2,
+        c12: t.theta8 * params.k3,
+    }
+}
+
+// The Rust's c13: what the lens makes of the angle c5, times c4.
+fn c13_of(c4: f64, c5: f64, s: Terms) -> f64
+    ensures { λ r. ⌜ r ≡ c13-of c4 c5 s ⌝ }
+{
+    c4 * c5 * (s.c11 + s.c12 + s.c7 + s.c9 + 1.0)
 }
 
 // The Rust's c17: the derivative of what the lens makes of the angle.
-fn c17(params: KannalaBrandtParams, t: EvenPowers) -> f64
-    ensures { λ r. ⌜ r ≡ c17 params t ⌝ }
+fn c17_of(params: KannalaBrandtParams, t: EvenPowers, s: Terms) -> f64
+    ensures { λ r. ⌜ r ≡ c17-of params t s ⌝ }
 {
-    let c7 = t.theta2 * params.k0;
-    let c9 = t.theta4 * params.k1;
-    let c11 = t.theta6 * params.k2;
-    let c12 = t.theta8 * params.k3;
     let inner = 4.0 * t.theta6 * params.k3
         + 2.0 * t.theta2 * params.k1
         + 3.0 * t.theta4 * params.k2
         + params.k0;
-    c11 + c12 + 2.0 * t.theta2 * inner + c7 + c9 + 1.0
+    s.c11 + s.c12 + 2.0 * t.theta2 * inner + s.c7 + s.c9 + 1.0
 }
 
 // An entry of the diagonal, but for its factor: c0 is the square of its coordinate.
@@ -260,14 +273,15 @@ pub fn dx_distort_x(params: KannalaBrandtParams, point: Point) -> Jacobian
     let c4 = c2 + 1.0;
     let c5 = arctan::arctangent(c2_sqrt);
     let t = powers(c5);
-    let c13 = c13(params, c4, c5, t);
-    let c17 = c17(params, t);
+    let s = terms_of(params, t);
+    let c13 = c13_of(c4, c5, s);
+    let c17 = c17_of(params, t, s);
     off_axis(params, point, c2, c2_sqrt, c4, c13, c17)
 }
 
 // The angle over the radius: 1 near the axis.
-fn alpha(radius_sq: f64, radius: f64, theta: f64) -> f64
-    ensures { λ r. ⌜ r ≡ alpha «radius_sq» radius theta ⌝ }
+fn alpha_of(radius_sq: f64, radius: f64, theta: f64) -> f64
+    ensures { λ r. ⌜ r ≡ alpha-of «radius_sq» radius theta ⌝ }
 {
     if radius_sq <= lens::EPS {
         1.0
@@ -320,8 +334,8 @@ pub fn dx_distort_params(params: KannalaBrandtParams, point: Point) -> Jacobian
     let radius = root::root(radius_sq);
     let theta = arctan::arctangent(radius);
     let t = powers(theta);
-    let alpha = alpha(radius_sq, radius, theta);
-    let scaling_by_theta = scaling_by_theta(params, t);
+    let alpha = alpha_of(radius_sq, radius, theta);
+    let scaling_by_theta = polynomial(params, t);
     rows(
         params,
         point.0 * alpha,

@@ -1,3 +1,4 @@
+pub mod ByHand
 pub mod Constants
 pub mod Distorted
 pub mod Jacobian

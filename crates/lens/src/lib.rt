@@ -1,4 +1,5 @@
-// The words that the lens models and all above them share: point, pixel, Jacobian, what distort and undistort answer, judgement, refusal, EPS.
+// The words that the lens models and all above them share: point, pixel, Jacobian, what distort and undistort answer,
+// judgement, refusal, EPS.
 ghost use mathlib.Core.Path.{_≡_};
 ghost use mathlib.Core.Bool.{_&&_};
 ghost use mathlib.Core.List.{[], _∷_, _++_};
@@ -21,10 +22,12 @@ pub const ENTRIES: usize = 24;
 // A point on the z=1 plane, x and y.
 pub struct Point(pub f64, pub f64);
 
-// A pixel, u and v. It is no Point: only distort and undistort turn one into the other.
+// Where a camera sees a point: u across, v down. A type of its own, so that neither can be passed where the other is
+// meant.
 pub struct Pixel(pub f64, pub f64);
 
-// A matrix of two rows, row by row: with n columns row 0 stands at 0..n and row 1 at n..2n. Every place after them holds 0.0.
+// A matrix of two rows, row by row: with n columns row 0 stands at 0..n and row 1 at n..2n. Every place after them
+// holds 0.0.
 pub struct Jacobian {
     pub entries: [f64; ENTRIES],
     pub columns: usize,
@@ -57,33 +60,33 @@ pub enum Undistorted {
 
 // Why a call is refused, in the order of the numbers.
 pub enum Refusal {
-    // no model has this number or name
+    // no model goes by it
     UnknownModel,
-    // the parameter Jacobian of bc, which the Rust leaves undone
+    // bc's derivative by its parameters: the Rust has no formula to port
     NoParameterJacobian,
-    // not as many parameters as the model has
+    // too many parameters, or too few
     WrongCount,
-    // a caller's parameter or point, or a region's edge, is NaN or infinite
+    // something handed in isn't a number
     NotFinite,
-    // fx or fy is zero, of either sign
+    // fx or fy shrinks its axis to nothing, which no undistort can undo
     ZeroFocalLength,
-    // a width or height outside 2 to 4,096
+    // fewer columns or rows than a table needs, or more than it may have
     WrongSize,
-    // a table or a buffer of another length than asked
+    // memory that doesn't match what is to be written
     WrongLength,
-    // a table's increment is finite and not above 0
+    // columns or rows that don't go up
     IncrementNotPositive,
-    // a lookup's index below the first cell or above the last
+    // the table has no cell on that side of the point
     OutsideTable,
-    // an angle past the tangent's limit
+    // the tangent of such an angle isn't promised
     AngleTooLarge,
-    // a number of the answer, an increment or a cell's point is NaN or infinite
+    // something to be handed out, or to build on, isn't a number
     AnswerNotFinite,
-    // a table's pixel rounds to an infinite f32
+    // too large for a cell, though an f64 holds it
     CellInfinite,
-    // a job record that no build can have
+    // work that was never begun by us, or was tampered with
     ImpossibleRecord,
-    // a program's text is not of the form
+    // a program can't read its input
     NotTheForm,
 }
 
@@ -138,8 +141,8 @@ fn placed(top: &[f64], bottom: &[f64], i: usize) -> f64
     if j < bottom.len() { bottom[j] } else { 0.0 }
 }
 
-// The Jacobian of two rows, of any number of columns: one function for every model's. Each place is written from the rows, so that no model
-// spells the zeros out. What does not fit the record is cut off; no model has such rows.
+// The Jacobian of two rows, of any number of columns: one function for every model's. Each place is written from the
+// rows, so that no model spells the zeros out. What does not fit the record is cut off; no model has such rows.
 pub fn two_rows(top: &[f64], bottom: &[f64]) -> Jacobian
     ensures { λ r. ⌜ r ≡ twoRows (now (top .entry)) (now (bottom .entry)) ⌝ }
 {
@@ -155,7 +158,8 @@ pub fn two_rows(top: &[f64], bottom: &[f64]) -> Jacobian
     }
 }
 
-// The Jacobian of two columns, a b above c d. Stored one by one: every model's derivative by the point ends here, and the loop of `two_rows` over all places costs far more (docs/COST.md).
+// The Jacobian of two columns, a b above c d. Stored one by one: every model's derivative by the point ends here, and
+// the loop of `two_rows` over all places costs far more (docs/COST.md).
 pub fn two_columns(a: f64, b: f64, c: f64, d: f64) -> Jacobian
     ensures { λ r. ⌜ r ≡ twoRows (a ∷ b ∷ []) (c ∷ d ∷ []) ⌝ }
 {
@@ -195,11 +199,7 @@ pub fn all_finite(numbers: &[f64]) -> bool
 pub fn both_finite(x: f64, y: f64) -> bool
     ensures { λ r. ⌜ r ≡ (finite x && finite y) ⌝ }
 {
-    if exact::is_finite(x) {
-        exact::is_finite(y)
-    } else {
-        false
-    }
+    exact::is_finite(x) && exact::is_finite(y)
 }
 
 // 11 for a pixel that isn't finite.

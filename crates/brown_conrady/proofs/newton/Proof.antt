@@ -7,7 +7,7 @@ use native.Mathlib.Omega.{arith}
 use Rattle.lens.specs.Passes.{passes}
 use Rattle.lens.specs.declared.Point.{Point}
 use Rattle.lens.proofs.Passes.{ends-there, goes-on, none-left}
-use Rattle.brown_conrady.specs.BrownConrady.{small, step, pass, limit, ended, newton}
+use Rattle.brown_conrady.specs.BrownConrady.{small, step-from, pass, limit, ended, newton}
 use Rattle.brown_conrady.specs.declared.BrownConradyParams.{BrownConradyParams}
 use Rattle.brown_conrady.specs.declared.Search.{Search}
 use Rattle.brown_conrady.proofs.newton.Statement.{statement}
@@ -29,7 +29,7 @@ counted false n s t e u h = u
 
 updated : (params : BrownConradyParams) (distorted : Point) (at : Search) → ended (pass params distorted at) ≡ false → updates (pass params distorted at) ≡ suc (updates at)
 unfolding pass
-updated params distorted at = counted (small (step params distorted (at .xy))) (updates at) _ _ refl (add-one (updates at))
+updated params distorted at = counted (small (step-from params distorted (at .xy))) (updates at) _ _ refl (add-one (updates at))
 
 loop-holds : tie.Need-loop-holds Inv-loop μ-loop
 loop-holds c = refl

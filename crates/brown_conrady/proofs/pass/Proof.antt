@@ -5,15 +5,15 @@ use Rattle.brown_conrady.specs.BrownConrady.{pass}
 use Rattle.brown_conrady.proofs.pass.Statement.{statement}
 use Rattle.brown_conrady.proofs.pass.Tie as tie
 
-step-requires : tie.Need-step-requires
-step-requires c κs = search needs
+step-from-requires : tie.Need-step-from-requires
+step-from-requires c κs = search needs
 
 small-requires : tie.Need-small-requires
 small-requires c κs = search needs
 
 returns : tie.Need-returns
 unfolding pass
-returns c = let s = c .before in rw (← s .before .step .ensures, sym (s .small .ensures) ∙ c .if1 .taken) refl
+returns c = let s = c .before in rw (← s .before .step-from .ensures, sym (s .small .ensures) ∙ c .if1 .taken) refl
 
 add-t10 : tie.Need-add-t10
 add-t10 c = search needs
@@ -23,7 +23,7 @@ unfolding pass
 returns-2 c =
     let e = c .before .before .before .before .before in
     let s = e .before in
-    rw (← s .before .step .ensures, sym (s .small .ensures) ∙ e .if1 .left) refl
+    rw (← s .before .step-from .ensures, sym (s .small .ensures) ∙ e .if1 .left) refl
 
 pub pass-spec : {M : Type 1} → statement M
-pass-spec = tie.close (tie.spec step-requires small-requires returns add-t10 returns-2)
+pass-spec = tie.close (tie.spec step-from-requires small-requires returns add-t10 returns-2)

@@ -1,5 +1,6 @@
 -- `brown_conrady::shared_at` meets its contract: each call gives its definition's number. Assumes nothing.
 use mathlib.Core.Path.{refl}
+use lib.Ieee.{ofBits, ofInt}
 use borrow.Author.Needs.{needs}
 use Rattle.brown_conrady.specs.BrownConrady.{shared-at}
 use Rattle.brown_conrady.proofs.shared_at.Statement.{statement}
@@ -9,7 +10,7 @@ squared-radius-requires : tie.Need-squared-radius-requires
 squared-radius-requires c κs = search needs
 
 returns : tie.Need-returns
-unfolding shared-at
+unfolding shared-at ofBits ofInt
 returns c = rw (c .before .before .before .before .before .before .before .before .before .before .before .before .before .squared-radius .ensures) refl
 
 pub shared-at-spec : {M : Type 1} → statement M

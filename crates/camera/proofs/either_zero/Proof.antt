@@ -13,7 +13,7 @@ is-zero-requires-2 : tie.Need-is-zero-requires-2
 is-zero-requires-2 c κs = search needs
 
 returns : tie.Need-returns
-returns c = ap (λ (b : Bool). b || isZero (c .before .before .args .fy)) (sym (c .if1 .taken) ∙ c .before .is-zero .ensures)
+returns c = c .if1 .taken ∙ ap (λ (b : Bool). b || isZero (c .before .before .args .fy)) (sym (c .if1 .taken) ∙ c .before .is-zero .ensures)
 
 returns-2 : tie.Need-returns-2
 returns-2 c = c .is-zero2 .ensures ∙ ap (λ (b : Bool). b || isZero (c .before .before .before .args .fy)) (sym (c .before .if1 .left) ∙ c .before .before .is-zero .ensures)

@@ -1,5 +1,6 @@
 -- `camera::judged` meets its contract. Assumes nothing.
 use mathlib.Core.Path.{refl}
+use mathlib.Core.Logic.{inl, inr}
 use Rattle.camera.specs.Camera.{judged}
 use borrow.Author.Needs.{needs}
 use Rattle.camera.proofs.judged.Statement.{statement}
@@ -24,11 +25,11 @@ returns-2 c = rw (← c .before .before .before .before .before .finite-paramete
 
 returns-3 : tie.Need-returns-3
 unfolding judged
-returns-3 c = rw (← c .before .before .before .finite-parameters .ensures, c .before .before .if1 .taken, ← c .before .both-finite .ensures, c .if2 .left) refl
-
-returns-4 : tie.Need-returns-4
-unfolding judged
-returns-4 c = rw (← c .before .finite-parameters .ensures, c .if1 .left) refl
+returns-3 c =
+    elim (c .if1 .came) [
+      | inl w ↦ rw (← c .before .finite-parameters .ensures, w .0 .taken, ← w .1 .ensures, w .2 .left) refl
+      | inr w ↦ rw (← c .before .finite-parameters .ensures, w .left) refl
+    ]
 
 pub judged-spec : {M : Type 1} → statement M
 judged-spec =
@@ -39,5 +40,4 @@ judged-spec =
     zero-focal-requires
     returns
     returns-2
-    returns-3
-    returns-4)
+    returns-3)

@@ -7,14 +7,14 @@ use Rattle.enhanced_unified.proofs.distort.Tie as tie
 squared-radius-requires : tie.Need-squared-radius-requires
 squared-radius-requires c κs = search needs
 
-rho-requires : tie.Need-rho-requires
-rho-requires c κs = search needs
+rho-of-requires : tie.Need-rho-of-requires
+rho-of-requires c κs = search needs
 
-norm-requires : tie.Need-norm-requires
-norm-requires c κs = search needs
+norm-of-requires : tie.Need-norm-of-requires
+norm-of-requires c κs = search needs
 
 returns : tie.Need-returns
-returns c = let n = c .before .before .before .before .before .before in rw (n .norm .ensures, n .before .rho .ensures, n .before .before .squared-radius .ensures) refl
+returns c = let n = c .before .before .before .before .before .before in rw (n .norm-of .ensures, n .before .rho-of .ensures, n .before .before .squared-radius .ensures) refl
 
 pub distort-spec : {M : Type 1} → statement M
-distort-spec = tie.close (tie.spec squared-radius-requires rho-requires norm-requires returns)
+distort-spec = tie.close (tie.spec squared-radius-requires rho-of-requires norm-of-requires returns)

@@ -7,11 +7,11 @@ use Rattle.kannala_brandt.proofs.distort.Tie as tie
 squared-radius-requires : tie.Need-squared-radius-requires
 squared-radius-requires c κs = search needs
 
-scaling-requires : tie.Need-scaling-requires
-scaling-requires c κs = search needs
+scaling-of-requires : tie.Need-scaling-of-requires
+scaling-of-requires c κs = search needs
 
 returns : tie.Need-returns
-returns c = rw (c .before .before .before .before .before .before .scaling .ensures, c .before .before .before .before .before .before .before .squared-radius .ensures) refl
+returns c = rw (c .before .before .before .before .before .before .scaling-of .ensures, c .before .before .before .before .before .before .before .squared-radius .ensures) refl
 
 pub distort-spec : {M : Type 1} → statement M
-distort-spec = tie.close (tie.spec squared-radius-requires scaling-requires returns)
+distort-spec = tie.close (tie.spec squared-radius-requires scaling-of-requires returns)

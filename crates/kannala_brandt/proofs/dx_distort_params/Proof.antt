@@ -16,11 +16,11 @@ arctangent-requires c κs = search needs
 powers-requires : tie.Need-powers-requires
 powers-requires c κs = search needs
 
-alpha-requires : tie.Need-alpha-requires
-alpha-requires c κs = search needs
+alpha-of-requires : tie.Need-alpha-of-requires
+alpha-of-requires c κs = search needs
 
-scaling-by-theta-requires : tie.Need-scaling-by-theta-requires
-scaling-by-theta-requires c κs = search needs
+polynomial-requires : tie.Need-polynomial-requires
+polynomial-requires c κs = search needs
 
 rows-requires : tie.Need-rows-requires
 rows-requires c κs = search needs
@@ -28,7 +28,7 @@ rows-requires c κs = search needs
 returns : tie.Need-returns
 returns c =
     let s = c .before .before .before in
-    rw (c .rows .ensures, s .scaling-by-theta .ensures, s .before .alpha .ensures, s .before .before .powers .ensures, s .before .before .before .arctangent .ensures .0, s .before .before .before .before .root .ensures, s .before .before .before .before .before .squared-radius .ensures) refl
+    rw (c .rows .ensures, s .polynomial .ensures, s .before .alpha-of .ensures, s .before .before .powers .ensures, s .before .before .before .arctangent .ensures .0, s .before .before .before .before .root .ensures, s .before .before .before .before .before .squared-radius .ensures) refl
 
 pub dx-distort-params-spec : {M : Type 1} → statement M
 dx-distort-params-spec =
@@ -38,7 +38,7 @@ dx-distort-params-spec =
     root-requires
     arctangent-requires
     powers-requires
-    alpha-requires
-    scaling-by-theta-requires
+    alpha-of-requires
+    polynomial-requires
     rows-requires
     returns)

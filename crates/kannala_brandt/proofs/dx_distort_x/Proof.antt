@@ -22,19 +22,33 @@ arctangent-requires c κs = search needs
 powers-requires : tie.Need-powers-requires
 powers-requires c κs = search needs
 
-c13-requires : tie.Need-c13-requires
-c13-requires c κs = search needs
+terms-of-requires : tie.Need-terms-of-requires
+terms-of-requires c κs = search needs
 
-c17-requires : tie.Need-c17-requires
-c17-requires c κs = search needs
+c13-of-requires : tie.Need-c13-of-requires
+c13-of-requires c κs = search needs
+
+c17-of-requires : tie.Need-c17-of-requires
+c17-of-requires c κs = search needs
 
 off-axis-requires : tie.Need-off-axis-requires
 off-axis-requires c κs = search needs
 
 returns-2 : tie.Need-returns-2
 returns-2 c =
-    let t = c .before .before .before .before .before in
-    rw (c .off-axis .ensures, c .before .c17 .ensures, c .before .before .c13 .ensures, c .before .before .before .powers .ensures, c .before .before .before .before .arctangent .ensures .0, t .root .ensures, ← t .before .before .squared-radius .ensures, t .before .if1 .left) refl
+    let p = c .before .before .before .before in
+    let r = p .before .before in
+    rw (
+      c .off-axis .ensures,
+      c .before .c17-of .ensures,
+      c .before .before .c13-of .ensures,
+      c .before .before .before .terms-of .ensures,
+      p .powers .ensures,
+      p .before .arctangent .ensures .0,
+      r .root .ensures,
+      ← r .before .before .squared-radius .ensures,
+      r .before .if1 .left,
+    ) refl
 
 pub dx-distort-x-spec : {M : Type 1} → statement M
 dx-distort-x-spec =
@@ -46,7 +60,8 @@ dx-distort-x-spec =
     root-requires
     arctangent-requires
     powers-requires
-    c13-requires
-    c17-requires
+    terms-of-requires
+    c13-of-requires
+    c17-of-requires
     off-axis-requires
     returns-2)

@@ -4,8 +4,8 @@ use Prim.Native.Nat.{_-_}
 use native.Mathlib.Omega.{arith}
 use Rattle.lens.specs.Passes.{passes}
 use Rattle.lens.proofs.Passes.{ends-there, goes-on, none-left}
-use Rattle.kannala_brandt.specs.KannalaBrandt.{limit, pass, newton}
-use Rattle.kannala_brandt.proofs.Updates.{ended, updates, one-update}
+use Rattle.kannala_brandt.specs.KannalaBrandt.{limit, pass, ended, newton}
+use Rattle.kannala_brandt.proofs.Updates.{updates, one-update}
 use Rattle.kannala_brandt.proofs.newton.Statement.{statement}
 use Rattle.kannala_brandt.proofs.newton.Tie as tie
 

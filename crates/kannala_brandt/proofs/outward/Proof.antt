@@ -15,8 +15,8 @@ enum-told c = search needs
 enum-known-radius-undistorted : tie.Need-enum-known-radius-undistorted
 enum-known-radius-undistorted c = search needs
 
-sign-requires : tie.Need-sign-requires
-sign-requires c κs = search needs
+sign-of-requires : tie.Need-sign-of-requires
+sign-of-requires c κs = search needs
 
 flag-requires : tie.Need-flag-requires
 flag-requires c κs = search needs
@@ -29,7 +29,7 @@ returns c =
 returns-2 : tie.Need-returns-2
 returns-2 c =
     let a = c .before .before .before .before .before .before .args in
-    rw (c .flag .ensures, c .before .sign .ensures)
+    rw (c .flag .ensures, c .before .sign-of .ensures)
     (ap (λ (slope : Slope). outward slope (a .at) (a .rth) (a .un) (a .vn)) (sym (c .before .before .before .radius-undistorted .given .1) ∙ c .before .before .before .before .before .tangent .ensures .0))
 
 pub outward-spec : {M : Type 1} → statement M
@@ -39,7 +39,7 @@ outward-spec =
     tangent-requires
     enum-told
     enum-known-radius-undistorted
-    sign-requires
+    sign-of-requires
     flag-requires
     returns
     returns-2)

@@ -5,8 +5,8 @@ use borrow.Author.Needs.{needs}
 use Rattle.kannala_brandt.proofs.pass.Statement.{statement}
 use Rattle.kannala_brandt.proofs.pass.Tie as tie
 
-step-requires : tie.Need-step-requires
-step-requires c κs = search needs
+step-from-requires : tie.Need-step-from-requires
+step-from-requires c κs = search needs
 
 add-t6 : tie.Need-add-t6
 add-t6 c = search needs
@@ -16,7 +16,7 @@ magnitude-requires c κs = search needs
 
 returns : tie.Need-returns
 unfolding pass
-returns c = rw (c .magnitude .ensures, c .before .before .before .step .ensures) refl
+returns c = rw (c .magnitude .ensures, c .before .before .before .step-from .ensures) refl
 
 pub pass-spec : {M : Type 1} → statement M
-pass-spec = tie.close (tie.spec step-requires add-t6 magnitude-requires returns)
+pass-spec = tie.close (tie.spec step-from-requires add-t6 magnitude-requires returns)

@@ -1,0 +1,100 @@
+-- The numbers to check by hand, by model. A camera answers them as its model does: camera and place are taken, and the answer is finite. Assumes nothing.
+use mathlib.Core.Path.{_≡_, refl, ap, _∙_}
+use Prim.Native.Nat.{ℕ}
+use lib.Ieee.{div, neg, ofInt}
+use Rattle.exact.specs.F64.{minus, isZero}
+use Rattle.arctan.specs.Arctangent.{arctangent}
+use Rattle.arctan.specs.Tangent.{tangent}
+use Rattle.lens.specs.ByHand.{halves, quarters, xy, uv}
+use Rattle.lens.specs.Constants.{int}
+use Rattle.lens.specs.Distorted.{finite-pixel}
+use Rattle.lens.specs.Finite.{all-finite}
+use Rattle.lens.specs.Judgement.{decided}
+use Rattle.lens.specs.Undistorted.{direct}
+use Rattle.lens.specs.declared.Distorted.the-variants as pixels
+use Rattle.lens.specs.declared.Judgement.{Judgement}
+use Rattle.lens.specs.declared.Judgement.the-variants.{Taken}
+use Rattle.lens.specs.declared.Pixel.{Pixel}
+use Rattle.lens.specs.declared.Point.{Point}
+use Rattle.lens.specs.declared.Refusal.the-variants.{AnswerNotFinite}
+use Rattle.lens.specs.declared.Undistorted.{Undistorted}
+use Rattle.lens.specs.declared.Undistorted.the-variants as found
+use Rattle.affine.specs.Affine as affine
+use Rattle.affine.proofs.Laws as affine-laws
+use Rattle.enhanced_unified.specs.EnhancedUnified as eucm
+use Rattle.enhanced_unified.proofs.Laws as eucm-laws
+use Rattle.kannala_brandt.specs.KannalaBrandt as kb
+use Rattle.kannala_brandt.proofs.Laws as kb-laws
+use Rattle.brown_conrady.specs.BrownConrady as bc
+use Rattle.brown_conrady.proofs.Laws as bc-laws
+use Rattle.camera.specs.Camera.{judged, pixel-of, distort, point-of, finite-point, undistort}
+use Rattle.camera.specs.declared.Camera.{Camera}
+use Rattle.camera.specs.declared.Camera.the-variants.{Affine, EnhancedUnified, KannalaBrandt, BrownConrady}
+
+sends :
+    (camera : Camera) (point : Point) (pixel : Pixel) → judged camera (point .0) (point .1) ≡ Taken → pixel-of camera point ≡ pixel → finite-pixel pixel ≡ pixels.At pixel
+    → distort camera point ≡ pixels.At pixel
+sends camera point pixel j e f =
+    ap (λ (v : Judgement). decided v pixels.Refused (finite-pixel (pixel-of camera point))) j ∙ ap finite-pixel e ∙ f
+
+finds :
+    (camera : Camera) (pixel : Pixel) (u w : Undistorted) → judged camera (pixel .0) (pixel .1) ≡ Taken → point-of camera pixel ≡ u → finite-point u ≡ w
+    → undistort camera pixel ≡ w
+finds camera pixel u w j e f =
+    ap (λ (v : Judgement). decided v found.Refused (finite-point (point-of camera pixel))) j ∙ ap finite-point e ∙ f
+
+-- an undistort with no update
+abbrev pub at-once : Point → Undistorted
+at-once point = found.At (direct point)
+
+-- a point and its pixel, both ways
+abbrev Both : Camera → Point → Pixel → Type 0
+Both camera point pixel = (distort camera point ≡ pixels.At pixel) × (undistort camera pixel ≡ at-once point)
+
+abbrev affine-camera : Camera
+affine-camera = Affine (affine.camera (int 600) (int 600) (int 1) (halves 1))
+
+pub affines : Both affine-camera (xy (halves 1) (minus (quarters 1))) (uv (int 301) (minus (halves 299)))
+unfolding judged all-finite isZero div neg ofInt
+affines = (
+  sends affine-camera (xy (halves 1) (minus (quarters 1))) _ refl (affine-laws.by-hand .0) refl,
+  finds affine-camera (uv (int 301) (minus (halves 299))) _ _ refl (ap found.At (affine-laws.by-hand .1)) refl,
+)
+
+abbrev eucm-camera : Camera
+eucm-camera = EnhancedUnified (eucm.camera (int 1) (int 1) (int 0) (int 0) (halves 1) (int 1))
+
+pub eucms : Both eucm-camera (xy (int 2) (int 2)) (uv (int 1) (int 1)) × (undistort eucm-camera (uv (int 2) (int 0)) ≡ found.Refused AnswerNotFinite)
+unfolding judged all-finite isZero div ofInt
+eucms = (
+  (
+    sends eucm-camera (xy (int 2) (int 2)) _ refl (eucm-laws.by-hand .0) refl,
+    finds eucm-camera (uv (int 1) (int 1)) _ _ refl (ap found.At (eucm-laws.by-hand .1)) refl,
+  ),
+  finds eucm-camera (uv (int 2) (int 0)) _ _ refl (ap found.At (eucm-laws.by-hand .2)) refl,
+)
+
+abbrev kb-camera : Camera
+kb-camera = KannalaBrandt (kb.camera (int 1000) (int 1000) (int 320) (int 280) (int 0) (int 0) (int 0) (int 0))
+
+pub kbs : Both kb-camera (xy (int 0) (int 0)) (uv (int 320) (int 280))
+unfolding judged all-finite isZero ofInt
+kbs = (
+  sends kb-camera (xy (int 0) (int 0)) _ refl (kb-laws.by-hand arctangent tangent .0) refl,
+  finds kb-camera (uv (int 320) (int 280)) _ _ refl (kb-laws.by-hand arctangent tangent .1) refl,
+)
+
+abbrev bc-camera : ℕ → ℕ → Camera
+bc-camera p1 p2 =
+    BrownConrady (bc.camera (int 1) (int 1) (int 0) (int 0) (int 0) (int 0) (int p1) (int p2) (int 0) (int 0) (int 0) (int 0))
+
+pub bcs :
+    (distort (bc-camera 1 0) (xy (int 1) (int 1)) ≡ pixels.At (uv (int 3) (int 5)))
+    × (distort (bc-camera 0 1) (xy (int 1) (int 1)) ≡ pixels.At (uv (int 5) (int 3)))
+    × (undistort (bc-camera 0 0) (uv (int 3) (int 4)) ≡ at-once (xy (int 3) (int 4)))
+unfolding judged all-finite isZero ofInt
+bcs = (
+  sends (bc-camera 1 0) (xy (int 1) (int 1)) _ refl (bc-laws.by-hand .0) refl,
+  sends (bc-camera 0 1) (xy (int 1) (int 1)) _ refl (bc-laws.by-hand .1) refl,
+  finds (bc-camera 0 0) (uv (int 3) (int 4)) _ _ refl (ap found.At (bc-laws.by-hand .2)) refl,
+)
