@@ -177,14 +177,9 @@ fn solve(a: f64, b: f64, c: f64, d: f64, f: Offset) -> Offset
 fn step_from(params: BrownConradyParams, distorted: Point, xy: Point) -> Offset
     ensures { λ r. ⌜ r ≡ step-from params distorted xy ⌝ }
 {
+    let f = f_xy(params, distorted, xy);
     let s = slopes_at(params, xy);
-    solve(
-        s.c7 * s.ux,
-        s.c7 * s.uy,
-        s.c7 * s.vx,
-        s.c7 * s.vy,
-        f_xy(params, distorted, xy),
-    )
+    solve(s.c7 * s.ux, s.c7 * s.uy, s.c7 * s.vx, s.c7 * s.vy, f)
 }
 
 // How many updates Newton may make.
