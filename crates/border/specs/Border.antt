@@ -1,4 +1,5 @@
--- The border of an image, half a pixel outside it, as a list of pixels in sweep order, and the number of units of a table. Definitions only.
+-- The border of an image, half a pixel outside it, as a list of pixels in sweep order, and the number of units of a
+-- table. Definitions only.
 use mathlib.Core.Bool.{cond}
 use mathlib.Core.List.{List, [], _∷_, _++_}
 use Prim.Native.Nat.{ℕ, zero, suc, _+_, _*_, _/_, _%_}
@@ -26,10 +27,12 @@ pairs near far i (suc n) = near i ∷ far i ∷ pairs near far (suc i) n
 
 -- top and bottom for i = 0 .. width, then left and right for i = 0 .. height
 abbrev pub top-and-bottom : ℕ → ℕ → List Pixel
-top-and-bottom width height = pairs (λ i. pixel (before i) outside) (λ i. pixel (before i) (before height)) 0 (suc width)
+top-and-bottom width height =
+    pairs (λ i. pixel (before i) outside) (λ i. pixel (before i) (before height)) 0 (suc width)
 
 abbrev pub left-and-right : ℕ → ℕ → List Pixel
-left-and-right width height = pairs (λ i. pixel outside (before i)) (λ i. pixel (before width) (before i)) 0 (suc height)
+left-and-right width height =
+    pairs (λ i. pixel outside (before i)) (λ i. pixel (before width) (before i)) 0 (suc height)
 
 unfoldable pub border : ℕ → ℕ → List Pixel
 border width height = top-and-bottom width height ++ left-and-right width height

@@ -1,4 +1,5 @@
-// The border of an image, half a pixel outside it: its pixels in the order they are swept, the edges of the points found there, and twice the box of the edges, which is a table's region.
+// The border of an image, half a pixel outside it: its pixels in the order they are swept, the edges of the points found
+// there, and twice the box of the edges, which is a table's region.
 ghost use mathlib.Core.Path.{_≡_};
 ghost use Rattle.border.specs.Border.{before, across, along, samples, border-at};
 ghost use Rattle.border.specs.Edges.{lowered, raised, widened, edges-after, doubled};
@@ -13,7 +14,8 @@ fn before(n: usize) -> f64
     region::float(n) - 0.5
 }
 
-// Of two opposite sides that are swept in turn, where the n-th sample lies across and along them. The far side is at pixel `far`.
+// Of two opposite sides that are swept in turn, where the n-th sample lies across and along them. The far side is at
+// pixel `far`.
 fn across(n: usize, far: usize) -> f64
     ensures { λ r. ⌜ r ≡ across n far ⌝ }
 {

@@ -96,7 +96,9 @@ module _
           plans.built-says (Held Float) (λ h. Unit {0}) held-plan held-state Called turn-serves (first camera width height table) tt
           (f32-sound camera width height) table refl allowances last b takes
 
-    at-once-is : whole-table camera width height table ≡ answer (fresh-job camera width height) (turn (next (f32-table camera width height)) enough (fresh table))
+    at-once-is :
+        whole-table camera width height table
+        ≡ answer (fresh-job camera width height) (turn (next (f32-table camera width height)) enough (fresh table))
     at-once-is = answer-is camera width height (fresh-opens camera width height start begin .0) table long enough
 
     enough-units : all-units width height ≤ enough
@@ -115,13 +117,16 @@ module _
         let f = ends.enough-for p (fresh table) (omega arith) enough enough-units in
         let c = plans.as-defined p (f32-sound camera width height) table long in
         let whole = subst (Built p table (total allowances)) (e ∙ sym f) (c (total allowances)) in
-        let mine = subst (λ (A : ℕ). Built p table A (held-state last)) (build-allowed allowances last b) (built-in-turns camera width height table allowances last b) in
+        let mine = subst (λ (A : ℕ). Built p table A (held-state last)) (build-allowed allowances last b)
+        (built-in-turns camera width height table allowances last b) in
         built-same p table (total allowances) (total allowances) (held-state last) once mine whole refl
         ∙ sym (ap (λ (x : Answer Float). held-state (kept x)) at-once-is)
 
     -- and it is finished, or refused at a unit: it never says running.
     pub at-once-ends : whole-table camera width height table .said ≡ running → ⊥
-    at-once-ends e = ends.never-running (f32-table camera width height) (fresh table) (omega arith) enough enough-units (sym (ap (λ (x : Answer Float). x .said) at-once-is) ∙ e)
+    at-once-ends e =
+        ends.never-running (f32-table camera width height) (fresh table) (omega arith) enough enough-units
+        (sym (ap (λ (x : Answer Float). x .said) at-once-is) ∙ e)
 
 -- ---- each contract permits one answer
 

@@ -1,4 +1,5 @@
--- What a turn answers: what it says, the record, and the table, as the plan of the record's table has it. Definitions only.
+-- What a turn answers: what it says, the record, and the table, as the plan of the record's table has it. Definitions
+-- only.
 use mathlib.Core.List.{List}
 use Prim.Native.Nat.{ℕ}
 use lib.Ieee.{Float}

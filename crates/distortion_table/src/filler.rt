@@ -43,7 +43,11 @@ fn fill(
     count: usize,
 ) -> Filled
     requires { ⌜ (0 < width) × (first + count < 2 ^ 32) × (2 * count ≤ length (now rest)) ⌝ }
-    ensures { λ r. ⌜ told-filled r (now (rest .exit)) ≡ met (turn (filled (cell-by (distort-judged camera) f32 region by) width first) count record { done = 0; cells = now (rest .entry) }) ⌝ }
+    ensures { λ r. ⌜
+        told-filled r (now (rest .exit))
+        ≡ met (turn (filled (cell-by (distort-judged camera) f32 region by) width first) count
+        record { done = 0; cells = now (rest .entry) })
+        ⌝ }
 {
     let mut place = Place {
         u: first % width,
@@ -72,8 +76,8 @@ fn fill(
     }
 }
 
-// So many cells, from the one numbered first on: the part of the table that begins with it is lent to the filler, and what
-// is ahead of it is not.
+// So many cells, from the one numbered first on: the part of the table that begins with it is lent to the filler, and
+// what is ahead of it is not.
 pub(crate) fn lend(
     table: &mut [f32],
     camera: Camera,
@@ -84,7 +88,10 @@ pub(crate) fn lend(
     count: usize,
 ) -> Filled
     requires { ⌜ (0 < width) × (first + count < 2 ^ 31) × (2 * first + 2 * count ≤ length (now table)) ⌝ }
-    ensures { λ r. ⌜ Lent (cell-by (distort-judged camera) f32 region (increments region width height)) width first count (now (table .entry)) (r .done) (told-refusal (r .refusal)) (now (table .exit)) ⌝ }
+    ensures { λ r. ⌜
+        Lent (cell-by (distort-judged camera) f32 region (increments region width height)) width first count
+        (now (table .entry)) (r .done) (told-refusal (r .refusal)) (now (table .exit))
+        ⌝ }
 {
     let by = region::increments_of(region, width, height);
     let start = 2 * first;

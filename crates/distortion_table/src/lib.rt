@@ -125,7 +125,10 @@ fn reached(done: usize, all: usize) -> Status
 
 // A turn's end behind a run of cells: with so many units of `all` done, unless something refused.
 fn end_at(at: Progress, done: usize, all: usize, refusal: Judgement) -> Ended
-    ensures { λ r. ⌜ (r .at ≡ with-done at done) × (told-status (r .status) ≡ after-run (told-refusal refusal) (reached done all)) ⌝ }
+    ensures { λ r. ⌜
+        (r .at ≡ with-done at done)
+        × (told-status (r .status) ≡ after-run (told-refusal refusal) (reached done all))
+        ⌝ }
 {
     let after = with_done(at, done);
     match refusal {
@@ -151,7 +154,10 @@ fn cells(
     left: usize,
 ) -> Ended
     requires { ⌜ (all ≡ samples width height) × Cellwise width height at left (now table) ⌝ }
-    ensures { λ r. ⌜ told-ended r (now (table .exit)) ≡ turn (next (f32-table camera width height)) left record { at = at; cells = now (table .entry) } ⌝ }
+    ensures { λ r. ⌜
+        told-ended r (now (table .exit))
+        ≡ turn (next (f32-table camera width height)) left record { at = at; cells = now (table .entry) }
+        ⌝ }
 {
     let done = at.done;
     if done < all {
@@ -177,7 +183,10 @@ fn cells(
 // A turn of a record that is admitted.
 fn work(job: Job, table: &mut [f32], allowance: usize) -> Ended
     requires { ⌜ admitted job (length (now table)) ≡ Taken ⌝ }
-    ensures { λ r. ⌜ told-ended r (now (table .exit)) ≡ turn (next (plan-of job)) allowance (state-of job (now (table .entry))) ⌝ }
+    ensures { λ r. ⌜
+        told-ended r (now (table .exit))
+        ≡ turn (next (plan-of job)) allowance (state-of job (now (table .entry)))
+        ⌝ }
 {
     let camera = job.camera;
     let width = job.width;

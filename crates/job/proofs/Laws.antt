@@ -39,7 +39,8 @@ admitted-determined κ a s s' r r' p q = verdict-one-to-one r r' (p ∙ sym q)
 
 -- ---- which records are taken
 
--- A record is refused before any unit with 4, 5, 6, 7 or 13 exactly when the table of refusals says so, the first row that holds; 13 is given for the records that no build can have, and no others.
+-- A record is refused before any unit with 4, 5, 6, 7 or 13 exactly when the table of refusals says so, the first row that holds; 13 is given for the records
+-- that no build can have, and no others.
 pub admitted-number : (job : Job) (places : ℕ) → verdict (admitted job places) ≡ first (turn-rows job places)
 admitted-number = rows.admitted-number
 

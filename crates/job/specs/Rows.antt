@@ -1,5 +1,5 @@
--- The rows of the refusal table (docs/RULES.md, 5.1) that a turn tries before any unit, in their order: each number, and
--- when it is given. Definitions only.
+-- The rows of the refusal table (docs/RULES.md, 5.1) that a turn tries before any unit, in their order: each number,
+-- and when it is given. Definitions only.
 use mathlib.Core.Bool.{Bool, not, _&&_, _||_}
 use mathlib.Core.List.{List, [], _∷_}
 use Prim.Native.Nat.{ℕ, _*_, min}

@@ -1,4 +1,5 @@
-// The record of a table that is being built, as it is handed from turn to turn: a fresh one, and which records no turn takes.
+// The record of a table that is being built, as it is handed from turn to turn: a fresh one, and which records no turn
+// takes.
 ghost use mathlib.Core.Path.{_≡_};
 ghost use mathlib.Core.Bool.{_||_};
 ghost use Prim.Native.Nat.{_*_, _^_, _≤_, _<_, min};

@@ -47,7 +47,9 @@ Post κ a r s = listed r (now (s .1 .0)) ≡ observe-all (a .0) (now (a .1 .0))
 
 -- `Post` is the contract's own: of a function that is proved by hand the check makes no `Reads`, so it is held to the clause here.
 pub post-is :
-    {M : Type 1} (𝓤 : URA M) (H : Heap 𝓤) (A : Atoms 𝓤) (mem : Memory → SProp 𝓤) (run : Routine → Fun 𝓤) (κ : Lfts 1) (a : Args observe-all-contract.signature κ) (r : Res observe-all-contract.signature κ) (s : AtExit observe-all-contract.ended κ)
+    {M :
+    Type 1} (𝓤 : URA M) (H : Heap 𝓤) (A : Atoms 𝓤) (mem : Memory → SProp 𝓤) (run : Routine
+    → Fun 𝓤) (κ : Lfts 1) (a : Args observe-all-contract.signature κ) (r : Res observe-all-contract.signature κ) (s : AtExit observe-all-contract.ended κ)
     → observe-all-contract.clauses 𝓤 H A mem run κ a .ensures tt r s ≡ fact 𝓤 (Post κ a r s)
 post-is 𝓤 H A mem run κ a r s = refl
 
@@ -66,7 +68,9 @@ seen-observed = loop.seen-observed
 -- ---- the list
 
 -- The number returned is 4 if a parameter isn't finite, else 5 if fx or fy is zero, else 0.
-pub observe-all-number : (camera : Camera) (list : List Observation) → observe-all camera list .number ≡ first ((4 when not (all-finite (parameters camera))) ∷ (5 when zero-focal camera) ∷ [])
+pub observe-all-number :
+    (camera : Camera) (list : List Observation)
+    → observe-all camera list .number ≡ first ((4 when not (all-finite (parameters camera))) ∷ (5 when zero-focal camera) ∷ [])
 observe-all-number camera list = loop.refusal-by-rows camera
 
 -- A refused camera leaves the list as it was.
@@ -74,7 +78,9 @@ pub refused-camera : (camera : Camera) (list : List Observation) → (observe-al
 refused-camera camera list h = rw (ne-eqb (refusal-of camera) 0 h) refl
 
 -- Any other has every record observed: the one at place i from the one that was there, and no other.
-pub taken-camera : (camera : Camera) (list : List Observation) → observe-all camera list .number ≡ 0 → (i : ℕ) (d : Observation) → getD (observe-all camera list .list) i (observed camera d) ≡ observed camera (getD list i d)
+pub taken-camera :
+    (camera : Camera) (list : List Observation) → observe-all camera list .number ≡ 0 → (i : ℕ) (d : Observation)
+    → getD (observe-all camera list .list) i (observed camera d) ≡ observed camera (getD list i d)
 taken-camera camera list e i d = rw (eq-eqb (refusal-of camera) 0 e) (List·getD-map (observed camera) list i d)
 
 -- The list keeps its length, whatever the camera.
@@ -105,17 +111,23 @@ unfolding observed
 only-pixel-read camera o o' e = ap (λ (p : Pixel). beside p (told (undistort camera p))) e
 
 -- Where `undistort` answers, the record has the number 0, the point and the flag.
-pub answered-record : (camera : Camera) (o : Observation) (s : Settled) → undistort camera (o .pixel) ≡ At s → observed camera o ≡ record { pixel = o .pixel; answer = s .point; flag = s .flag; number = 0 }
+pub answered-record :
+    (camera : Camera) (o : Observation) (s : Settled) → undistort camera (o .pixel) ≡ At s
+    → observed camera o ≡ record { pixel = o .pixel; answer = s .point; flag = s .flag; number = 0 }
 unfolding observed
 answered-record camera o s e = ap (λ (u : Undistorted). beside (o .pixel) (told u)) e
 
 -- Where it refuses, the record has the refusal's number, zeros, and the flag no.
-pub refused-record : (camera : Camera) (o : Observation) (r : Refusal) → undistort camera (o .pixel) ≡ Refused r → observed camera o ≡ record { pixel = o .pixel; answer = record { 0 = zeros; 1 = zeros }; flag = false; number = number r }
+pub refused-record :
+    (camera : Camera) (o : Observation) (r : Refusal) → undistort camera (o .pixel) ≡ Refused r
+    → observed camera o ≡ record { pixel = o .pixel; answer = record { 0 = zeros; 1 = zeros }; flag = false; number = number r }
 unfolding observed
 refused-record camera o r e = ap (λ (u : Undistorted). beside (o .pixel) (told u)) e
 
 -- A record with another number than 0 has zeros for its answer, and the flag no.
-pub blank-unless-0 : (camera : Camera) (o : Observation) → (observed camera o .number ≡ 0 → ⊥) → (observed camera o .answer ≡ record { 0 = zeros; 1 = zeros }) × (observed camera o .flag ≡ false)
+pub blank-unless-0 :
+    (camera : Camera) (o : Observation) → (observed camera o .number ≡ 0 → ⊥)
+    → (observed camera o .answer ≡ record { 0 = zeros; 1 = zeros }) × (observed camera o .flag ≡ false)
 unfolding observed
 blank-unless-0 camera o = go (undistort camera (o .pixel))
   where

@@ -52,7 +52,13 @@ module _ {X : Type 0} (p : Plan X) (sound : Sound p) where
     none-done : Built p cells 0 (fresh cells)
     none-done =
         let z : min 0 (doable p) ≡ 0 = omega arith in
-        record { progress = start-along ∙ ap (progress-of (p .sweep)) (sym z); as-long = refl; cells-hold = λ c h. absurd (omega (arith, h)); untouched = λ k d h. refl }
+        record {
+          progress =
+              start-along ∙ ap (progress-of (p .sweep)) (sym z);
+          as-long = refl;
+          cells-hold = λ c h. absurd (omega (arith, h));
+          untouched = λ k d h. refl;
+        }
 
     -- Demand 3 of the definition: one turn of n units, from a fresh record on.
     pub as-defined : length cells ≡ 2 * (p .sweep .width * p .sweep .height) → (n : ℕ) → Built p cells n (end n)
@@ -63,7 +69,9 @@ module _ {X : Type 0} (p : Plan X) (sound : Sound p) where
         record {
           progress = a ∙ ap (progress-of (p .sweep)) (counted.units-done p (sound .refusals) n (fresh cells) refl start-along);
           as-long = k .as-long;
-          cells-hold = λ c m. subst (λ (r : Region). Holding p r (end n .cells) c) (ap (λ (x : Progress). x .region) a ∙ region-is p (end n .at .done) (omega (arith, m))) (h .each c (omega arith) m);
+          cells-hold =
+              λ c m. subst (λ (r : Region). Holding p r (end n .cells) c)
+              (ap (λ (x : Progress). x .region) a ∙ region-is p (end n .at .done) (omega (arith, m))) (h .each c (omega arith) m);
           untouched = λ j d m. k .behind j d m;
         }
 
@@ -97,7 +105,9 @@ module _ {X : Type 0} (p : Plan X) (sound : Sound p) where
 
   module _ (opens : p .sweep .opens nowhere ≡ Taken) where
     stays-open : (s : State X) → Good p s → judged p s ≡ Taken
-    stays-open s g = good-admitted p sound s g (sound .steady .alike (s .at .region) nowhere (all-four (s .at .region) (g .region)) (all-four nowhere nowhere-finite) ∙ opens)
+    stays-open s g =
+        good-admitted p sound s g (sound .steady .alike (s .at .region) nowhere
+        (all-four (s .at .region) (g .region)) (all-four nowhere nowhere-finite) ∙ opens)
 
     -- so is a fresh record, with a table of its size
     pub fresh-admitted : (cells : List X) → length cells ≡ 2 * (p .sweep .width * p .sweep .height) → judged p (fresh cells) ≡ Taken
@@ -112,15 +122,18 @@ module _ {X : Type 0} (p : Plan X) (sound : Sound p) where
     all-allowed [] s g = (refl, refl)
     all-allowed (a ∷ rest) s g =
         let k = ap (λ (t : Turn (State X)). t .state) (answer-is a s g) in
-        let i = all-allowed rest (turn (next p) a s .state) (turn-keeps p sound a s g) in
-        (ap (calls p rest) k ∙ i .0, ap₂ (λ (j : Judgement) (x : State X). decided j (λ r. 0) a + allowed p rest x) (stays-open s g) k ∙ ap (λ (n : ℕ). a + n) (i .1))
+        let i = all-allowed rest (turn (next p) a s .state) (turn-keeps p sound a s g) in (
+          ap (calls p rest) k ∙ i .0,
+          ap₂ (λ (j : Judgement) (x : State X). decided j (λ r. 0) a + allowed p rest x) (stays-open s g) k ∙ ap (λ (n : ℕ). a + n) (i .1),
+        )
 
     reached-good : (ls : List ℕ) (s : State X) → Good p s → Along p (s .at) → Good p (calls p ls s) × Along p (calls p ls s .at)
     unfolding calls
     reached-good [] s g h = (g, h)
     reached-good (a ∷ rest) s g h =
         let k = ap (λ (t : Turn (State X)). t .state) (answer-is a s g) in
-        subst (λ (t : State X). Good p (calls p rest t) × Along p (calls p rest t .at)) (sym k) (reached-good rest (turn (next p) a s .state) (turn-keeps p sound a s g) (turn-along p a s h))
+        subst (λ (t : State X). Good p (calls p rest t) × Along p (calls p rest t .at)) (sym k)
+        (reached-good rest (turn (next p) a s .state) (turn-keeps p sound a s g) (turn-along p a s h))
 
   -- calls from a fresh record on, with any allowances and any table
   pub calls-built : (cells : List X) (ls : List ℕ) → Built p cells (allowed p ls (fresh cells)) (calls p ls (fresh cells))
@@ -180,7 +193,12 @@ module _ {X : Type 0} (p : Plan X) (table : List X) (A : ℕ) (s : State X) (b :
 
   -- none of which is above the limit,
   pub built-limit : Sound p → s .at .updates ≤ p .sweep .limit * min (s .at .done) (p .sweep .samples)
-  built-limit sound = omega (arith, built-updates, sum-most (λ k. settled-at (p .sweep) k .updates) (p .sweep .limit) (min (s .at .done) (p .sweep .samples)) (λ k. go (found (p .sweep) k) refl))
+  built-limit sound =
+      omega (
+        arith,
+        built-updates,
+        sum-most (λ k. settled-at (p .sweep) k .updates) (p .sweep .limit) (min (s .at .done) (p .sweep .samples)) (λ k. go (found (p .sweep) k) refl),
+      )
     where
       go : {k : ℕ} (u : Undistorted) → found (p .sweep) k ≡ u → told u .settled .updates ≤ p .sweep .limit
       go {k} (found-at.At settled) e = sound .steady .limited (p .sweep .pixel-at k) settled e
@@ -200,8 +218,12 @@ module _
     unfolding calls
     chain [] h k p e r (done same) = (refl, e, r)
     chain (x ∷ ls) h k p e r (call from a said m post rest last more) =
-        let i = chain rest m last p (serves .plan-kept from a said m r post ∙ e) (serves .ready-kept from a said m r post) more in
-        (i .0 ∙ ap (λ (t : Turn (State X)). calls p rest (t .state)) (serves .answers from a said m r post ∙ ap (λ (q : Plan X). turn-of q a (state from)) e), i .1, i .2)
+        let i = chain rest m last p (serves .plan-kept from a said m r post ∙ e) (serves .ready-kept from a said m r post) more in (
+          i .0 ∙ ap (λ (t : Turn (State X)). calls p rest (t .state))
+              (serves .answers from a said m r post ∙ ap (λ (q : Plan X). turn-of q a (state from)) e),
+          i .1,
+          i .2,
+        )
 
     module _
         (h : H) (ready : Ready h) (sound : Sound (plan h)) (cells : List X) (start : state h ≡ fresh cells)
@@ -237,5 +259,6 @@ module _
               let c = chain ls h k (plan h) refl ready b in
               let e = serves .answers k a said m (c .2) post ∙ ap (λ (q : Plan X). turn-of q a (state k)) (c .1) in
               ap (λ (t : Turn (State X)). t .said) e
-              ∙ subst (λ (s : State X). turn-of (plan h) a s .said ≡ says-at (plan h) (s .at .done) a (turn-of (plan h) a s .state .at .done)) (sym held-at) (reached-says (plan h) sound cells taken ls a)
+              ∙ subst (λ (s : State X). turn-of (plan h) a s .said ≡ says-at (plan h) (s .at .done) a (turn-of (plan h) a s .state .at .done))
+              (sym held-at) (reached-says (plan h) sound cells taken ls a)
               ∙ ap (λ (t : Turn (State X)). says-at (plan h) (state k .at .done) a (t .state .at .done)) (sym e)

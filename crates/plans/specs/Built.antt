@@ -1,4 +1,5 @@
--- Demand 3 over any plan: what the definition says of each unit, in closed forms, and what a build owes. Definitions only.
+-- Demand 3 over any plan: what the definition says of each unit, in closed forms, and what a build owes. Definitions
+-- only.
 use mathlib.Core.Path.{_≡_}
 use mathlib.Core.Bool.{cond}
 use mathlib.Core.List.{List}
@@ -84,8 +85,8 @@ module _ {X : Type 0} (p : Plan X) where
   abbrev pub doable : ℕ
   doable = before-refused unit-number 0 (all-units (p .sweep))
 
-  -- what a turn says that starts with `from` units done and ends with `done`: finished at T; refused with the next unit's
-  -- number, where it has one and the allowance had room for it; else running
+  -- what a turn says that starts with `from` units done and ends with `done`: finished at T; refused with the next
+  -- unit's number, where it has one and the allowance had room for it; else running
   unfoldable pub says-at : ℕ → ℕ → ℕ → Said
   says-at from allowance done =
       cond (eqb done (all-units (p .sweep))) finished
@@ -101,8 +102,8 @@ module _ {X : Type 0} (p : Plan X) where
     pub its : cell-in p region c ≡ numbers first second
     pub there : (d : X) → (getD cells (2 * c) d ≡ first) × (getD cells (2 * c + 1) d ≡ second)
 
-  -- With A units allowed from a fresh record and this table on: the record is that of min(A, F) units, the cells done hold
-  -- the definition's numbers, and all else is as it was.
+  -- With A units allowed from a fresh record and this table on: the record is that of min(A, F) units, the cells done
+  -- hold the definition's numbers, and all else is as it was.
   pub record Built (cells : List X) (A : ℕ) (s : State X) : Type 0 where
     pub progress : s .at ≡ progress-of (p .sweep) (min A doable)
     pub as-long : length (s .cells) ≡ length cells

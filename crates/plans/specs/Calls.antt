@@ -1,5 +1,5 @@
--- Calls one after the other: which records a plan takes, what a call answers, and a build by any function whose contract
--- says so. Definitions only.
+-- Calls one after the other: which records a plan takes, what a call answers, and a build by any function whose
+-- contract says so. Definitions only.
 use mathlib.Core.Path.{_≡_}
 use mathlib.Core.Bool.{Bool, true, cond, _&&_, _||_}
 use mathlib.Core.List.{List, [], _∷_}
@@ -28,8 +28,8 @@ module _ (sweep : Sweep) where
   abbrev pub samples-done : Progress → ℕ
   samples-done at = min (at .done) (sweep .samples)
 
-  -- what every build keeps: no more units than there are, no more updates than its samples can have made, edges that are
-  -- numbers, and behind the border a region with increments above 0
+  -- what every build keeps: no more units than there are, no more updates than its samples can have made, edges that
+  -- are numbers, and behind the border a region with increments above 0
   unfoldable pub possible : Progress → Bool
   possible at =
       leb (at .done) (all-units sweep)
@@ -97,9 +97,11 @@ pub record Sound {X : Type 0} (p : Plan X) : Type 0 where
 -- ---- calls of a function, by its contract
 
 -- H is what its caller holds from call to call; `Post h a said k`: the contract permits that, called with h and the
--- allowance a, it says so and leaves k. It serves a plan that can be read off h, while h is ready: what it says and leaves
--- is `turn-of` that plan, and the plan and the readiness stay.
-pub record Serves {X : Type 0} (H : Type 0) (Ready : H → Type 0) (plan : H → Plan X) (state : H → State X) (Post : H → ℕ → Said → H → Type 0) : Type 0 where
+-- allowance a, it says so and leaves k. It serves a plan that can be read off h, while h is ready: what it says and
+-- leaves is `turn-of` that plan, and the plan and the readiness stay.
+pub record Serves {X :
+    Type 0} (H : Type 0) (Ready : H → Type 0) (plan : H → Plan X) (state : H → State X) (Post : H → ℕ → Said → H
+    → Type 0) : Type 0 where
   pub answers :
       (h : H) (a : ℕ) (said : Said) (k : H) → Ready h → Post h a said k
       → record { state = state k; said = said } ≡ turn-of (plan h) a (state h)

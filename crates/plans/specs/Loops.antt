@@ -1,5 +1,5 @@
--- What the two loops of a turn come to: a run of border units, and a run of cells that fills the part of the table it is
--- lent. Definitions only.
+-- What the two loops of a turn come to: a run of border units, and a run of cells that fills the part of the table it
+-- is lent. Definitions only.
 use mathlib.Core.Path.{_≡_}
 use mathlib.Core.Bool.{cond}
 use mathlib.Core.List.{List}
@@ -29,7 +29,9 @@ filled cell width first f = put (cell ((first + f .done) % width) ((first + f .d
 -- what a run of so many cells makes of the table: nothing of what is ahead of it, and behind that what the cells hold;
 -- `done` of them, and what it met
 pub record Lent
-    {X : Type 0} (cell : ℕ → ℕ → Content X) (width first count : ℕ) (before : List X) (done : ℕ) (said : Said) (after : List X)
+    {X :
+    Type 0} (cell : ℕ → ℕ
+    → Content X) (width first count : ℕ) (before : List X) (done : ℕ) (said : Said) (after : List X)
     : Type 0 where
   pub untouched : take (2 * first) after ≡ take (2 * first) before
   pub part :

@@ -1,5 +1,5 @@
--- A table's plan, and what the next unit of a build makes of a state: the border's samples first, then the cells, row by
--- row. X is what a cell holds two of. Definitions only.
+-- A table's plan, and what the next unit of a build makes of a state: the border's samples first, then the cells, row
+-- by row. X is what a cell holds two of. Definitions only.
 use mathlib.Core.Bool.{Bool, cond, not, _&&_}
 use mathlib.Core.List.{List}
 use Prim.Native.Nat.{ℕ, _+_, _-_, _*_, _/_, _%_}

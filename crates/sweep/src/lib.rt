@@ -87,7 +87,10 @@ fn units(
     from: Progress,
     count: usize,
 ) -> Stop
-    requires { ⌜ (all ≡ samples width height) × (all < 2 ^ 32) × (count ≤ all - from .done) × (from .updates + 50 * count < 2 ^ 32) ⌝ }
+    requires { ⌜
+        (all ≡ samples width height) × (all < 2 ^ 32) × (count ≤ all - from .done)
+        × (from .updates + 50 * count < 2 ^ 32)
+        ⌝ }
     ensures { λ r. ⌜ told-stop r ≡ met (turn (swept (sweep-of camera width height)) count from) ⌝ }
 {
     let mut at = from;

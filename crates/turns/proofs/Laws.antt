@@ -78,9 +78,12 @@ module _ {S : Type 0} (next : S → Next S) where
   pub units-cut : (a b : ℕ) (s : S) → units next a s ≡ min a (units next (a + b) s)
   unfolding units
   units-cut zero b s = omega arith
-  units-cut (suc a) b s = let e : suc a + b ≡ suc (a + b) = omega arith in go (next s) (λ t. units-cut a b t) ∙ ap (λ (n : ℕ). min (suc a) (units next n s)) (sym e)
+  units-cut (suc a) b s =
+      let e : suc a + b ≡ suc (a + b) = omega arith in go (next s) (λ t. units-cut a b t) ∙ ap (λ (n : ℕ). min (suc a) (units next n s)) (sym e)
     where
-      go : (n : Next S) → ((t : S) → units next a t ≡ min a (units next (a + b) t)) → counted n (λ t. units next a t) ≡ min (suc a) (counted n (λ t. units next (a + b) t))
+      go :
+          (n : Next S) → ((t : S) → units next a t ≡ min a (units next (a + b) t))
+          → counted n (λ t. units next a t) ≡ min (suc a) (counted n (λ t. units next (a + b) t))
       go over h = omega arith
       go (refuses r) h = omega arith
       go (does t) h = omega (arith, h t)
@@ -205,7 +208,8 @@ module _ {S : Type 0} (next : S → Next S) where
   apart-zero b s (refuses r) = refl
   apart-zero b s (does t) = refl
 
-  apart-at : (a b : ℕ) (s : S) (n : Next S) → next s ≡ n → ((t : S) → turn next (a + b) t ≡ onward (turn next a t .state) (turn next a t .said) (λ t. turn next b t))
+  apart-at :
+      (a b : ℕ) (s : S) (n : Next S) → next s ≡ n → ((t : S) → turn next (a + b) t ≡ onward (turn next a t .state) (turn next a t .said) (λ t. turn next b t))
       → spent n s (λ t. turn next (a + b) t) ≡ onward (spent n s (λ t. turn next a t) .state) (spent n s (λ t. turn next a t) .said) (λ t. turn next b t)
   apart-at a b s over e h = sym (over-turn b s e)
   apart-at a b s (refuses r) e h = refl
@@ -224,10 +228,14 @@ module _ {S : Type 0} (next : S → Next S) where
   -- what the first run met decides
   module _ (a b : ℕ) (s t : S) where
     pub first-refused : (r : ℕ) → met (turn next a s) ≡ record { state = t; said = refused r } → turn next (a + b) s ≡ record { state = t; said = refused r }
-    first-refused r e = apart a b s ∙ onward-met (turn next a s .state) (turn next a s .said) (λ t. turn next b t) ∙ ap (λ (m : Turn S). onward (m .state) (m .said) (λ t. turn next b t)) e
+    first-refused r e =
+        apart a b s ∙ onward-met (turn next a s .state) (turn next a s .said) (λ t. turn next b t)
+        ∙ ap (λ (m : Turn S). onward (m .state) (m .said) (λ t. turn next b t)) e
 
     pub first-running : met (turn next a s) ≡ record { state = t; said = running } → turn next (a + b) s ≡ turn next b t
-    first-running e = apart a b s ∙ onward-met (turn next a s .state) (turn next a s .said) (λ t. turn next b t) ∙ ap (λ (m : Turn S). onward (m .state) (m .said) (λ t. turn next b t)) e
+    first-running e =
+        apart a b s ∙ onward-met (turn next a s .state) (turn next a s .said) (λ t. turn next b t)
+        ∙ ap (λ (m : Turn S). onward (m .state) (m .said) (λ t. turn next b t)) e
 
   -- units that always go on until they refuse: where nothing refused, all were done
   pub all-done :
@@ -238,7 +246,8 @@ module _ {S : Type 0} (next : S → Next S) where
     where
       go : (x : Next S) → next s ≡ x → ((u : S) → met (turn next n u) ≡ record { state = t; said = running } → size t ≡ size u + n) → size t ≡ size s + suc n
       go over f h = absurd (never s f)
-      go (refuses r) f h = let q : refused r ≡ running = ap (λ (m : Turn S). m .said) (sym (refused-at n s r f) ∙ e) in let z : _≡_ {A = ℕ} 0 1 = cc in absurd (omega arith)
+      go (refuses r) f h =
+          let q : refused r ≡ running = ap (λ (m : Turn S). m .said) (sym (refused-at n s r f) ∙ e) in let z : _≡_ {A = ℕ} 0 1 = cc in absurd (omega arith)
       go (does u) f h = omega (arith, one s u f, h u (sym (done-at n s u f) ∙ e))
 
   -- a turn does no more units than it may
@@ -262,5 +271,6 @@ module _ {S : Type 0} (next : S → Next S) where
     where
       go : (x : Next S) → next s ≡ x → ((u : S) → size (run n u) ≡ size u + units next n u) → size (run (suc n) s) ≡ size s + units next (suc n) s
       go over f h = omega (arith, ap size (at-end (suc n) s f), count-zero over s f (suc n) (λ t e. let z : _≡_ {A = ℕ} 0 1 = cc in omega arith))
-      go (refuses r) f h = omega (arith, ap size (at-refusal (suc n) s r f), count-zero (refuses r) s f (suc n) (λ t e. let z : _≡_ {A = ℕ} 0 1 = cc in omega arith))
+      go (refuses r) f h =
+          omega (arith, ap size (at-refusal (suc n) s r f), count-zero (refuses r) s f (suc n) (λ t e. let z : _≡_ {A = ℕ} 0 1 = cc in omega arith))
       go (does u) f h = omega (arith, ap size (one-unit n s u f), one s u f, h u, count-one n s u f)

@@ -1,4 +1,5 @@
--- Work done unit by unit, in turns, with no word of what a unit is: only a state, and what the next unit makes of it. Definitions only.
+-- Work done unit by unit, in turns, with no word of what a unit is: only a state, and what the next unit makes of it.
+-- Definitions only.
 use mathlib.Core.Bool.{Bool, true, false}
 use mathlib.Core.List.{List, [], _∷_}
 use Prim.Native.Nat.{ℕ, zero, suc, _+_}
@@ -19,7 +20,8 @@ pub record Turn (S : Type 0) : Type 0 where
   pub state : S
   pub said : Said
 
--- ---- a turn: units are done until the allowance is spent, no unit is left, or one refuses. A refusal is met only while there is an allowance for it.
+-- ---- a turn: units are done until the allowance is spent, no unit is left, or one refuses. A refusal is met only
+-- while there is an allowance for it.
 
 -- how it ends before such a next unit, by whether its allowance reaches that unit
 abbrev pub ended : {S : Type 0} → Next S → Bool → Said
