@@ -6,28 +6,28 @@ import re
 import sys
 
 TABLE = [
-    ("what is owed", "plans", "Built", ["Built", "Holding", "progress-of", "doable", "unit-number", "border-number",
+    ("what is owed, of a job", "distortion_table", "specs/Held", ["BuiltJob", "Held", "held-plan", "held-state"]),
+    ("what is owed", "plans", "specs/Built", ["Built", "progress-of", "doable", "unit-number", "border-number",
                                         "sample-number", "content-number", "content-at", "region-of", "edges-below",
                                         "settled-at", "before-refused", "sum-below"]),
-    ("a sweep, a plan, a state", "plans", "Plan", ["Content", "Sweep", "Plan", "State", "nowhere", "begun", "fresh", "all-units",
+    ("a sweep, a plan, a state", "plans", "specs/Plan", ["Content", "Sweep", "Plan", "State", "nowhere", "begun", "fresh", "all-units",
                                                    "found", "too-strict", "cells-done", "cell-in"]),
-    ("calls, and A", "plans", "Calls", ["samples-done", "possible", "sound", "admitted", "judged", "turn-of", "allowed", "Build"]),
-    ("what a turn does between two calls", "plans", "Plan", ["sampled", "with-region", "with-done", "closed", "after-sample",
-                                                            "swept", "beside", "put-in", "cell-unit", "next"]),
-    ("the same, of any units", "turns", "Turns", ["Next", "Said", "Turn", "ended", "spent", "turn"]),
-    ("our table's plan", "table_plans", "Tables", ["Engine", "engine-of", "Border", "corners-twice", "opens-for", "sweep-by",
+    ("calls, and A", "plans", "specs/Calls", ["samples-done", "possible", "sound", "admitted", "judged", "Build", "allowed"]),
+    ("a call, by the contract", "distortion_table", "proofs/Calls", ["Called"]),
+    ("a call, by the contract of `lens_turn`", "lens_c", "proofs/Laws", ["Turned"]),
+    ("what firmware holds", "turn_bytes", "specs/Calls", ["HeldBytes", "bytes-plan", "bytes-state", "bytes-said"]),
+    ("our table's plan", "table_plans", "specs/Tables", ["Engine", "engine-of", "Border", "corners-twice", "opens-for", "sweep-by",
                                                   "table-by", "sweep-of", "f32-table"]),
-    ("a cell", "cell", "Cell", ["cell-point", "f32", "of-pixel", "cell-by"]),
-    ("the border", "border", "Border", ["before", "outside", "pixel", "pairs", "top-and-bottom", "left-and-right", "border",
+    ("a cell", "cell", "specs/Cell", ["cell-point", "f32", "of-pixel", "cell-by"]),
+    ("the border", "border", "specs/Border", ["before", "outside", "pixel", "pairs", "top-and-bottom", "left-and-right", "border",
                                         "samples", "border-at"]),
-    ("edges and region", "border", "Edges", ["lowered", "raised", "widened", "edges-after", "mid", "doubled"]),
-    ("what is held", "distortion_table", "Held", ["Held", "held-state"]),
+    ("edges and region", "border", "specs/Edges", ["lowered", "raised", "widened", "edges-after", "two", "mid", "doubled"]),
 ]
 
 
 def lines_of(crate, name, wanted):
     """The first and last line of each definition, comments above it aside."""
-    text = open(f"crates/{crate}/specs/{name}.antt", encoding="utf-8").read().split("\n")
+    text = open(f"crates/{crate}/{name}.antt", encoding="utf-8").read().split("\n")
     found = {}
     for i, line in enumerate(text):
         m = re.match(r"( *)(?:abbrev |unfoldable )?pub (?:record |data )?([^\s:]+)", line)
@@ -51,7 +51,7 @@ def table():
     out = ["| | File | Definitions, with their lines |", "|---|---|---|"]
     for what, crate, name, wanted in TABLE:
         defs = ", ".join(f"`{w}` {a}-{b}" if a != b else f"`{w}` {a}" for w, a, b in lines_of(crate, name, wanted))
-        out.append(f"| {what} | {crate} specs/{name} | {defs} |")
+        out.append(f"| {what} | {crate} {name} | {defs} |")
     return "\n".join(out)
 
 

@@ -1,7 +1,7 @@
 -- Calls of `turn`, by its contract, serve the plan of the record's table. Assumes nothing.
-use mathlib.Core.Path.{_≡_, refl, sym, ap, _∙_}
+use mathlib.Core.Path.{_≡_, refl, sym, ap, ap₂, _∙_}
 use mathlib.Core.Bool.{Bool, true, false}
-use mathlib.Core.List.{List}
+use mathlib.Core.List.{List, [], _∷_}
 use Prim.Native.Nat.{ℕ, _*_, _≤_}
 use native.Mathlib.Omega.{arith}
 use denote.Ref.{now}
@@ -10,15 +10,16 @@ use lib.Dec.{eqb}
 use lib.Ieee.{Float}
 use lib.ListN.{length}
 use Rattle.lens.specs.Judgement.{decided}
+use Rattle.lens.specs.Refusal.{number}
 use Rattle.lens.specs.declared.Judgement.{Judgement}
 use Rattle.lens.specs.declared.Judgement.the-variants.{Taken, Refused}
 use Rattle.region.specs.Size.{Sized}
 use Rattle.region.proofs.Size.{bounded}
 use Rattle.camera.specs.declared.Camera.{Camera}
 use Rattle.border.specs.Border.{all-units}
-use Rattle.turns.specs.Turns.{Said, Turn, turn}
+use Rattle.turns.specs.Turns.{Said, refused, Turn, turn}
 use Rattle.plans.specs.Plan.{Plan, State, nowhere, fresh, next}
-use Rattle.plans.specs.Calls.{judged, Serves}
+use Rattle.plans.specs.Calls.{judged, Serves, Build, done, call}
 use Rattle.plans.specs.Calls as plan
 use Rattle.plans.proofs.Laws as plans
 use Rattle.table_plans.specs.Tables.{opens-for, f32-table}
@@ -55,6 +56,23 @@ turn-serves = record { answers = answers; plan-kept = plan-kept; ready-kept = λ
     plan-kept : (h : Held Float) (a : ℕ) (said : Said) (k : Held Float) → Unit {0} → Called h a said k → held-plan k ≡ held-plan h
     plan-kept h a said k t (called κ args r s post) = ap (λ (x : Answer Float). plan-of (x .job)) post
 
+-- camera and size are kept all along a build
+pub record Kept (h k : Held Float) : Type 0 where
+  pub camera : k .job .camera ≡ h .job .camera
+  pub width : k .job .width ≡ h .job .width
+  pub height : k .job .height ≡ h .job .height
+
+call-keeps : (h : Held Float) (a : ℕ) (said : Said) (k : Held Float) → Called h a said k → Kept h k
+call-keeps h a said k (called κ args r s post) =
+    record { camera = ap (λ (x : Answer Float). x .job .camera) post; width = ap (λ (x : Answer Float). x .job .width) post; height = ap (λ (x : Answer Float). x .job .height) post }
+
+pub build-keeps : (ls : List ℕ) (h k : Held Float) → Build (Held Float) Called ls h k → Kept h k
+build-keeps [] h k (done same) = record { camera = refl; width = refl; height = refl }
+build-keeps (x ∷ ls) h k (call from a said m post rest last more) =
+    let c = call-keeps from a said m post in
+    let d = build-keeps rest m last more in
+    record { camera = d .camera ∙ c .camera; width = d .width ∙ c .width; height = d .height ∙ c .height }
+
 -- ---- a fresh record that is taken
 
 module _ (camera : Camera) (width height : ℕ) where
@@ -76,3 +94,20 @@ module _ (camera : Camera) (width height : ℕ) where
 
     pub answer-is : (a : ℕ) → turn-of (fresh-job camera width height) cells a ≡ answer (fresh-job camera width height) (turn (next table) a (fresh cells))
     answer-is a = ap (answer (fresh-job camera width height)) (plans.answer-is table (f32-sound camera width height) opens a (fresh cells) (plans.start-good table (f32-sound camera width height) cells long))
+
+-- ---- two things held
+
+-- the same camera, size and state are the same record and table
+pub same-held :
+    (h k : Held Float) → h .job .camera ≡ k .job .camera → h .job .width ≡ k .job .width → h .job .height ≡ k .job .height → held-state h ≡ held-state k → h ≡ k
+same-held h k c w v s =
+    ap (λ (x : Camera). record { job = record { camera = x; width = h .job .width; height = h .job .height; at = h .job .at }; cells = h .cells }) c
+    ∙ ap₂ (λ (x y : ℕ). record { job = record { camera = k .job .camera; width = x; height = y; at = h .job .at }; cells = h .cells }) w v
+    ∙ ap (λ (x : State Float). record { job = record { camera = k .job .camera; width = k .job .width; height = k .job .height; at = x .at }; cells = x .cells }) s
+
+pub same-table-of : {c d : Camera} {w x h y : ℕ} → c ≡ d → w ≡ x → h ≡ y → f32-table c w h ≡ f32-table d x y
+same-table-of {c} {d} {w} {x} {h} {y} e f g = ap (λ (z : Camera). f32-table z w h) e ∙ ap₂ (f32-table d) f g
+
+-- a call that is admitted is a turn
+pub taken-turn : (p : Plan Float) (a : ℕ) (s : State Float) → judged p s ≡ Taken → plan.turn-of p a s ≡ turn (next p) a s
+taken-turn p a s e = ap (λ (j : Judgement). decided j (λ r. record { state = s; said = refused (number r) }) (turn (next p) a s)) e

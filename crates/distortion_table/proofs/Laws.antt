@@ -1,6 +1,7 @@
 -- What a caller may rely on, of the definitions of specs/ and of the contracts of src/. Assumes nothing.
 use mathlib.Core.Path.{_≡_, refl, sym, ap, _∙_, subst}
-use mathlib.Core.List.{List}
+use mathlib.Core.List.{List, _∷_}
+use mathlib.Core.Bool.{true}
 use Prim.Native.Nat.{ℕ, _*_, _≤_, min}
 use native.Mathlib.Omega.{arith}
 use denote.Ref.{now}
@@ -9,27 +10,30 @@ use lib.ListN.{length}
 use Rattle.exact.specs.Determined.{DeterminedWith}
 use Rattle.lens.specs.declared.Judgement.the-variants.{Taken}
 use Rattle.lens.proofs.Laws.{number-one-to-one}
+use Rattle.camera.specs.Camera.{limit}
 use Rattle.camera.specs.declared.Camera.{Camera}
-use Rattle.border.specs.Border.{all-units}
-use Rattle.turns.specs.Turns.{Said, running, turn, total}
-use Rattle.plans.specs.Built.{doable, says-at, Built}
-use Rattle.plans.specs.Calls.{judged, allowed, Build}
-use Rattle.plans.specs.Plan.{State, fresh, next}
+use Rattle.camera.proofs.Laws.{updates-limit-judged}
+use Rattle.border.specs.Border.{all-units, border-at}
+use Rattle.turns.specs.Turns.{Said, running, Turn, turn, total}
+use Rattle.plans.specs.Built.{settled-at, doable, says-at, Built}
+use Rattle.plans.specs.Calls.{judged, said-number, allowed, Build}
+use Rattle.plans.specs.Plan.{Plan, State, fresh, next}
 use Rattle.plans.proofs.Ends as ends
 use Rattle.plans.proofs.Laws as plans
 use Rattle.plans.proofs.Same.{built-same}
-use Rattle.table_plans.specs.Tables.{f32-table}
+use Rattle.table_plans.specs.Tables.{sweep-of, f32-table, one-of, unit-numbers}
+use Rattle.table_plans.proofs.Numbers.{said-known, turn-known}
 use Rattle.table_plans.proofs.Sound.{opened, f32-sound}
 use Rattle.job.specs.Job.{fresh-job}
 use Rattle.job.specs.Job as job
 use Rattle.job.specs.declared.Job.{Job}
 use Rattle.job.specs.declared.Started.the-variants as begun
 use Rattle.distortion_table.specs.Answer.{Answer, answer, enough, whole-table, told-status, told-turned}
-use Rattle.distortion_table.specs.Held.{Held, kept, held-plan, held-state}
+use Rattle.distortion_table.specs.Held.{Held, kept, held-plan, held-state, BuiltJob}
 use Rattle.distortion_table.specs.declared.Status.{Status}
 use Rattle.distortion_table.specs.declared.Status.the-variants.{Finished, Refused, Running}
 use Rattle.distortion_table.specs.declared.Turned.{Turned}
-use Rattle.distortion_table.proofs.Calls.{largest, Called, turn-serves, fresh-opens, start-admitted, answer-is}
+use Rattle.distortion_table.proofs.Calls.{largest, Called, turn-serves, build-keeps, same-held, same-table-of, taken-turn, fresh-opens, start-admitted, answer-is}
 use Rattle.distortion_table.proofs.turn.Reads as turn-contract
 use Rattle.distortion_table.proofs.distort_table.Reads as distort-table-contract
 
@@ -37,31 +41,50 @@ use Rattle.distortion_table.proofs.distort_table.Reads as distort-table
 
 module _ (camera : Camera) (width height : ℕ) (table : List Float) where
   -- where a build starts: a fresh record, and the caller's table
-  abbrev first : Held Float
+  abbrev pub first : Held Float
   first = record { job = fresh-job camera width height; cells = table }
 
   -- Demand 3. Start from a fresh job of any camera and size, with any table, and call `turn` with any allowances, 0 among them,
   -- each time with the record and the table that the call before handed back. Let A be the sum of the allowances of those calls
   -- that are admitted, and F the number of units before the first that the definition refuses, or of all units. Then exactly
-  -- min(A, F) units are done; the record is the one that the definition has after so many, its updates the sum of the
-  -- definition's over the border samples done; each cell done holds the definition's numbers; and the rest of the table is
-  -- untouched.
+  -- min(A, F) units are done; the record is the one that the definition has after so many, of the same camera and size, its
+  -- updates the sum of the definition's over the border samples done; each cell done holds the definition's numbers; and the
+  -- rest of the table is untouched.
   pub built-in-turns :
-      (allowances : List ℕ) (last : Held Float) → Build (Held Float) Called allowances first last
-      → Built (f32-table camera width height) table (allowed (f32-table camera width height) allowances (fresh table)) (held-state last)
-  built-in-turns allowances last b =
-      plans.built (Held Float) (λ h. Unit {0}) held-plan held-state Called turn-serves first tt (f32-sound camera width height) table refl allowances last b
+      (allowances : List ℕ) (last : Held Float) (calls : Build (Held Float) Called allowances first last)
+      → BuiltJob camera width height table (allowed held-plan held-state allowances first last calls) last
+  built-in-turns allowances last calls =
+      let k = build-keeps allowances first last calls in
+      record {
+        same-camera = k .camera;
+        same-width = k .width;
+        same-height = k .height;
+        built =
+            plans.built (Held Float) (λ h. Unit {0}) held-plan held-state Called turn-serves first tt (f32-sound camera width height)
+            table refl allowances last calls;
+      }
+
+  -- No sample of it has more updates than its model's limit: 0 for affine and eucm, 20 for kb, 50 for bc.
+  pub within-limit : (n : ℕ) → settled-at (sweep-of camera width height) n .updates ≤ limit camera
+  within-limit n = updates-limit-judged camera (border-at width height n)
 
   -- However the work is split: two builds that are allowed as much end with the same record and the same table.
   pub any-split :
-      (ls ms : List ℕ) (last other : Held Float) → Build (Held Float) Called ls first last → Build (Held Float) Called ms first other
-      → allowed (f32-table camera width height) ls (fresh table) ≡ allowed (f32-table camera width height) ms (fresh table)
-      → held-state last ≡ held-state other
-  any-split ls ms last other b c e =
-      built-same (f32-table camera width height) table _ _ (held-state last) (held-state other) (built-in-turns ls last b) (built-in-turns ms other c)
-      (ap (λ (A : ℕ). min A (doable (f32-table camera width height))) e)
+      (ls ms : List ℕ) (last other : Held Float)
+      (calls : Build (Held Float) Called ls first last) (others : Build (Held Float) Called ms first other)
+      → allowed held-plan held-state ls first last calls ≡ allowed held-plan held-state ms first other others → last ≡ other
+  any-split ls ms last other calls others e =
+      let b = built-in-turns ls last calls in
+      let c = built-in-turns ms other others in
+      same-held last other (b .same-camera ∙ sym (c .same-camera)) (b .same-width ∙ sym (c .same-width)) (b .same-height ∙ sym (c .same-height))
+      (built-same (f32-table camera width height) table _ _ (held-state last) (held-state other) (b .built) (c .built)
+      (ap (λ (A : ℕ). min A (doable (f32-table camera width height))) e))
 
 -- ---- a build from a record that `fresh` handed out, with a table of its size
+
+-- Such a record is the fresh one.
+pub as-begun : (camera : Camera) (width height : ℕ) (start : Job) → job.fresh camera width height ≡ begun.With start → start ≡ fresh-job camera width height
+as-begun camera width height start begin = fresh-opens camera width height start begin .1
 
 module _
     (camera : Camera) (width height : ℕ) (start : Job) (begin : job.fresh camera width height ≡ begun.With start)
@@ -70,31 +93,41 @@ module _
     takes : judged (f32-table camera width height) (fresh table) ≡ Taken
     takes = start-admitted camera width height (fresh-opens camera width height start begin .0) table long
 
-    module _ (allowances : List ℕ) (last : Held Float) (b : Build (Held Float) Called allowances (first camera width height table) last) where
-      -- It is handed out as the fresh record is defined.
-      pub as-begun : start ≡ fresh-job camera width height
-      as-begun = fresh-opens camera width height start begin .1
+    module _
+        (allowances : List ℕ) (last : Held Float) (calls : Build (Held Float) Called allowances (first camera width height table) last)
+      where
+        -- Every call is admitted,
+        pub build-admitted : judged (f32-table camera width height) (held-state last) ≡ Taken
+        build-admitted =
+            plans.built-admitted (Held Float) (λ h. Unit {0}) held-plan held-state Called turn-serves (first camera width height table) tt
+            (f32-sound camera width height) table refl allowances last calls takes
 
-      -- No call is refused with 4, 5, 6, 7 or 13,
-      pub build-admitted : judged (f32-table camera width height) (held-state last) ≡ Taken
-      build-admitted =
-          plans.built-admitted (Held Float) (λ h. Unit {0}) held-plan held-state Called turn-serves (first camera width height table) tt
-          (f32-sound camera width height) table refl allowances last b takes
+        -- so that none is refused with 4, 5, 6, 7 or 13, but with 8, 10, 11 or 12 if at all,
+        pub build-refusals :
+            (a : ℕ) (said : Said) (then : Held Float) → Called last a said then → one-of (said-number said) (0 ∷ unit-numbers) ≡ true
+        build-refusals a said then c =
+            let e = build-keeps allowances (first camera width height table) last calls in
+            let p = held-plan last in
+            let same : p ≡ f32-table camera width height = same-table-of (e .camera) (e .width) (e .height) in
+            let t = turn-serves .answers last a said then tt c in
+            let j : judged p (held-state last) ≡ Taken = ap (λ (q : Plan Float). judged q (held-state last)) same ∙ build-admitted in
+            ap (λ (x : Turn (State Float)). one-of (said-number (x .said)) (0 ∷ unit-numbers)) (t ∙ taken-turn p a (held-state last) j)
+            ∙ said-known (turn (next p) a (held-state last) .said) (turn-known (last .job .camera) (last .job .width) (last .job .height) a (held-state last))
 
-      -- so that A is the sum of all allowances.
-      pub build-allowed : allowed (f32-table camera width height) allowances (fresh table) ≡ total allowances
-      build-allowed =
-          plans.built-allowed (Held Float) (λ h. Unit {0}) held-plan held-state Called turn-serves (first camera width height table) tt
-          (f32-sound camera width height) table refl allowances last b takes
+        -- and A is the sum of all allowances.
+        pub build-allowed : allowed held-plan held-state allowances (first camera width height table) last calls ≡ total allowances
+        build-allowed =
+            plans.built-allowed (Held Float) (λ h. Unit {0}) held-plan held-state Called turn-serves (first camera width height table) tt
+            (f32-sound camera width height) table refl allowances last calls takes
 
-      -- The next call says finished exactly if T units are done after it, refused with the number of the unit behind those done
-      -- exactly if that unit has one and the allowance had room for it, and running otherwise.
-      pub build-says :
-          (a : ℕ) (said : Said) (then : Held Float) → Called last a said then
-          → said ≡ says-at (f32-table camera width height) (last .job .at .done) a (then .job .at .done)
-      build-says =
-          plans.built-says (Held Float) (λ h. Unit {0}) held-plan held-state Called turn-serves (first camera width height table) tt
-          (f32-sound camera width height) table refl allowances last b takes
+        -- The next call says finished exactly if T units are done after it, refused with the number of the unit behind those
+        -- done exactly if that unit has one and the allowance had room for it, and running otherwise.
+        pub build-says :
+            (a : ℕ) (said : Said) (then : Held Float) → Called last a said then
+            → said ≡ says-at (f32-table camera width height) (last .job .at .done) a (then .job .at .done)
+        build-says =
+            plans.built-says (Held Float) (λ h. Unit {0}) held-plan held-state Called turn-serves (first camera width height table) tt
+            (f32-sound camera width height) table refl allowances last calls takes
 
     at-once-is :
         whole-table camera width height table
@@ -110,17 +143,18 @@ module _
     -- The table at once is that of any build that is allowed T units or more: the same record, the same cells;
     pub at-once :
         (allowances : List ℕ) (last : Held Float) → Build (Held Float) Called allowances (first camera width height table) last
-        → all-units width height ≤ total allowances → held-state last ≡ held-state (kept (whole-table camera width height table))
-    at-once allowances last b h =
+        → all-units width height ≤ total allowances → last ≡ kept (whole-table camera width height table)
+    at-once allowances last calls h =
         let p = f32-table camera width height in
         let e = ends.enough-for p (fresh table) (omega arith) (total allowances) h in
         let f = ends.enough-for p (fresh table) (omega arith) enough enough-units in
         let c = plans.as-defined p (f32-sound camera width height) table long in
         let whole = subst (Built p table (total allowances)) (e ∙ sym f) (c (total allowances)) in
-        let mine = subst (λ (A : ℕ). Built p table A (held-state last)) (build-allowed allowances last b)
-        (built-in-turns camera width height table allowances last b) in
-        built-same p table (total allowances) (total allowances) (held-state last) once mine whole refl
-        ∙ sym (ap (λ (x : Answer Float). held-state (kept x)) at-once-is)
+        let b = built-in-turns camera width height table allowances last calls in
+        let mine = subst (λ (A : ℕ). Built p table A (held-state last)) (build-allowed allowances last calls) (b .built) in
+        same-held last (kept (answer (fresh-job camera width height) (turn (next p) enough (fresh table)))) (b .same-camera) (b .same-width) (b .same-height)
+        (built-same p table (total allowances) (total allowances) (held-state last) once mine whole refl)
+        ∙ sym (ap kept at-once-is)
 
     -- and it is finished, or refused at a unit: it never says running.
     pub at-once-ends : whole-table camera width height table .said ≡ running → ⊥

@@ -28,10 +28,10 @@ use Rattle.given.specs.Given.{Given, given, flag-number, code}
 use Rattle.turns.specs.Turns.{Said}
 use Rattle.plans.specs.Built.{Built}
 use Rattle.plans.specs.Calls.{allowed, Build}
-use Rattle.plans.specs.Plan.{fresh}
 use Rattle.table_plans.specs.Tables.{f32-table}
-use Rattle.turn_bytes.specs.Turn.{Handed, handed, answer-length, turn-bytes}
-use Rattle.turn_bytes.specs.Calls.{bytes-state, bytes-said}
+use Rattle.turn_bytes.specs.Turn.{handed, answer-length}
+use Rattle.turn_bytes.specs.Calls.{HeldBytes, bytes-plan, bytes-state, left, bytes-said}
+use Rattle.turn_bytes.proofs.Build.{ByTurnBytes}
 use Rattle.turn_bytes.proofs.Laws.{all-handed, built-by-bytes}
 use Rattle.given.proofs.Laws.{both, Untouched, refused-kept, filled}
 use Rattle.lens_c.specs.LensC.{pixel-bytes, point-bytes, jacobian-bytes, give-pixel, give-jacobian, given-pixel, given-point, distorted, undistorted, slopes, parameter-slopes, lens-distort, lens-undistort, lens-dx-distort-x, lens-dx-distort-params, lens-tangent, lens-lookup}
@@ -56,29 +56,38 @@ use Rattle.lens_c.proofs.lens_turn.Reads as lens-turn-contract
 
 -- ---- demand 3, for firmware
 
--- a call that the contract of `lens_turn` permits
-pub data Turned : Handed → ℕ → Said → Handed → Type 0 where
+-- a call that the contract of `lens_turn` permits, with an answer of 32 bytes, whichever it is
+pub data Turned : HeldBytes → ℕ → Said → HeldBytes → Type 0 where
   turned :
-      (κ : _) (a : _) (r : _) (s : _) (earlier : ℕ) → lens-turn-contract.Post κ a r s
-      → Turned (handed earlier (now (a .0)) (now (a .1 .0)) (now (a .1 .1 .1 .0))) (a .1 .1 .0)
-      (bytes-said (handed r (now (s .0)) (now (s .1 .0)) (now (s .1 .1 .1 .0)))) (handed r (now (s .0)) (now (s .1 .0)) (now (s .1 .1 .1 .0)))
+      (κ : _) (a : _) (r : _) (s : _) → lens-turn-contract.Post κ a r s → length (now (a .1 .1 .1 .0)) ≡ answer-length
+      → Turned record { job = now (a .0); cells = now (a .1 .0) } (a .1 .1 .0)
+      (bytes-said (handed r (now (s .0)) (now (s .1 .0)) (now (s .1 .1 .1 .0)))) record { job = now (s .0); cells = now (s .1 .0) }
 
-by-contract : (h : Handed) (a : ℕ) (said : Said) (k : Handed) → Turned h a said k → (k ≡ turn-bytes (h .job) (h .cells) a (h .answer)) × (said ≡ bytes-said k)
-by-contract h a said k (turned κ args r s earlier post) = (post, refl)
+by-contract : (h : HeldBytes) (a : ℕ) (said : Said) (k : HeldBytes) → Turned h a said k → ByTurnBytes h a said k
+by-contract h a said k (turned κ args r s post room) =
+    record { lent = now (args .1 .1 .1 .0); room = room; leaves = ap left post; says = ap bytes-said post }
 
 -- Demand 3. Start from the job that `lens_job_new` leaves when it returns 0, whatever model, parameters and size it was handed,
--- with any table and an answer of 32 bytes, and call `lens_turn` with any allowances, each time with what the call before handed
--- back. Then record and table are those of exactly min(A, F) units, as `built-in-turns` of distortion_table has it.
+-- with any table, and call `lens_turn` with any allowances and an answer of 32 bytes, each time with the job and the table that
+-- the call before handed back. Then job and table are those of exactly min(A, F) units, as `built-in-turns` of distortion_table
+-- has it.
 pub built-by-turns :
-    (κ : _) (a : _) (r : _) (s : _) → lens-job-new-contract.Post κ a r s → r ≡ 0
-    → (table : List Float) (lent : List ℕ) → length lent ≡ answer-length → (allowances : List ℕ) (last : Handed)
-    → Build Handed Turned allowances (handed 0 (now (s .1 .1 .1 .1 .0)) table lent) last
+    (κ : _) (a : _) (r : _) (s : _) (post : lens-job-new-contract.Post κ a r s) (zero : r ≡ 0)
+    (table : List Float) (allowances : List ℕ) (last : HeldBytes)
+    (calls : Build HeldBytes Turned allowances record { job = now (s .1 .1 .1 .1 .0); cells = table } last)
     → Built (f32-table (camera-of (a .0) (now (a .1 .0))) (a .1 .1 .0) (a .1 .1 .1 .0)) table
-    (allowed (f32-table (camera-of (a .0) (now (a .1 .0))) (a .1 .1 .0) (a .1 .1 .1 .0)) allowances (fresh table)) (bytes-state last)
-built-by-turns κ a r s post zero table lent room allowances last b =
+    (allowed bytes-plan bytes-state allowances record { job = now (s .1 .1 .1 .1 .0); cells = table } last calls) (bytes-state last)
+built-by-turns κ a r s post zero table allowances last calls =
     let e = both post in
-    built-by-bytes Turned by-contract (a .0) (now (a .1 .0)) (a .1 .1 .0) (a .1 .1 .1 .0) (now (a .1 .1 .1 .1 .0)) (sym (e .0) ∙ zero) table lent room allowances last
-    (subst (λ (bs : List ℕ). Build Handed Turned allowances (handed 0 bs table lent) last) (e .1) b)
+    let model = a .0 in
+    let params = now (a .1 .0) in
+    let plan = f32-table (camera-of model params) (a .1 .1 .0) (a .1 .1 .1 .0) in
+    let start : List ℕ → HeldBytes = λ bs. record { job = bs; cells = table } in
+    subst
+    (λ (bs : List ℕ). (c : Build HeldBytes Turned allowances (start bs) last) → Built plan table (allowed bytes-plan bytes-state allowances (start bs) last c) (bytes-state last))
+    (sym (e .1))
+    (built-by-bytes Turned by-contract model params (a .1 .1 .0) (a .1 .1 .1 .0) (now (a .1 .1 .1 .1 .0)) (sym (e .0) ∙ zero) table allowances last)
+    calls
 
 -- ---- each contract permits one answer, and one buffer
 

@@ -24,10 +24,10 @@ use Rattle.region.specs.declared.Region.{Region}
 use Rattle.turns.specs.Turns.{Said, refused, Turn, turn, turns, total}
 use Rattle.turns.proofs.Laws as any
 use Rattle.border.proofs.Finite.{Four, all-four}
-use Rattle.plans.specs.Plan.{Plan, State, nowhere, fresh, all-units, cells-done, found, next}
+use Rattle.plans.specs.Plan.{numbers, Plan, State, nowhere, fresh, all-units, cells-done, found, next}
 use Rattle.plans.specs.declared.Progress.{Progress}
-use Rattle.plans.specs.Built.{sum-below, settled-at, edges-below, region-of, progress-of, doable, says-at, Holding, Built}
-use Rattle.plans.specs.Calls.{admitted, judged, turn-of, calls, allowed, Sound, Serves, Build, done, call}
+use Rattle.plans.specs.Built.{sum-below, settled-at, edges-below, region-of, progress-of, doable, says-at, Built}
+use Rattle.plans.specs.Calls.{judged, turn-of, allowed, Sound, Serves, Build, done, call}
 use Rattle.plans.proofs.Along.{Along, turn-along, region-is}
 use Rattle.plans.proofs.Counted as counted
 use Rattle.plans.proofs.Reaching.{is-admitted, Good, turn-keeps, good-admitted}
@@ -36,6 +36,16 @@ use Rattle.plans.proofs.Written as written
 nowhere-finite : Four nowhere
 unfolding ofBits
 nowhere-finite = record { left = refl; top = refl; right = refl; bottom = refl }
+
+-- the states that calls with these allowances pass through, by the definition, and what of them is admitted
+module _ {X : Type 0} (p : Plan X) where
+  unfoldable pub calls : List ℕ → State X → State X
+  calls [] s = s
+  calls (a ∷ rest) s = calls rest (turn-of p a s .state)
+
+  unfoldable pub admits : List ℕ → State X → ℕ
+  admits [] s = 0
+  admits (a ∷ rest) s = decided (judged p s) (λ r. 0) a + admits rest (turn-of p a s .state)
 
 module _ {X : Type 0} (p : Plan X) (sound : Sound p) where
   -- ---- a state that is the definition's of the units done
@@ -56,7 +66,7 @@ module _ {X : Type 0} (p : Plan X) (sound : Sound p) where
           progress =
               start-along ∙ ap (progress-of (p .sweep)) (sym z);
           as-long = refl;
-          cells-hold = λ c h. absurd (omega (arith, h));
+          cells-hold = λ c d h. absurd (omega (arith, h));
           untouched = λ k d h. refl;
         }
 
@@ -69,9 +79,10 @@ module _ {X : Type 0} (p : Plan X) (sound : Sound p) where
         record {
           progress = a ∙ ap (progress-of (p .sweep)) (counted.units-done p (sound .refusals) n (fresh cells) refl start-along);
           as-long = k .as-long;
-          cells-hold =
-              λ c m. subst (λ (r : Region). Holding p r (end n .cells) c)
-              (ap (λ (x : Progress). x .region) a ∙ region-is p (end n .at .done) (omega (arith, m))) (h .each c (omega arith) m);
+          cells-hold = λ c d m.
+              let r = ap (λ (x : Progress). x .region) a ∙ region-is p (end n .at .done) (omega (arith, m)) in
+              let k = subst (λ (r : Region). written.Holding p r (end n .cells) c) r (h .each c (omega arith) m) in
+              k .its ∙ ap₂ numbers (sym (k .there d .0)) (sym (k .there d .1));
           untouched = λ j d m. k .behind j d m;
         }
 
@@ -80,13 +91,13 @@ module _ {X : Type 0} (p : Plan X) (sound : Sound p) where
   refused-call : (s : State X) (a : ℕ) (r : Refusal) → judged p s ≡ Refused r → turn-of p a s .state ≡ s
   refused-call s a r e = ap (λ (j : Judgement). decided j (λ r. record { state = s; said = refused (number r) }) (turn (next p) a s) .state) e
 
-  refused-calls : (ls : List ℕ) (s : State X) (r : Refusal) → judged p s ≡ Refused r → (calls p ls s ≡ s) × (allowed p ls s ≡ 0)
-  unfolding calls allowed
+  refused-calls : (ls : List ℕ) (s : State X) (r : Refusal) → judged p s ≡ Refused r → (calls p ls s ≡ s) × (admits p ls s ≡ 0)
+  unfolding calls admits
   refused-calls [] s r e = (refl, refl)
   refused-calls (a ∷ rest) s r e =
       let k = refused-call s a r e in
       let i = refused-calls rest s r e in
-      (ap (calls p rest) k ∙ i .0, ap₂ (λ (j : Judgement) (x : State X). decided j (λ r. 0) a + allowed p rest x) e k ∙ zero-add (allowed p rest s) ∙ i .1)
+      (ap (calls p rest) k ∙ i .0, ap₂ (λ (j : Judgement) (x : State X). decided j (λ r. 0) a + admits p rest x) e k ∙ zero-add (admits p rest s) ∙ i .1)
 
   took : (s : State X) → judged p s ≡ Taken → (p .sweep .opens (s .at .region) ≡ Taken) × (length (s .cells) ≡ 2 * (p .sweep .width * p .sweep .height))
   took s h = let k = is-admitted (p .sweep) (s .at) (length (s .cells)) h in (k .opens, k .long)
@@ -117,14 +128,14 @@ module _ {X : Type 0} (p : Plan X) (sound : Sound p) where
     pub answer-is : (a : ℕ) (s : State X) → Good p s → turn-of p a s ≡ turn (next p) a s
     answer-is a s g = ap (λ (j : Judgement). decided j (λ r. record { state = s; said = refused (number r) }) (turn (next p) a s)) (stays-open s g)
 
-    all-allowed : (ls : List ℕ) (s : State X) → Good p s → (calls p ls s ≡ turns (next p) ls s) × (allowed p ls s ≡ total ls)
-    unfolding calls turns allowed total
+    all-allowed : (ls : List ℕ) (s : State X) → Good p s → (calls p ls s ≡ turns (next p) ls s) × (admits p ls s ≡ total ls)
+    unfolding calls turns admits total
     all-allowed [] s g = (refl, refl)
     all-allowed (a ∷ rest) s g =
         let k = ap (λ (t : Turn (State X)). t .state) (answer-is a s g) in
         let i = all-allowed rest (turn (next p) a s .state) (turn-keeps p sound a s g) in (
           ap (calls p rest) k ∙ i .0,
-          ap₂ (λ (j : Judgement) (x : State X). decided j (λ r. 0) a + allowed p rest x) (stays-open s g) k ∙ ap (λ (n : ℕ). a + n) (i .1),
+          ap₂ (λ (j : Judgement) (x : State X). decided j (λ r. 0) a + admits p rest x) (stays-open s g) k ∙ ap (λ (n : ℕ). a + n) (i .1),
         )
 
     reached-good : (ls : List ℕ) (s : State X) → Good p s → Along p (s .at) → Good p (calls p ls s) × Along p (calls p ls s .at)
@@ -136,24 +147,24 @@ module _ {X : Type 0} (p : Plan X) (sound : Sound p) where
         (reached-good rest (turn (next p) a s .state) (turn-keeps p sound a s g) (turn-along p a s h))
 
   -- calls from a fresh record on, with any allowances and any table
-  pub calls-built : (cells : List X) (ls : List ℕ) → Built p cells (allowed p ls (fresh cells)) (calls p ls (fresh cells))
+  pub calls-built : (cells : List X) (ls : List ℕ) → Built p cells (admits p ls (fresh cells)) (calls p ls (fresh cells))
   calls-built cells ls = go (judged p (fresh cells)) refl
     where
-      go : (j : Judgement) → judged p (fresh cells) ≡ j → Built p cells (allowed p ls (fresh cells)) (calls p ls (fresh cells))
+      go : (j : Judgement) → judged p (fresh cells) ≡ j → Built p cells (admits p ls (fresh cells)) (calls p ls (fresh cells))
       go (Refused r) e =
           let k = refused-calls ls (fresh cells) r e in
-          subst (Built p cells (allowed p ls (fresh cells))) (sym (k .0)) (subst (λ (n : ℕ). Built p cells n (fresh cells)) (sym (k .1)) (none-done cells))
+          subst (Built p cells (admits p ls (fresh cells))) (sym (k .0)) (subst (λ (n : ℕ). Built p cells n (fresh cells)) (sym (k .1)) (none-done cells))
       go Taken e =
           let t = took (fresh cells) e in
           let k = all-allowed (t .0) ls (fresh cells) (start-good cells (t .1)) in
-          subst (Built p cells (allowed p ls (fresh cells))) (sym (k .0 ∙ any.any-split (next p) ls (fresh cells)))
+          subst (Built p cells (admits p ls (fresh cells))) (sym (k .0 ∙ any.any-split (next p) ls (fresh cells)))
           (subst (λ (n : ℕ). Built p cells n (end cells (total ls))) (sym (k .1)) (as-defined cells (t .1) (total ls)))
 
   module _ (cells : List X) (taken : judged p (fresh cells) ≡ Taken) (ls : List ℕ) where
     abbrev reached : State X
     reached = calls p ls (fresh cells)
 
-    pub all-count : allowed p ls (fresh cells) ≡ total ls
+    pub all-count : admits p ls (fresh cells) ≡ total ls
     all-count = let t = took (fresh cells) taken in all-allowed (t .0) ls (fresh cells) (start-good cells (t .1)) .1
 
     reached-both : Good p reached × Along p (reached .at)
@@ -214,32 +225,51 @@ module _
     {X : Type 0} (H : Type 0) (Ready : H → Type 0) (plan : H → Plan X) (state : H → State X)
     (Post : H → ℕ → Said → H → Type 0) (serves : Serves H Ready plan state Post)
   where
-    chain : (ls : List ℕ) (h k : H) (p : Plan X) → plan h ≡ p → Ready h → Build H Post ls h k → (state k ≡ calls p ls (state h)) × (plan k ≡ p) × Ready k
-    unfolding calls
-    chain [] h k p e r (done same) = (refl, e, r)
+    -- where a build has come to, and how much of it was admitted
+    record Chained (ls : List ℕ) (h k : H) (p : Plan X) (b : Build H Post ls h k) : Type 0 where
+      there : state k ≡ calls p ls (state h)
+      plan-there : plan k ≡ p
+      ready-there : Ready k
+      counted : allowed plan state ls h k b ≡ admits p ls (state h)
+
+    chain : (ls : List ℕ) (h k : H) (p : Plan X) → plan h ≡ p → Ready h → (b : Build H Post ls h k) → Chained ls h k p b
+    unfolding calls admits allowed
+    chain [] h k p e r (done same) = record { there = refl; plan-there = e; ready-there = r; counted = refl }
     chain (x ∷ ls) h k p e r (call from a said m post rest last more) =
-        let i = chain rest m last p (serves .plan-kept from a said m r post ∙ e) (serves .ready-kept from a said m r post) more in (
-          i .0 ∙ ap (λ (t : Turn (State X)). calls p rest (t .state))
-              (serves .answers from a said m r post ∙ ap (λ (q : Plan X). turn-of q a (state from)) e),
-          i .1,
-          i .2,
-        )
+        let i = chain rest m last p (serves .plan-kept from a said m r post ∙ e) (serves .ready-kept from a said m r post) more in
+        let s = serves .answers from a said m r post ∙ ap (λ (q : Plan X). turn-of q a (state from)) e in
+        record {
+          there = i .there ∙ ap (λ (t : Turn (State X)). calls p rest (t .state)) s;
+          plan-there = i .plan-there;
+          ready-there = i .ready-there;
+          counted =
+              ap₂ (λ (q : Plan X) (n : ℕ). decided (judged q (state from)) (λ r. 0) a + n) e
+              (i .counted ∙ ap (λ (t : Turn (State X)). admits p rest (t .state)) s);
+        }
 
     module _
         (h : H) (ready : Ready h) (sound : Sound (plan h)) (cells : List X) (start : state h ≡ fresh cells)
         (ls : List ℕ) (k : H) (b : Build H Post ls h k)
       where
+        abbrev chained : Chained ls h k (plan h) b
+        chained = chain ls h k (plan h) refl ready b
+
         held-at : state k ≡ calls (plan h) ls (fresh cells)
-        held-at = chain ls h k (plan h) refl ready b .0 ∙ ap (calls (plan h) ls) start
+        held-at = chained .there ∙ ap (calls (plan h) ls) start
+
+        counted-at : allowed plan state ls h k b ≡ admits (plan h) ls (fresh cells)
+        counted-at = chained .counted ∙ ap (admits (plan h) ls) start
 
         -- From a fresh record on, whatever else is held, with any table and any allowances, the record and the table left are
         -- those of `Built`.
-        pub built : Built (plan h) cells (allowed (plan h) ls (fresh cells)) (state k)
-        built = subst (Built (plan h) cells (allowed (plan h) ls (fresh cells))) (sym held-at) (calls-built (plan h) sound cells ls)
+        pub built : Built (plan h) cells (allowed plan state ls h k b) (state k)
+        built =
+            subst (λ (A : ℕ). Built (plan h) cells A (state k)) (sym counted-at)
+            (subst (Built (plan h) cells (admits (plan h) ls (fresh cells))) (sym held-at) (calls-built (plan h) sound cells ls))
 
         -- What is held then is ready for the next call, with the same plan.
         pub built-ready : Ready k × (plan k ≡ plan h)
-        built-ready = let c = chain ls h k (plan h) refl ready b in (c .2, c .1)
+        built-ready = (chained .ready-there, chained .plan-there)
 
         module _ (taken : judged (plan h) (fresh cells) ≡ Taken) where
           -- Where the first call is admitted, so is every later one;
@@ -247,8 +277,8 @@ module _
           built-admitted = ap (judged (plan h)) held-at ∙ reached-admitted (plan h) sound cells taken ls
 
           -- all that was allowed counts;
-          pub built-allowed : allowed (plan h) ls (fresh cells) ≡ total ls
-          built-allowed = all-count (plan h) sound cells taken ls
+          pub built-allowed : allowed plan state ls h k b ≡ total ls
+          built-allowed = counted-at ∙ all-count (plan h) sound cells taken ls
 
           -- and the next one, whatever its allowance, says finished at T, refused with the number of the unit behind those done
           -- if that has one and the allowance had room for it, else running.
@@ -256,8 +286,7 @@ module _
               (a : ℕ) (said : Said) (m : H) → Post k a said m
               → said ≡ says-at (plan h) (state k .at .done) a (state m .at .done)
           built-says a said m post =
-              let c = chain ls h k (plan h) refl ready b in
-              let e = serves .answers k a said m (c .2) post ∙ ap (λ (q : Plan X). turn-of q a (state k)) (c .1) in
+              let e = serves .answers k a said m (chained .ready-there) post ∙ ap (λ (q : Plan X). turn-of q a (state k)) (chained .plan-there) in
               ap (λ (t : Turn (State X)). t .said) e
               ∙ subst (λ (s : State X). turn-of (plan h) a s .said ≡ says-at (plan h) (s .at .done) a (turn-of (plan h) a s .state .at .done))
               (sym held-at) (reached-says (plan h) sound cells taken ls a)

@@ -40,10 +40,8 @@ module _ {X : Type 0} (p : Plan X) (table : List X) (A B : ℕ) (s t : State X) 
       b .untouched i d (omega (arith, past)) ∙ sym (c .untouched i d (omega (arith, past, done-same)))
   each-place d i true e =
       let l = ltb-true (i / 2) (cells-done (p .sweep) s) e in
-      let h = b .cells-hold (i / 2) l in
-      let k = c .cells-hold (i / 2) (omega (arith, l, done-same)) in
-      let two = pair-same (content-at p (i / 2)) (h .first) (h .second) (k .first) (k .second) (h .its) (k .its) in
-      by-two (λ j. getD (s .cells) j d ≡ getD (t .cells) j d) i (h .there d .0 ∙ two .0 ∙ sym (k .there d .0)) (h .there d .1 ∙ two .1 ∙ sym (k .there d .1))
+      let two = pair-same (content-at p (i / 2)) _ _ _ _ (b .cells-hold (i / 2) d l) (c .cells-hold (i / 2) d (omega (arith, l, done-same))) in
+      by-two (λ j. getD (s .cells) j d ≡ getD (t .cells) j d) i (two .0) (two .1)
 
   same-cells : s .cells ≡ t .cells
   same-cells = go table refl

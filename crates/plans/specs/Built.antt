@@ -95,17 +95,12 @@ module _ {X : Type 0} (p : Plan X) where
 
   -- ---- what is owed
 
-  -- cell c has two numbers in such a region, and they are in its two places
-  pub record Holding (region : Region) (cells : List X) (c : ℕ) : Type 0 where
-    pub first : X
-    pub second : X
-    pub its : cell-in p region c ≡ numbers first second
-    pub there : (d : X) → (getD cells (2 * c) d ≡ first) × (getD cells (2 * c + 1) d ≡ second)
-
   -- With A units allowed from a fresh record and this table on: the record is that of min(A, F) units, the cells done
   -- hold the definition's numbers, and all else is as it was.
   pub record Built (cells : List X) (A : ℕ) (s : State X) : Type 0 where
     pub progress : s .at ≡ progress-of (p .sweep) (min A doable)
     pub as-long : length (s .cells) ≡ length cells
-    pub cells-hold : (c : ℕ) → c < cells-done (p .sweep) s → Holding (region-of (p .sweep)) (s .cells) c
+    pub cells-hold :
+        (c : ℕ) (d : X) → c < cells-done (p .sweep) s
+        → content-at c ≡ numbers (getD (s .cells) (2 * c) d) (getD (s .cells) (2 * c + 1) d)
     pub untouched : (k : ℕ) (d : X) → 2 * cells-done (p .sweep) s ≤ k → getD (s .cells) k d ≡ getD cells k d

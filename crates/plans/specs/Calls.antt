@@ -61,16 +61,6 @@ module _ {X : Type 0} (p : Plan X) where
       (λ r. record { state = s; said = refused (number r) })
       (turn (next p) allowance s)
 
-  -- a call for each allowance
-  unfoldable pub calls : List ℕ → State X → State X
-  calls [] s = s
-  calls (a ∷ rest) s = calls rest (turn-of a s .state)
-
-  -- A: the allowances of those calls that are admitted
-  unfoldable pub allowed : List ℕ → State X → ℕ
-  allowed [] s = 0
-  allowed (a ∷ rest) s = decided (judged s) (λ r. 0) a + allowed rest (turn-of a s .state)
-
 -- the number of a refusal that is said, 0 if none is
 abbrev pub said-number : Said → ℕ
 said-number finished = 0
@@ -114,3 +104,10 @@ pub data Build (H : Type 0) (Post : H → ℕ → Said → H → Type 0) : List 
   call :
       (h : H) (a : ℕ) (said : Said) (k : H) → Post h a said k
       → (rest : List ℕ) (last : H) → Build H Post rest k last → Build H Post (a ∷ rest) h last
+
+-- A: the allowances of those calls that are admitted, by the plan and the state that are read off what is held
+module _ {X : Type 0} {H : Type 0} {Post : H → ℕ → Said → H → Type 0} (plan : H → Plan X) (state : H → State X) where
+  unfoldable pub allowed : (ls : List ℕ) (h k : H) → Build H Post ls h k → ℕ
+  allowed [] h k (done same) = 0
+  allowed (x ∷ ls) h k (call from a said next post rest last more) =
+      decided (judged (plan from) (state from)) (λ r. 0) a + allowed rest next last more

@@ -32,8 +32,9 @@ use Rattle.camera.specs.Camera.{pixel-of, point-of, finite-point, distort-judge
 use Rattle.camera.specs.declared.Camera.{Camera}
 use Rattle.camera.specs.declared.Camera.the-variants.{Affine, EnhancedUnified, KannalaBrandt, BrownConrady}
 use Rattle.plans.specs.Plan.{Content, numbers, none, State, next}
+use Rattle.plans.specs.Calls.{said-number}
 use Rattle.plans.proofs.Numbers.{Told, Refusing, turn-says}
-use Rattle.turns.specs.Turns.{turn}
+use Rattle.turns.specs.Turns.{Said, finished, refused, running, turn}
 use Rattle.cell.specs.Cell.{cell-point, f32, of-pixel, cell-by}
 use Rattle.table_plans.specs.Tables.{one-of, unit-numbers, f32-table}
 
@@ -134,3 +135,13 @@ module _ (camera : Camera) (width height : ℕ) where
   -- A turn that a unit refuses is refused with 8, 10, 11 or 12.
   pub turn-known : (a : ℕ) (s : State Float) → Told Known (turn (next (f32-table camera width height)) a s .said)
   turn-known = turn-says (f32-table camera width height) Known refusing
+
+-- as a number: 0, or one of these
+pub said-known : (said : Said) → Told Known said → one-of (said-number said) (0 ∷ unit-numbers) ≡ true
+said-known finished h = refl
+said-known running h = refl
+said-known (refused n) h = go (eqb n 0)
+  where
+    go : (z : Bool) → (z || one-of n unit-numbers) ≡ true
+    go true = refl
+    go false = h

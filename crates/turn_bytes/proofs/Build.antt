@@ -26,7 +26,7 @@ use Rattle.camera.proofs.Laws.{limit-most}
 use Rattle.turns.specs.Turns.{Said, finished, refused, running, Turn, turn}
 use Rattle.border.specs.Border.{samples, all-units}
 use Rattle.border.proofs.Finite.{both, of-four}
-use Rattle.plans.specs.Calls.{said-number, Serves}
+use Rattle.plans.specs.Calls.{Serves}
 use Rattle.plans.specs.Calls as plan
 use Rattle.plans.specs.Plan.{State, next}
 use Rattle.plans.specs.declared.Progress.{Progress}
@@ -34,7 +34,7 @@ use Rattle.plans.proofs.Fits.{NumbersFit, turn-numbers-fit}
 use Rattle.plans.proofs.Numbers.{Told}
 use Rattle.plans.proofs.Reaching.{is-admitted, Good, turn-keeps}
 use Rattle.table_plans.specs.Tables.{one-of, unit-numbers}
-use Rattle.table_plans.proofs.Numbers.{Known, by-each, turn-known}
+use Rattle.table_plans.proofs.Numbers.{Known, by-each, said-known, turn-known}
 use Rattle.table_plans.proofs.Sound.{opened, f32-sound}
 use Rattle.job.specs.Job.{sweep-for, admitted}
 use Rattle.job.specs.declared.Job.{Job}
@@ -47,8 +47,7 @@ use Rattle.job_bytes.specs.declared.Found.{Found}
 use Rattle.job_bytes.specs.declared.Found.the-variants.{Of}
 use Rattle.job_bytes.proofs.Laws.{Writable, written-read}
 use Rattle.turn_bytes.specs.Turn.{Handed, handed, answer-length, before-units, status-number, answer-bytes, written, turn-bytes}
-use Rattle.turn_bytes.specs.Calls.{bytes-plan, bytes-state, bytes-said}
-use Rattle.turn_bytes.proofs.Numbers.{taken-so}
+use Rattle.turn_bytes.specs.Calls.{HeldBytes, bytes-plan, bytes-state, left, bytes-said}
 use Rattle.turn_bytes.proofs.Turning.{length-words, read-of, not-taken, taken}
 
 -- ---- what a call that is taken says, as its answer has it
@@ -80,13 +79,12 @@ said-back running job cells k = ap (λ (n : ℕ). cond (eqb n 1) finished runnin
 said-back (refused n) job cells k =
     ap (λ (b : Bool). cond b (cond (eqb (word (answer-bytes (refused n) job) 0) 1) finished running) (refused n)) (not-zero n k)
 
--- ---- what a caller holds: bytes of a record that they can hold, and an answer's buffer of the right length
+-- ---- what a caller holds: bytes of a record that they can hold
 
-pub record Ready (h : Handed) : Type 0 where
+pub record Ready (h : HeldBytes) : Type 0 where
   pub job : Job
   pub bytes-of : h .job ≡ record-bytes job
   pub writable : Writable job
-  pub room : length (h .answer) ≡ answer-length
 
 read-back : (job : Job) → Writable job → job-at (record-bytes job) ≡ job
 read-back job w = sym (read-of (record-bytes job) job (written-read job w) .0)
@@ -154,75 +152,85 @@ module _ (job : Job) (w : Writable job) (cells : List Float) (a : ℕ) (lent : L
         }
 
   -- it is the plan's
-  answered-so : record { state = bytes-state after; said = bytes-said after } ≡ plan.turn-of (plan-of job) a (state-of job cells)
+  answered-so : record { state = bytes-state (left after); said = bytes-said after } ≡ plan.turn-of (plan-of job) a (state-of job cells)
   answered-so = go (admitted job (length cells)) refl
     where
       go : (j : Judgement) → admitted job (length cells) ≡ j
-          → record { state = bytes-state after; said = bytes-said after } ≡ decided j (λ r. record { state = state-of job cells; said = refused (number r) }) turned
+          → record { state = bytes-state (left after); said = bytes-said after } ≡ decided j (λ r. record { state = state-of job cells; said = refused (number r) }) turned
       go (Refused r) e =
-          ap (λ (h : Handed). record { state = bytes-state h; said = bytes-said h }) (refused-is r e)
+          ap (λ (h : Handed). record { state = bytes-state (left h); said = bytes-said h }) (refused-is r e)
           ∙ ap₂ (λ (k : Job) (b : Bool). record { state = state-of k cells; said = cond b (cond (eqb (word lent 0) 1) finished running) (refused (number r)) }) (read-back job w) (ne-eqb (number r) 0 (λ z. omega (arith, number-within r .0, z)))
       go Taken e =
           let x = answer job turned in
-          ap (λ (h : Handed). record { state = bytes-state h; said = bytes-said h }) (taken-is e)
+          ap (λ (h : Handed). record { state = bytes-state (left h); said = bytes-said h }) (taken-is e)
           ∙ ap₂ (λ (k : Job) (s : Said). record { state = state-of k (x .cells); said = s }) (read-back (x .job) (still-writable e)) (said-back (x .said) (x .job) (x .cells) (turn-known (job .camera) (job .width) (job .height) a (state-of job cells)))
 
   -- it keeps the plan, and leaves what the next call may take
-  kept-so : (bytes-plan after ≡ plan-of job) × Ready after
+  kept-so : (bytes-plan (left after) ≡ plan-of job) × Ready (left after)
   kept-so = go (admitted job (length cells)) refl
     where
-      go : (j : Judgement) → admitted job (length cells) ≡ j → (bytes-plan after ≡ plan-of job) × Ready after
+      go : (j : Judgement) → admitted job (length cells) ≡ j → (bytes-plan (left after) ≡ plan-of job) × Ready (left after)
       go (Refused r) e =
-          subst (λ (h : Handed). (bytes-plan h ≡ plan-of job) × Ready h) (sym (refused-is r e))
-          (ap plan-of (read-back job w), record { job = job; bytes-of = refl; writable = w; room = room })
+          subst (λ (h : Handed). (bytes-plan (left h) ≡ plan-of job) × Ready (left h)) (sym (refused-is r e))
+          (ap plan-of (read-back job w), record { job = job; bytes-of = refl; writable = w })
       go Taken e =
           let x = answer job turned in
-          subst (λ (h : Handed). (bytes-plan h ≡ plan-of job) × Ready h) (sym (taken-is e))
-          (ap plan-of (read-back (x .job) (still-writable e)), record { job = x .job; bytes-of = refl; writable = still-writable e; room = length-words _ _ _ _ })
+          subst (λ (h : Handed). (bytes-plan (left h) ≡ plan-of job) × Ready (left h)) (sym (taken-is e))
+          (ap plan-of (read-back (x .job) (still-writable e)), record { job = x .job; bytes-of = refl; writable = still-writable e })
 
--- a call that the plan admits has the number 0 or that of a unit
-pub admitted-number : (h : Handed) → Ready h → plan.judged (bytes-plan h) (bytes-state h) ≡ Taken → (a : ℕ) → one-of (turn-bytes (h .job) (h .cells) a (h .answer) .code) (0 ∷ unit-numbers) ≡ true
-admitted-number h r e a =
-    let bs = record-bytes (r .job) in
-    let back : job-at (h .job) ≡ r .job = ap job-at (r .bytes-of) ∙ read-back (r .job) (r .writable) in
-    let f : admitted (r .job) (length (h .cells)) ≡ Taken = sym (ap (λ (j : Job). admitted j (length (h .cells))) back) ∙ e in
-    let z = own-number (r .job) (r .writable) (h .cells) a (h .answer) (r .room) ∙ ap verdict f in
-    ap (λ (b : List ℕ). one-of (turn-bytes b (h .cells) a (h .answer) .code) (0 ∷ unit-numbers)) (r .bytes-of)
-    ∙ ap (λ (x : Handed). one-of (x .code) (0 ∷ unit-numbers)) (taken-is (r .job) (r .writable) (h .cells) a (h .answer) (r .room) f)
-    ∙ sym (ap (λ (x : Answer Float). one-of (said-number (x .said)) (0 ∷ unit-numbers)) (as-turned (r .job) (r .writable) (h .cells) a (h .answer) (r .room) f))
-    ∙ taken-so bs (h .cells) (h .answer) a z
+-- ---- any function whose calls leave and say what `turn-bytes` does, with an answer's buffer of 32 bytes
 
--- ---- any function whose calls leave what `turn-bytes` says
+pub record ByTurnBytes (h : HeldBytes) (a : ℕ) (said : Said) (k : HeldBytes) : Type 0 where
+  pub lent : List ℕ
+  pub room : length lent ≡ answer-length
+  pub leaves : k ≡ left (turn-bytes (h .job) (h .cells) a lent)
+  pub says : said ≡ bytes-said (turn-bytes (h .job) (h .cells) a lent)
 
-module _
-    (Post : Handed → ℕ → Said → Handed → Type 0)
-    (by-contract : (h : Handed) (a : ℕ) (said : Said) (k : Handed) → Post h a said k → (k ≡ turn-bytes (h .job) (h .cells) a (h .answer)) × (said ≡ bytes-said k))
-  where
-    -- the record that is held, in place of its bytes
-    held-so : (h : Handed) → (r : Ready h) → (a : ℕ) → turn-bytes (h .job) (h .cells) a (h .answer) ≡ turn-bytes (record-bytes (r .job)) (h .cells) a (h .answer)
-    held-so h r a = ap (λ (b : List ℕ). turn-bytes b (h .cells) a (h .answer)) (r .bytes-of)
+-- the record that is held, in place of its bytes
+held-so : (h : HeldBytes) (r : Ready h) (a : ℕ) (lent : List ℕ) → turn-bytes (h .job) (h .cells) a lent ≡ turn-bytes (record-bytes (r .job)) (h .cells) a lent
+held-so h r a lent = ap (λ (b : List ℕ). turn-bytes b (h .cells) a lent) (r .bytes-of)
 
-    job-so : (h : Handed) → (r : Ready h) → job-at (h .job) ≡ r .job
-    job-so h r = ap job-at (r .bytes-of) ∙ read-back (r .job) (r .writable)
+job-so : (h : HeldBytes) (r : Ready h) → job-at (h .job) ≡ r .job
+job-so h r = ap job-at (r .bytes-of) ∙ read-back (r .job) (r .writable)
 
-    pub bytes-serve : Serves Handed Ready bytes-plan bytes-state Post
-    bytes-serve = record { answers = answers; plan-kept = plan-kept; ready-kept = ready-kept }
-      where
-        answers : (h : Handed) (a : ℕ) (said : Said) (k : Handed) → Ready h → Post h a said k → record { state = bytes-state k; said = said } ≡ plan.turn-of (bytes-plan h) a (bytes-state h)
-        answers h a said k r p =
-            let e = by-contract h a said k p in
-            ap (λ (s : Said). record { state = bytes-state k; said = s }) (e .1)
-            ∙ ap (λ (x : Handed). record { state = bytes-state x; said = bytes-said x }) (e .0 ∙ held-so h r a)
-            ∙ answered-so (r .job) (r .writable) (h .cells) a (h .answer) (r .room)
-            ∙ ap (λ (j : Job). plan.turn-of (plan-of j) a (state-of j (h .cells))) (sym (job-so h r))
+module _ (Post : HeldBytes → ℕ → Said → HeldBytes → Type 0) (by-contract : (h : HeldBytes) (a : ℕ) (said : Said) (k : HeldBytes) → Post h a said k → ByTurnBytes h a said k) where
+  pub bytes-serve : Serves HeldBytes Ready bytes-plan bytes-state Post
+  bytes-serve = record { answers = answers; plan-kept = plan-kept; ready-kept = ready-kept }
+    where
+      answers : (h : HeldBytes) (a : ℕ) (said : Said) (k : HeldBytes) → Ready h → Post h a said k → record { state = bytes-state k; said = said } ≡ plan.turn-of (bytes-plan h) a (bytes-state h)
+      answers h a said k r p =
+          let e = by-contract h a said k p in
+          ap₂ (λ (x : HeldBytes) (s : Said). record { state = bytes-state x; said = s }) (e .leaves) (e .says)
+          ∙ ap (λ (x : Handed). record { state = bytes-state (left x); said = bytes-said x }) (held-so h r a (e .lent))
+          ∙ answered-so (r .job) (r .writable) (h .cells) a (e .lent) (e .room)
+          ∙ ap (λ (j : Job). plan.turn-of (plan-of j) a (state-of j (h .cells))) (sym (job-so h r))
 
-        kept : (h : Handed) (a : ℕ) (said : Said) (k : Handed) (r : Ready h) → Post h a said k → (bytes-plan k ≡ plan-of (r .job)) × Ready k
-        kept h a said k r p =
-            let e = by-contract h a said k p in
-            subst (λ (x : Handed). (bytes-plan x ≡ plan-of (r .job)) × Ready x) (sym (e .0 ∙ held-so h r a)) (kept-so (r .job) (r .writable) (h .cells) a (h .answer) (r .room))
+      kept : (h : HeldBytes) (a : ℕ) (said : Said) (k : HeldBytes) (r : Ready h) → Post h a said k → (bytes-plan k ≡ plan-of (r .job)) × Ready k
+      kept h a said k r p =
+          let e = by-contract h a said k p in
+          subst (λ (x : HeldBytes). (bytes-plan x ≡ plan-of (r .job)) × Ready x) (sym (e .leaves ∙ ap left (held-so h r a (e .lent))))
+          (kept-so (r .job) (r .writable) (h .cells) a (e .lent) (e .room))
 
-        plan-kept : (h : Handed) (a : ℕ) (said : Said) (k : Handed) → Ready h → Post h a said k → bytes-plan k ≡ bytes-plan h
-        plan-kept h a said k r p = kept h a said k r p .0 ∙ sym (ap plan-of (job-so h r))
+      plan-kept : (h : HeldBytes) (a : ℕ) (said : Said) (k : HeldBytes) → Ready h → Post h a said k → bytes-plan k ≡ bytes-plan h
+      plan-kept h a said k r p = kept h a said k r p .0 ∙ sym (ap plan-of (job-so h r))
 
-        ready-kept : (h : Handed) (a : ℕ) (said : Said) (k : Handed) → Ready h → Post h a said k → Ready k
-        ready-kept h a said k r p = kept h a said k r p .1
+      ready-kept : (h : HeldBytes) (a : ℕ) (said : Said) (k : HeldBytes) → Ready h → Post h a said k → Ready k
+      ready-kept h a said k r p = kept h a said k r p .1
+
+-- a call that the plan admits reports what it left: its number is 0 or that of a unit, and the answer's words are those of the record
+pub record Reports (x : Handed) : Type 0 where
+  pub number : one-of (x .code) (0 ∷ unit-numbers) ≡ true
+  pub answer : x .answer ≡ answer-bytes (bytes-said x) (job-at (x .job))
+
+pub admitted-reports : (h : HeldBytes) → Ready h → plan.judged (bytes-plan h) (bytes-state h) ≡ Taken → (a : ℕ) (lent : List ℕ) → length lent ≡ answer-length → Reports (turn-bytes (h .job) (h .cells) a lent)
+admitted-reports h r e a lent room =
+    let f : admitted (r .job) (length (h .cells)) ≡ Taken = sym (ap (λ (j : Job). admitted j (length (h .cells))) (job-so h r)) ∙ e in
+    let x = answer (r .job) (turn (next (plan-of (r .job))) a (state-of (r .job) (h .cells))) in
+    let k = turn-known (r .job .camera) (r .job .width) (r .job .height) a (state-of (r .job) (h .cells)) in
+    subst Reports (sym (held-so h r a lent ∙ taken-is (r .job) (r .writable) (h .cells) a lent room f))
+    record {
+      number = said-known (x .said) k;
+      answer =
+          ap₂ answer-bytes (sym (said-back (x .said) (x .job) (x .cells) k))
+          (sym (read-back (x .job) (still-writable (r .job) (r .writable) (h .cells) a lent room f)));
+    }

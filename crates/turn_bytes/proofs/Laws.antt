@@ -25,8 +25,8 @@ use Rattle.camera_bytes.specs.Reading.{camera-of}
 use Rattle.job_bytes.specs.Bytes.{record-read, job-at, fresh-bytes}
 use Rattle.job_bytes.proofs.Laws.{fresh-read, fresh-opens-zero}
 use Rattle.turn_bytes.specs.Turn.{Handed, handed, answer-length, before-units, written, turn-bytes}
-use Rattle.turn_bytes.specs.Calls.{bytes-plan, bytes-state, bytes-said, call-numbers}
-use Rattle.turn_bytes.proofs.Build.{Ready, bytes-serve, admitted-number}
+use Rattle.turn_bytes.specs.Calls.{HeldBytes, bytes-plan, bytes-state, left, bytes-said, call-numbers}
+use Rattle.turn_bytes.proofs.Build.{Ready, ByTurnBytes, bytes-serve, Reports, admitted-reports}
 use Rattle.turn_bytes.proofs.Numbers.{before-so, taken-so}
 use Rattle.turn_bytes.proofs.Turning.{read-of, not-taken, taken}
 use Rattle.turn_bytes.proofs.turn.Reads as turn-contract
@@ -98,34 +98,34 @@ module _ (bs : List ℕ) (cells : List Float) (allowance : ℕ) (lent : List ℕ
 
 -- ---- demand 3, over bytes
 
--- a call that the contract of `turn` permits: with what is held and an allowance it says so, by its number and its answer, and
--- leaves that; which number the call before had doesn't matter
-pub data Called : Handed → ℕ → Said → Handed → Type 0 where
+-- a call that the contract of `turn` permits, with an answer's buffer of 32 bytes, whichever it is
+pub data Called : HeldBytes → ℕ → Said → HeldBytes → Type 0 where
   called :
-      (κ : _) (a : _) (r : _) (s : _) (earlier : ℕ) → turn-contract.Post κ a r s
-      → Called (handed earlier (now (a .0)) (now (a .1 .0)) (now (a .1 .1 .1 .0))) (a .1 .1 .0)
-      (bytes-said (handed r (now (s .0)) (now (s .1 .0)) (now (s .1 .1 .1 .0)))) (handed r (now (s .0)) (now (s .1 .0)) (now (s .1 .1 .1 .0)))
+      (κ : _) (a : _) (r : _) (s : _) → turn-contract.Post κ a r s → length (now (a .1 .1 .1 .0)) ≡ answer-length
+      → Called record { job = now (a .0); cells = now (a .1 .0) } (a .1 .1 .0)
+      (bytes-said (handed r (now (s .0)) (now (s .1 .0)) (now (s .1 .1 .1 .0)))) record { job = now (s .0); cells = now (s .1 .0) }
 
-by-contract : (h : Handed) (a : ℕ) (said : Said) (k : Handed) → Called h a said k → (k ≡ turn-bytes (h .job) (h .cells) a (h .answer)) × (said ≡ bytes-said k)
-by-contract h a said k (called κ args r s earlier post) = (post, refl)
+by-contract : (h : HeldBytes) (a : ℕ) (said : Said) (k : HeldBytes) → Called h a said k → ByTurnBytes h a said k
+by-contract h a said k (called κ args r s post room) =
+    record { lent = now (args .1 .1 .1 .0); room = room; leaves = ap left post; says = ap bytes-said post }
 
--- The same of any function whose calls leave what `turn-bytes` says.
+-- The laws below, of any function whose calls leave and say what `turn-bytes` does.
 module _
-    (Post : Handed → ℕ → Said → Handed → Type 0)
-    (by-turn-bytes : (h : Handed) (a : ℕ) (said : Said) (k : Handed) → Post h a said k → (k ≡ turn-bytes (h .job) (h .cells) a (h .answer)) × (said ≡ bytes-said k))
+    (Post : HeldBytes → ℕ → Said → HeldBytes → Type 0)
+    (by-turn-bytes : (h : HeldBytes) (a : ℕ) (said : Said) (k : HeldBytes) → Post h a said k → ByTurnBytes h a said k)
     (model : ℕ) (params : List ℕ) (width height : ℕ) (buffer : List ℕ) (begun : fresh-bytes model params width height buffer .code ≡ 0)
-    (table : List Float) (lent : List ℕ) (room : length lent ≡ answer-length)
+    (table : List Float)
   where
     abbrev plan : Plan Float
     plan = f32-table (camera-of model params) width height
 
-    abbrev first : Handed
-    first = handed 0 (fresh-bytes model params width height buffer .answer) table lent
+    abbrev first : HeldBytes
+    first = record { job = fresh-bytes model params width height buffer .answer; cells = table }
 
     ready : Ready first
     ready =
         let f = fresh-read model params width height buffer begun in
-        record { job = fresh-job (camera-of model params) width height; bytes-of = f .0; writable = f .1; room = room }
+        record { job = fresh-job (camera-of model params) width height; bytes-of = f .0; writable = f .1 }
 
     job-read : job-at (first .job) ≡ fresh-job (camera-of model params) width height
     job-read = sym (read-of (first .job) (fresh-job (camera-of model params) width height) (fresh-read model params width height buffer begun .2) .0)
@@ -139,46 +139,43 @@ module _
     starts : bytes-state first ≡ fresh table
     starts = ap (λ (j : Job). state-of j table) job-read
 
-    pub built-by-bytes :
-        (allowances : List ℕ) (last : Handed) → Build Handed Post allowances first last
-        → Built plan table (allowed plan allowances (fresh table)) (bytes-state last)
-    built-by-bytes allowances last b =
-        subst (λ (p : Plan Float). Built p table (allowed p allowances (fresh table)) (bytes-state last)) plan-is
-        (plans.built Handed Ready bytes-plan bytes-state Post (bytes-serve Post by-turn-bytes) first ready sound table starts allowances last b)
+    module _ (allowances : List ℕ) (last : HeldBytes) (calls : Build HeldBytes Post allowances first last) where
+      pub built-by-bytes : Built plan table (allowed bytes-plan bytes-state allowances first last calls) (bytes-state last)
+      built-by-bytes =
+          subst (λ (p : Plan Float). Built p table (allowed bytes-plan bytes-state allowances first last calls) (bytes-state last)) plan-is
+          (plans.built HeldBytes Ready bytes-plan bytes-state Post (bytes-serve Post by-turn-bytes) first ready sound table starts allowances last calls)
 
-    -- Where the table has the size's length, the next call is not refused before its units: its number is 0, or 8, 10, 11 or 12.
-    pub admitted-by-bytes :
-        (allowances : List ℕ) (last : Handed) → Build Handed Post allowances first last
-        → length table ≡ 2 * (width * height) → (a : ℕ) (said : Said) (then : Handed) → Post last a said then
-        → one-of (then .code) (0 ∷ unit-numbers) ≡ true
-    admitted-by-bytes allowances last b long a said then post =
-        let serves = bytes-serve Post by-turn-bytes in
-        let r = plans.built-ready Handed Ready bytes-plan bytes-state Post serves first ready sound table starts allowances last b in
-        let opens = fresh-opens-zero model params width height buffer begun in
-        let taken = ap (λ (p : Plan Float). judged p (fresh table)) plan-is ∙ start-admitted (camera-of model params) width height opens table long in
-        let e = plans.built-admitted Handed Ready bytes-plan bytes-state Post serves first ready sound table starts allowances last b taken in
-        ap (λ (h : Handed). one-of (h .code) (0 ∷ unit-numbers)) (by-turn-bytes last a said then post .0)
-        ∙ admitted-number last (r .0) (ap (λ (p : Plan Float). judged p (bytes-state last)) (r .1) ∙ e) a
+      -- Where the table has the size's length, every call is admitted: its number is 0, or 8, 10, 11 or 12 of a unit, and its
+      -- answer's four words are what it said, and the units and updates of the record that it left.
+      pub reports-by-bytes :
+          length table ≡ 2 * (width * height) → (a : ℕ) (lent : List ℕ) → length lent ≡ answer-length
+          → Reports (turn-bytes (last .job) (last .cells) a lent)
+      reports-by-bytes long a lent room =
+          let serves = bytes-serve Post by-turn-bytes in
+          let r = plans.built-ready HeldBytes Ready bytes-plan bytes-state Post serves first ready sound table starts allowances last calls in
+          let opens = fresh-opens-zero model params width height buffer begun in
+          let taken = ap (λ (p : Plan Float). judged p (fresh table)) plan-is ∙ start-admitted (camera-of model params) width height opens table long in
+          let e = plans.built-admitted HeldBytes Ready bytes-plan bytes-state Post serves first ready sound table starts allowances last calls taken in
+          admitted-reports last (r .0) (ap (λ (p : Plan Float). judged p (bytes-state last)) (r .1) ∙ e) a lent room
 
 -- Demand 3, for firmware. Start from the bytes that job_bytes' `fresh` leaves with the number 0, for any model, parameters and
--- size, with any table and an answer's buffer of 32 bytes, and call `turn` with any allowances, each time with what the call
--- before handed back. Then what is read out of the bytes and what stands in the table are those of exactly min(A, F) units, as
--- `built-in-turns` of distortion_table has it.
+-- size, with any table, and call `turn` with any allowances and an answer of 32 bytes, each time with the record's bytes and the
+-- table that the call before handed back. Then what is read out of the bytes and what stands in the table are those of exactly
+-- min(A, F) units, as `built-in-turns` of distortion_table has it.
 pub built-in-bytes :
-    (model : ℕ) (params : List ℕ) (width height : ℕ) (buffer : List ℕ) → fresh-bytes model params width height buffer .code ≡ 0
-    → (table : List Float) (lent : List ℕ) → length lent ≡ answer-length
-    → (allowances : List ℕ) (last : Handed)
-    → Build Handed Called allowances (handed 0 (fresh-bytes model params width height buffer .answer) table lent) last
+    (model : ℕ) (params : List ℕ) (width height : ℕ) (buffer : List ℕ) (begun : fresh-bytes model params width height buffer .code ≡ 0)
+    (table : List Float) (allowances : List ℕ) (last : HeldBytes)
+    (calls : Build HeldBytes Called allowances record { job = fresh-bytes model params width height buffer .answer; cells = table } last)
     → Built (f32-table (camera-of model params) width height) table
-    (allowed (f32-table (camera-of model params) width height) allowances (fresh table)) (bytes-state last)
+    (allowed bytes-plan bytes-state allowances record { job = fresh-bytes model params width height buffer .answer; cells = table } last calls)
+    (bytes-state last)
 built-in-bytes = built-by-bytes Called by-contract
 
--- And where the table has the size's length, no call is refused with 1, 4, 5, 6, 7 or 13.
-pub admitted-in-bytes :
-    (model : ℕ) (params : List ℕ) (width height : ℕ) (buffer : List ℕ) → fresh-bytes model params width height buffer .code ≡ 0
-    → (table : List Float) (lent : List ℕ) → length lent ≡ answer-length
-    → (allowances : List ℕ) (last : Handed)
-    → Build Handed Called allowances (handed 0 (fresh-bytes model params width height buffer .answer) table lent) last
-    → length table ≡ 2 * (width * height) → (a : ℕ) (said : Said) (then : Handed) → Called last a said then
-    → one-of (then .code) (0 ∷ unit-numbers) ≡ true
-admitted-in-bytes = admitted-by-bytes Called by-contract
+-- And where the table has the size's length, no call is refused with 1, 4, 5, 6, 7 or 13, and each reports what it left.
+pub reports-in-bytes :
+    (model : ℕ) (params : List ℕ) (width height : ℕ) (buffer : List ℕ) (begun : fresh-bytes model params width height buffer .code ≡ 0)
+    (table : List Float) (allowances : List ℕ) (last : HeldBytes)
+    → Build HeldBytes Called allowances record { job = fresh-bytes model params width height buffer .answer; cells = table } last
+    → length table ≡ 2 * (width * height) → (a : ℕ) (lent : List ℕ) → length lent ≡ answer-length
+    → Reports (turn-bytes (last .job) (last .cells) a lent)
+reports-in-bytes = reports-by-bytes Called by-contract

@@ -17,13 +17,12 @@ use Rattle.lens.proofs.Laws.{verdict-one-to-one}
 use Rattle.region.specs.Region.{four}
 use Rattle.region.specs.Size.{sized}
 use Rattle.camera.specs.Camera.{parameters, zero-focal}
-use Rattle.turns.specs.Turns.{Said, finished, refused, running, turn}
+use Rattle.turns.specs.Turns.{refused, turn}
 use Rattle.plans.specs.Calls.{said-number}
 use Rattle.plans.specs.Calls as plan
 use Rattle.plans.specs.Plan.{next}
-use Rattle.plans.proofs.Numbers.{Told}
 use Rattle.table_plans.specs.Tables.{opens-for, one-of, unit-numbers}
-use Rattle.table_plans.proofs.Numbers.{Known, turn-known}
+use Rattle.table_plans.proofs.Numbers.{said-known, turn-known}
 use Rattle.job.specs.Job.{sweep-for, admitted}
 use Rattle.job.specs.declared.Job.{Job}
 use Rattle.distortion_table.specs.Answer.{plan-of, state-of, turn-of}
@@ -86,15 +85,6 @@ own-taken bs places h = go (eqb (length bs) record-length) (leb (half bs 0) 3) h
     go true false e = absurd (omega (arith, e))
     go true true e = verdict-one-to-one (admitted (job-at bs) places) judged.Taken e
 
-unit-so : (said : Said) → Told Known said → one-of (said-number said) (0 ∷ unit-numbers) ≡ true
-unit-so finished h = refl
-unit-so running h = refl
-unit-so (refused n) h = go (eqb n 0)
-  where
-    go : (z : Bool) → (z || one-of n unit-numbers) ≡ true
-    go true = refl
-    go false = h
-
 pub taken-so :
     (bs : List ℕ) (cells : List Float) (lent : List ℕ) (a : ℕ) →
     before-units (record-read bs) cells lent ≡ 0 →
@@ -103,4 +93,4 @@ taken-so bs cells lent a z =
     let j : Job = job-at bs in
     let e : admitted j (length cells) ≡ judged.Taken = own-taken bs (length cells) (none-before (record-read bs) cells lent z .0) in
     ap (λ (v : Judgement). one-of (said-number (decided v (λ r. record { state = state-of j cells; said = refused (number r) }) (turn (next (plan-of j)) a (state-of j cells)) .said)) (0 ∷ unit-numbers)) e
-    ∙ unit-so (turn (next (plan-of j)) a (state-of j cells) .said) (turn-known (j .camera) (j .width) (j .height) a (state-of j cells))
+    ∙ said-known (turn (next (plan-of j)) a (state-of j cells) .said) (turn-known (j .camera) (j .width) (j .height) a (state-of j cells))

@@ -1,5 +1,5 @@
--- What a caller of turns over bytes holds: the plan of its table, the state of the build, and what the last call said. And the
--- numbers that a call can have. Definitions only.
+-- What a caller of turns over bytes holds from call to call, and what a call said; and the numbers that it can have.
+-- Definitions only.
 use mathlib.Core.Bool.{cond}
 use mathlib.Core.List.{List, [], _∷_}
 use Prim.Native.Nat.{ℕ}
@@ -12,16 +12,28 @@ use Rattle.little_endian.specs.Bytes.{word}
 use Rattle.job_bytes.specs.Bytes.{job-at}
 use Rattle.turn_bytes.specs.Turn.{Handed}
 
--- by the record that is read out of the bytes
-abbrev pub bytes-plan : Handed → Plan Float
+-- the record's bytes and the table; the answer's buffer may be another one each time
+pub record HeldBytes : Type 0 where
+  pub job : List ℕ
+  pub cells : List Float
+
+-- the plan and the state, by the record that is read out of the bytes
+abbrev pub bytes-plan : HeldBytes → Plan Float
 bytes-plan held = plan-of (job-at (held .job))
 
-abbrev pub bytes-state : Handed → State Float
+abbrev pub bytes-state : HeldBytes → State Float
 bytes-state held = state-of (job-at (held .job)) (held .cells)
 
--- by the number, and where that is 0 by the answer's first word
+-- ---- of what a call gave back
+
+abbrev pub left : Handed → HeldBytes
+left given = record { job = given .job; cells = given .cells }
+
+-- what it said: by the number, and where that is 0 by the answer's first word
 abbrev pub bytes-said : Handed → Said
-bytes-said held = cond (eqb (held .code) 0) (cond (eqb (word (held .answer) 0) 1) finished running) (refused (held .code))
+bytes-said given = cond (eqb (given .code) 0) (cond (eqb (word (given .answer) 0) 1) finished running) (refused (given .code))
+
+-- ---- numbers
 
 -- what refuses a call before any unit
 abbrev pub call-numbers : List ℕ
