@@ -1,5 +1,5 @@
 -- What a caller may rely on, of the definitions of specs/ and of the contracts of src/. Assumes nothing.
-use mathlib.Core.Path.{_≡_, refl, sym, ap, _∙_}
+use mathlib.Core.Path.{_≡_, refl, sym, ap, ap₂, _∙_}
 use mathlib.Core.List.{List, [], _∷_, _++_, append-nil, append-assoc}
 use Prim.Native.Nat.{ℕ, _*_, _^_, _≤_, _<_}
 use native.Mathlib.Omega.{arith}
@@ -8,7 +8,7 @@ use lib.Dec.{T}
 use lib.Ieee.{Float, binary64, fits}
 use lib.ListN.{length, getD, take, drop, length-append}
 use lib.Seq.{take-all, take-at, drop-at}
-use Rattle.exact.specs.Determined.{DeterminedWith}
+use Rattle.exact.specs.Determined.{Determined, DeterminedWith}
 use Rattle.little_endian.specs.Bytes.{value, bytes, half, word, float, floats}
 use Rattle.little_endian.proofs.Laws.{length-bytes, length-floats, value-bytes, float-at}
 use Rattle.lens.specs.Distorted.{told-pixel}
@@ -29,7 +29,10 @@ use Rattle.camera_bytes.specs.declared.Asked.{Asked}
 use Rattle.camera_bytes.specs.declared.Asked.the-variants.{Of}
 use Rattle.camera_bytes.proofs.Counted.{read-camera}
 use Rattle.answer_bytes.specs.Answer.{pixel-bytes, point-bytes, jacobian-bytes, give-jacobian, given-pixel, given-point, distorted, undistorted, slopes, parameter-slopes, distort-bytes, undistort-bytes, dx-distort-x-bytes, dx-distort-params-bytes}
+use Rattle.answer_bytes.specs.declared.ToldPixel.{ToldPixel}
 use Rattle.answer_bytes.proofs.Counted.{other-for-params}
+use Rattle.answer_bytes.proofs.told_pixel.Reads as told-pixel-contract
+use Rattle.answer_bytes.proofs.give_pixel.Reads as give-pixel-contract
 use Rattle.answer_bytes.proofs.distort.Reads as distort-contract
 use Rattle.answer_bytes.proofs.undistort.Reads as undistort-contract
 use Rattle.answer_bytes.proofs.dx_distort_x.Reads as dx-distort-x-contract
@@ -49,6 +52,13 @@ determined = (
   λ κ a s s' r r' p q. both (p ∙ sym q),
   λ κ a s s' r r' p q. both (p ∙ sym q),
 )
+
+abbrev a-told-pixel : ℕ → Pixel → ToldPixel
+a-told-pixel number pixel = record { number = number; pixel = pixel }
+
+-- The same of what is told of a pixel, and of a pixel that is handed over.
+pub determined-pixel : Determined told-pixel-contract.Post × DeterminedWith give-pixel-contract.Post (λ κ s. now (s .1 .0))
+determined-pixel = (λ κ a s s' r r' p q. ap₂ a-told-pixel (p .0 ∙ sym (q .0)) (p .1 ∙ sym (q .1)), λ κ a s s' r r' p q. both (p ∙ sym q))
 
 -- ---- the number and the buffer
 
@@ -72,28 +82,26 @@ module _ (model : ℕ) (params lent : List ℕ) (x y : Float) (known : model ≤
   is-read : (f : Asked → Given) → f (read model params) ≡ f (Of camera)
   is-read f = ap f (read-camera model params known counted)
 
+  -- what is given of the camera that is read, where the camera's own answer is known
+  by-camera : {D : Type 0} (operation : Asked → D) (give : D → Given) (d : D) → operation (Of camera) ≡ d → give (operation (read model params)) ≡ give d
+  by-camera operation give d e = is-read (λ (a : Asked). give (operation a)) ∙ ap give e
+
   -- Where the camera answers a pixel, 0 is returned, and 16 bytes are the pixel's.
   pub distort-answered :
-      (pixel : Pixel) →
-      distort camera record { 0 = x; 1 = y } ≡ pixels.At pixel →
-      length lent ≡ 16 →
-      distort-bytes model params x y lent ≡ given 0 (pixel-bytes pixel)
+      (pixel : Pixel) → distort camera record { 0 = x; 1 = y } ≡ pixels.At pixel → length lent ≡ 16
+      → distort-bytes model params x y lent ≡ given 0 (pixel-bytes pixel)
   unfolding distort-bytes
   distort-answered pixel e f =
-      is-read (λ (a : Asked). given-pixel (told-pixel (distorted a record { 0 = x; 1 = y })) lent)
-      ∙ ap (λ (d : Distorted). given-pixel (told-pixel d) lent) e
+      by-camera (λ (a : Asked). distorted a record { 0 = x; 1 = y }) (λ (d : Distorted). given-pixel (told-pixel d) lent) (pixels.At pixel) e
       ∙ filled 16 0 (pixel-bytes pixel) lent refl f
 
   -- Where it answers a point, 24 bytes are that, with its updates and flag.
   pub undistort-answered :
-      (s : Settled) →
-      undistort camera record { 0 = x; 1 = y } ≡ points.At s →
-      length lent ≡ 24 →
-      undistort-bytes model params x y lent ≡ given 0 (point-bytes s)
+      (s : Settled) → undistort camera record { 0 = x; 1 = y } ≡ points.At s → length lent ≡ 24
+      → undistort-bytes model params x y lent ≡ given 0 (point-bytes s)
   unfolding undistort-bytes
   undistort-answered s e f =
-      is-read (λ (a : Asked). given-point (told (undistorted a record { 0 = x; 1 = y })) lent)
-      ∙ ap (λ (d : Undistorted). given-point (told d) lent) e
+      by-camera (λ (a : Asked). undistorted a record { 0 = x; 1 = y }) (λ (d : Undistorted). given-point (told d) lent) (points.At s) e
       ∙ filled 24 0 (point-bytes s) lent refl f
 
   -- Where it answers a Jacobian, 200 bytes are that, by the point and by the parameters.
