@@ -289,6 +289,24 @@ def rules_table(head):
             assert head.turn(allowance, 12)[1][:2] == ["kept", "kept"]
 
 
+# ---- the numbers by hand that are run and not proved (docs/RULES.md 17)
+
+
+def by_hand(head):
+    head.heading("by hand: the rules' table after 14, 17 and 20 units")
+    started(head, CAMERA, W, H)
+    for allowance, done, cells in ((14, 14, 0), (3, 17, 3), (1000, 20, 6)):
+        assert head.turn(allowance, 12, stay=1)[0] == 0
+        assert record_of(head.lent).done == done and head.table[:12].count(BEFORE) == 12 - 2 * cells
+    region = head.lent[152:JOB]
+    head.heading("by hand: lookup (1, 0.5), (4, 2.5), (4.5, 0) in it")
+    for x, y, owed in ((1.0, 0.5, 0), (4.0, 2.5, 0), (4.5, 0.0, 9)):
+        assert head.lookup(12, region, W, H, x, y) == (owed, ["kept" if owed else doubles(x, y).hex()])
+    head.heading("by hand: width 1, width 2, fx = -0")
+    for fx, w, owed in ((1.0, 1, 6), (1.0, 2, 0), (-0.0, W, 5)):
+        assert head.job_new(AFFINE, doubles(fx, 1.0, 0.0, 0.0), w, H)[0] == owed
+
+
 # ---- jobs refused at a unit
 
 # Words, camera, width, height, and what the words say: the refusal's number and the unit refused.
@@ -824,6 +842,7 @@ def written():
     head = Head()
     for part in (
         rules_table,
+        by_hand,
         refused_at_a_unit,
         beside_a_refusal,
         fresh_records,

@@ -20,9 +20,10 @@ use Rattle.region.specs.declared.Region.{Region}
 use Rattle.camera.specs.Camera.{parameters}
 use Rattle.camera.specs.declared.Camera.{Camera}
 use Rattle.camera.specs.declared.Camera.the-variants as cameras
+use Rattle.region_bytes.specs.Box.{box-at}
 use Rattle.camera_bytes.specs.Reading.{affine, enhanced-unified, kannala-brandt, brown-conrady, camera-of}
 use Rattle.job.specs.declared.Job.{Job}
-use Rattle.job_bytes.specs.Bytes.{model-number, twelve, box-at, job-at, record-bytes}
+use Rattle.job_bytes.specs.Bytes.{model-number, twelve, job-at, record-bytes}
 use Rattle.job_bytes.proofs.Placing.{part₀, part₁, part₂, part₃, part₄, part₅, part₆, part₇, to₁, to₂, to₃, to₄, to₅, to₆, long₀, long₁, long₂, long₃, long₄, long₅, long₆, always-twelve}
 
 -- ---- numbers that are f64s

@@ -28,16 +28,15 @@ use Rattle.job_bytes.proofs.Reading.{read-job}
 use Rattle.job_bytes.proofs.Placing as placing
 use Rattle.job_bytes.proofs.Back.{camera-fits, model-known, model-back, job-back}
 use Rattle.job_bytes.proofs.Beginning.{fresh-zero}
-use Rattle.job_bytes.proofs.region_of.Reads as region-of-contract
 use Rattle.job_bytes.proofs.read.Reads as read-contract
 use Rattle.job_bytes.proofs.write.Reads as write-contract
 use Rattle.job_bytes.proofs.fresh.Reads as fresh-contract
 
 -- ---- each contract permits one answer, and one buffer
 
--- Any two answers to one call that the contract of `region_of` permits are equal, and so for `read`.
-pub determined : Determined region-of-contract.Post × Determined read-contract.Post
-determined = (λ κ a s s' r r' p q. p ∙ sym q, λ κ a s s' r r' p q. p ∙ sym q)
+-- Any two answers to one call that the contract of `read` permits are equal.
+pub determined : Determined read-contract.Post
+determined = λ κ a s s' r r' p q. p ∙ sym q
 
 -- Any two buffers that the contract of `write` permits after one call are equal, and any two numbers and buffers for `fresh`.
 pub determined-buffers : DeterminedWith write-contract.Post (λ κ s. now (s .1 .0)) × DeterminedWith fresh-contract.Post (λ κ s. now (s .1 .1 .1 .1 .0))

@@ -1,31 +1,22 @@
 -- What is read, each at its place, and why nothing is. Assumes nothing.
 use mathlib.Core.Path.{_≡_, refl, ap₂, _∙_}
 use mathlib.Core.List.{List}
-use Prim.Native.Nat.{ℕ, _+_, _-_, _≤_, _<_}
+use Prim.Native.Nat.{ℕ, _-_, _≤_, _<_}
 use native.Mathlib.Omega.{arith}
 use borrow.Author.Tests.{le-leb, lt-leb, eq-eqb, ne-eqb}
-use lib.Ieee.{Float}
 use lib.ListN.{length, take, drop, length-drop}
 use lib.Seq.{take-all}
 use Rattle.lens.specs.declared.Refusal.the-variants.{UnknownModel, WrongLength}
 use Rattle.region.specs.declared.Region.{Region}
 use Rattle.camera.specs.declared.Camera.{Camera}
-use Rattle.little_endian.specs.Bytes.{half, word, float}
+use Rattle.little_endian.specs.Bytes.{half, word}
+use Rattle.region_bytes.specs.Box.{box-at}
 use Rattle.camera_bytes.specs.Reading.{camera-of}
 use Rattle.job.specs.declared.Job.{Job}
-use Rattle.job_bytes.specs.Bytes.{record-length, box-at, job-at, record-read}
+use Rattle.job_bytes.specs.Bytes.{record-length, job-at, record-read}
 use Rattle.job_bytes.specs.declared.Found.the-variants.{Of, Refused}
 
 module _ (bs : List ℕ) where
-  pub boxed :
-      (at : ℕ) (left top right bottom : Float) →
-      left ≡ float bs at →
-      top ≡ float bs (at + 8) →
-      right ≡ float bs (at + 16) →
-      bottom ≡ float bs (at + 24) →
-      _≡_ {A = Region} record { left = left; top = top; right = right; bottom = bottom } (box-at bs at)
-  boxed at left top right bottom l t r b = rw (l, t, r, b) refl
-
   -- the bytes from 8 on, as the code takes them
   rest : take (length bs - 8) (drop 8 bs) ≡ drop 8 bs
   rest = take-all (length bs - 8) (drop 8 bs) (omega (arith, length-drop 8 bs))

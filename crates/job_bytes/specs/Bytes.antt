@@ -5,18 +5,18 @@
 --     8  twelve parameters     112  units done, 8 bytes
 use mathlib.Core.Bool.{cond}
 use mathlib.Core.List.{List, [], _++_}
-use Prim.Native.Nat.{ℕ, _+_}
+use Prim.Native.Nat.{ℕ}
 use lib.Dec.{eqb, leb}
 use lib.Ieee.{Float}
 use lib.ListN.{length, take, drop, replicate}
 use Rattle.lens.specs.Constants.{zeros}
 use Rattle.lens.specs.declared.Refusal.the-variants.{UnknownModel, WrongLength}
 use Rattle.region.specs.Region.{four}
-use Rattle.region.specs.declared.Region.{Region}
 use Rattle.camera.specs.Camera.{parameters}
 use Rattle.camera.specs.declared.Camera.{Camera}
 use Rattle.camera.specs.declared.Camera.the-variants as cameras
-use Rattle.little_endian.specs.Bytes.{bytes, half, word, float, floats}
+use Rattle.little_endian.specs.Bytes.{bytes, half, word, floats}
+use Rattle.region_bytes.specs.Box.{box-at}
 use Rattle.camera_bytes.specs.Reading.{camera-of, read}
 use Rattle.camera_bytes.specs.declared.Asked.{Asked}
 use Rattle.camera_bytes.specs.declared.Asked.the-variants as asked
@@ -51,9 +51,6 @@ record-bytes job =
     ++ floats (four (job .at .edges)) ++ floats (four (job .at .region))
 
 -- ---- read, each at its place
-
-abbrev pub box-at : List ℕ → ℕ → Region
-box-at bs at = record { left = float bs at; top = float bs (at + 8); right = float bs (at + 16); bottom = float bs (at + 24) }
 
 unfoldable pub job-at : List ℕ → Job
 job-at bs = record {

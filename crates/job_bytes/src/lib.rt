@@ -3,18 +3,16 @@ ghost use mathlib.Core.Path.{_≡_};
 ghost use Prim.Native.Nat.{_≤_};
 ghost use lib.ListN.{length};
 ghost use Rattle.little_endian.specs.Bytes.{half, floats, put};
-ghost use Rattle.region.specs.Region.{four};
 ghost use Rattle.camera.specs.Camera.{parameters};
 ghost use Rattle.given.specs.Given.{given, answered};
 ghost use Rattle.job.specs.Job.{told-started};
-ghost use Rattle.job_bytes.specs.Bytes.{record-length, model-number, twelve, box-at, job-at, record-bytes, record-read, started, give-started, fresh-bytes};
+ghost use Rattle.job_bytes.specs.Bytes.{record-length, model-number, twelve, job-at, record-bytes, record-read, started, give-started, fresh-bytes};
 use camera::Camera;
 use camera_bytes::Asked;
 use job::Job;
 use job::Started;
 use lens::Refusal;
 use plans::Progress;
-use region::Region;
 
 // How many bytes a record has.
 pub const LENGTH: usize = 184;
@@ -23,26 +21,6 @@ pub const LENGTH: usize = 184;
 pub enum Found {
     Of(Job),
     Refused(Refusal),
-}
-
-// The four numbers of a box, one after the other.
-fn box_at(bytes: &[u8], at: usize) -> Region
-    requires { ⌜ at ≤ 152 ⌝ }
-    ensures { λ r. ⌜ r ≡ box-at (now (bytes .entry)) at ⌝ }
-{
-    Region {
-        left: little_endian::float(bytes, at),
-        top: little_endian::float(bytes, at + 8),
-        right: little_endian::float(bytes, at + 16),
-        bottom: little_endian::float(bytes, at + 24),
-    }
-}
-
-// The box of the first 32 bytes. Past the end stand zeros.
-pub fn region_of(bytes: &[u8]) -> Region
-    ensures { λ r. ⌜ r ≡ box-at (now (bytes .entry)) 0 ⌝ }
-{
-    box_at(bytes, 0)
 }
 
 // What stands at each place, of a model that there is.
@@ -56,8 +34,8 @@ fn job_at(bytes: &[u8], model: u8) -> Job
         height: little_endian::half(bytes, 108) as usize,
         at: Progress {
             done: little_endian::word(bytes, 112) as usize,
-            edges: box_at(bytes, 120),
-            region: box_at(bytes, 152),
+            edges: region_bytes::box_at(bytes, 120),
+            region: region_bytes::box_at(bytes, 152),
             updates: little_endian::half(bytes, 4),
         },
     }
@@ -136,17 +114,6 @@ fn put_camera(camera: Camera, out: &mut [u8])
     put_parameters(camera, out);
 }
 
-// A box at its place.
-fn put_box(region: Region, at: usize, out: &mut [u8])
-    ensures { λ _. ⌜ now (out .exit) ≡ put at (floats (four region)) (now (out .entry)) ⌝ }
-{
-    little_endian::put_floats(
-        out,
-        at,
-        &[region.left, region.top, region.right, region.bottom],
-    );
-}
-
 // Writes a record at the buffer's start, if all of it fits. Else the buffer is left as it is.
 pub fn write(job: Job, out: &mut [u8])
     ensures { λ _. ⌜ now (out .exit) ≡ put 0 (record-bytes job) (now (out .entry)) ⌝ }
@@ -162,8 +129,8 @@ pub fn write(job: Job, out: &mut [u8])
         little_endian::put(out, 104, 4, job.width as u64);
         little_endian::put(out, 108, 4, job.height as u64);
         little_endian::put(out, 112, 8, at.done as u64);
-        put_box(edges, 120, out);
-        put_box(region, 152, out);
+        region_bytes::put_box(edges, 120, out);
+        region_bytes::put_box(region, 152, out);
     }
 }
 

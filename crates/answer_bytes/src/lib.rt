@@ -1,0 +1,195 @@
+// A camera's four operations over bytes: a model's number and its parameters' bytes in, the number told out, and the
+// answer's bytes in a buffer that the caller lends. What is refused writes nothing.
+ghost use mathlib.Core.Path.{_≡_};
+ghost use Rattle.lens.specs.Distorted.{told-pixel};
+ghost use Rattle.lens.specs.Undistorted.{told};
+ghost use Rattle.camera.specs.Camera.{refused};
+ghost use Rattle.given.specs.Given.{given};
+ghost use Rattle.answer_bytes.specs.Answer.{give-pixel, give-point, give-jacobian, distorted, undistorted, slopes, parameter-slopes, distort-bytes, undistort-bytes, dx-distort-x-bytes, dx-distort-params-bytes};
+ghost use Rattle.answer_bytes.specs.Reading.{read-for-params};
+use camera::Differentiated;
+use camera_bytes::Asked;
+use lens::Distorted;
+use lens::Pixel;
+use lens::Point;
+use lens::Refusal;
+use lens::Settled;
+use lens::Undistorted;
+
+// What distort tells: its number, and its pixel or zeros.
+pub struct ToldPixel {
+    pub number: u8,
+    pub pixel: Pixel,
+}
+
+pub fn told_pixel(distorted: Distorted) -> ToldPixel
+    ensures { λ r. ⌜ (r .number ≡ told-pixel distorted .number) × (r .pixel ≡ told-pixel distorted .pixel) ⌝ }
+{
+    match distorted {
+        Distorted::At(pixel) => ToldPixel { number: 0, pixel },
+        Distorted::Refused(refusal) => ToldPixel {
+            number: lens::number(refusal),
+            pixel: Pixel(0.0, 0.0),
+        },
+    }
+}
+
+// The pixel that a camera gives, or why there is no camera.
+fn distorted(asked: Asked, point: Point) -> Distorted
+    ensures { λ r. ⌜ told-pixel r ≡ told-pixel (distorted asked point) ⌝ }
+{
+    match asked {
+        Asked::Of(camera) => camera::distort(camera, point),
+        Asked::Refused(refusal) => Distorted::Refused(refusal),
+    }
+}
+
+// Hands a pixel over, if it has the number 0 and the buffer is of its length.
+pub fn give_pixel(told: ToldPixel, answer: &mut [u8]) -> u8
+    ensures { λ r. ⌜ given r (now (answer .exit)) ≡ give-pixel (told .number) (told .pixel) (now (answer .entry)) ⌝ }
+{
+    let code = given::code(told.number, answer.len() == 16);
+    if code == 0 {
+        let pixel = told.pixel;
+        little_endian::put_floats(answer, 0, &[pixel.0, pixel.1]);
+    }
+    code
+}
+
+// The pixel of a point: u and v, 16 bytes.
+pub fn distort(model: u8, params: &[u8], x: f64, y: f64, answer: &mut [u8]) -> u8
+    ensures { λ r. ⌜ given r (now (answer .exit)) ≡
+        distort-bytes model (now (params .entry)) x y (now (answer .entry)) ⌝ }
+{
+    let told = told_pixel(distorted(camera_bytes::read(model, params), Point(x, y)));
+    give_pixel(told, answer)
+}
+
+// The same for undistort: its number, and where it settled or zeros and no.
+struct ToldPoint {
+    number: u8,
+    settled: Settled,
+}
+
+fn told_point(undistorted: Undistorted) -> ToldPoint
+    ensures { λ r. ⌜ (r .number ≡ told undistorted .number) × (r .settled ≡ told undistorted .settled) ⌝ }
+{
+    match undistorted {
+        Undistorted::At(settled) => ToldPoint { number: 0, settled },
+        Undistorted::Refused(refusal) => {
+            let point = Point(0.0, 0.0);
+            let settled = Settled {
+                point,
+                updates: 0,
+                flag: false,
+            };
+            ToldPoint {
+                number: lens::number(refusal),
+                settled,
+            }
+        }
+    }
+}
+
+fn undistorted(asked: Asked, pixel: Pixel) -> Undistorted
+    ensures { λ r. ⌜ told r ≡ told (undistorted asked pixel) ⌝ }
+{
+    match asked {
+        Asked::Of(camera) => camera::undistort(camera, pixel),
+        Asked::Refused(refusal) => Undistorted::Refused(refusal),
+    }
+}
+
+// The flag's four bytes hold it and three zeros, since it is 0 or 1.
+fn give_point(told: ToldPoint, answer: &mut [u8]) -> u8
+    ensures { λ r. ⌜ given r (now (answer .exit)) ≡ give-point (told .number) (told .settled) (now (answer .entry)) ⌝ }
+{
+    let code = given::code(told.number, answer.len() == 24);
+    if code == 0 {
+        let settled = told.settled;
+        let point = settled.point;
+        little_endian::put_floats(answer, 0, &[point.0, point.1]);
+        little_endian::put(answer, 16, 4, settled.updates as u64);
+        little_endian::put(answer, 20, 4, given::flag_number(settled.flag));
+    }
+    code
+}
+
+// The point of a pixel: x and y, the updates, the flag, three zeros, 24 bytes.
+pub fn undistort(model: u8, params: &[u8], u: f64, v: f64, answer: &mut [u8]) -> u8
+    ensures { λ r. ⌜ given r (now (answer .exit)) ≡
+        undistort-bytes model (now (params .entry)) u v (now (answer .entry)) ⌝ }
+{
+    let told = told_point(undistorted(camera_bytes::read(model, params), Pixel(u, v)));
+    give_point(told, answer)
+}
+
+// A refusal in the derivatives' form.
+fn refused(refusal: Refusal) -> Differentiated
+    ensures { λ r. ⌜ r ≡ refused refusal ⌝ }
+{
+    Differentiated {
+        number: lens::number(refusal),
+        jacobian: lens::two_rows(&[], &[]),
+    }
+}
+
+// The derivatives that a camera gives, or why there is no camera.
+fn slopes(asked: Asked, point: Point) -> Differentiated
+    ensures { λ r. ⌜ r ≡ slopes asked point ⌝ }
+{
+    match asked {
+        Asked::Of(camera) => camera::dx_distort_x(camera, point),
+        Asked::Refused(refusal) => refused(refusal),
+    }
+}
+
+fn parameter_slopes(asked: Asked, point: Point) -> Differentiated
+    ensures { λ r. ⌜ r ≡ parameter-slopes asked point ⌝ }
+{
+    match asked {
+        Asked::Of(camera) => camera::dx_distort_params(camera, point),
+        Asked::Refused(refusal) => refused(refusal),
+    }
+}
+
+fn give_jacobian(told: Differentiated, answer: &mut [u8]) -> u8
+    ensures { λ r. ⌜ given r (now (answer .exit)) ≡ give-jacobian told (now (answer .entry)) ⌝ }
+{
+    let code = given::code(told.number, answer.len() == 200);
+    if code == 0 {
+        let jacobian = told.jacobian;
+        let entries = jacobian.entries;
+        little_endian::put_floats(answer, 0, &entries);
+        little_endian::put(answer, 192, 8, jacobian.columns as u64);
+    }
+    code
+}
+
+// The derivative of distort by the point: 24 numbers row by row, then how many columns, 200 bytes.
+pub fn dx_distort_x(model: u8, params: &[u8], x: f64, y: f64, answer: &mut [u8]) -> u8
+    ensures { λ r. ⌜ given r (now (answer .exit)) ≡
+        dx-distort-x-bytes model (now (params .entry)) x y (now (answer .entry)) ⌝ }
+{
+    let told = slopes(camera_bytes::read(model, params), Point(x, y));
+    give_jacobian(told, answer)
+}
+
+// Model 3 is refused with 2 whatever its parameters are, since 2 comes before 3.
+fn read_for_params(model: u8, params: &[u8]) -> Asked
+    ensures { λ r. ⌜ r ≡ read-for-params model (now (params .entry)) ⌝ }
+{
+    if model == 3 {
+        return Asked::Refused(Refusal::NoParameterJacobian);
+    }
+    camera_bytes::read(model, params)
+}
+
+// The derivative of distort by the parameters, in the same form.
+pub fn dx_distort_params(model: u8, params: &[u8], x: f64, y: f64, answer: &mut [u8]) -> u8
+    ensures { λ r. ⌜ given r (now (answer .exit)) ≡
+        dx-distort-params-bytes model (now (params .entry)) x y (now (answer .entry)) ⌝ }
+{
+    let told = parameter_slopes(read_for_params(model, params), Point(x, y));
+    give_jacobian(told, answer)
+}
