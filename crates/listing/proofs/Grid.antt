@@ -12,9 +12,13 @@ use lib.Dec.{T, eqb, ltb}
 use lib.Ieee.{Float, nan, binary32, fits}
 use lib.ListN.{length, getD}
 use Rattle.region.specs.declared.Region.{Region}
-use Rattle.listing.specs.Listing.{table-line, region-line, cell-line, across, down, cell-lines, listing-lines, joined, listing}
-use Rattle.listing.specs.Read.{fields, lines, Cell, cell-of, numbers}
-use Rattle.listing.proofs.Back.{cell-back, table-cut, region-cut, cell-cut}
+use Rattle.put_text.specs.Placed.{joined}
+use Rattle.listing_lines.specs.Line.{table-line, region-line, cell-line}
+use Rattle.listing_lines.specs.Read.{fields, Cell, cell-of}
+use Rattle.listing_lines.proofs.Back.{cell-back}
+use Rattle.listing.specs.Listing.{across, down, cell-lines, listing-lines, listing}
+use Rattle.listing.specs.Read.{lines, numbers}
+use Rattle.listing.proofs.Cut.{table-cut, region-cut, cell-cut}
 
 -- ---- from place to place
 

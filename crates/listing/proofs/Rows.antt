@@ -11,10 +11,11 @@ use lib.Ieee.{Float, nan}
 use lib.ListN.{length, getD, drop, length-drop}
 use lib.Seq.{drop-cons}
 use Rattle.region.specs.declared.Region.{Region}
-use Rattle.listing.specs.Listing.{table-line, region-line, cell-line, across, down, cell-lines, listing-lines}
-use Rattle.listing.specs.Placed.{Written, written, placed, placed-all}
-use Rattle.listing.proofs.Putting.{stopped, went-on}
-use Rattle.listing.proofs.Lines.{table-some, region-some, cell-some}
+use Rattle.listing_lines.specs.Line.{table-line, region-line, cell-line}
+use Rattle.listing.specs.Listing.{across, down, cell-lines, listing-lines}
+use Rattle.put_text.specs.Placed.{Written, written, placed, placed-all}
+use Rattle.put_text.proofs.Putting.{stopped, went-on}
+use Rattle.listing_lines.proofs.Lines.{table-some, region-some, cell-some}
 
 -- ---- the next place
 

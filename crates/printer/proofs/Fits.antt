@@ -20,7 +20,9 @@ use Rattle.camera.specs.declared.Camera.the-variants as model
 use Rattle.camera_file.specs.Asked.{parsed}
 use Rattle.camera_file.specs.declared.Parsed.{Parsed}
 use Rattle.camera_file.specs.declared.Parsed.the-variants as file
-use Rattle.listing.specs.Listing.{table-line, region-line, refused-line, cell-lines, listing-lines, joined}
+use Rattle.put_text.specs.Placed.{joined}
+use Rattle.listing_lines.specs.Line.{table-line, region-line, refused-line}
+use Rattle.listing.specs.Listing.{cell-lines, listing-lines}
 use Rattle.border.specs.Border.{samples}
 use Rattle.distortion_table.specs.Answer.{Answer, answer, whole-table, enough}
 use Rattle.job.specs.Job.{fresh-job, fresh}

@@ -17,8 +17,9 @@ use Rattle.camera.specs.declared.Camera.{Camera}
 use Rattle.camera_file.specs.Asked.{parsed}
 use Rattle.camera_file.specs.declared.Parsed.{Parsed}
 use Rattle.camera_file.specs.declared.Parsed.the-variants as file
-use Rattle.listing.specs.Listing.{refused-line, listing, joined}
-use Rattle.listing.specs.Placed.{Written}
+use Rattle.put_text.specs.Placed.{joined, Written}
+use Rattle.listing_lines.specs.Line.{refused-line}
+use Rattle.listing.specs.Listing.{listing}
 use Rattle.listing.specs.Read.{Listed, read-listing}
 use Rattle.listing.proofs.Grid.{AllFit}
 use Rattle.listing.proofs.Laws.{listing-read}

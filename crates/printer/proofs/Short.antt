@@ -12,8 +12,10 @@ use lib.ListN.{length, length-append}
 use Rattle.region.specs.declared.Region.{Region}
 use Rattle.decimal.specs.Decimal.{places, decimal}
 use Rattle.decimal.proofs.Digits.{length-digits}
-use Rattle.listing.specs.Listing.{line, table-line, region-line, cell-line, refused-line, across, down, cell-lines, joined}
-use Rattle.listing.proofs.Numbers.{hex-length}
+use Rattle.put_text.specs.Placed.{joined}
+use Rattle.listing_lines.specs.Line.{line, table-line, region-line, cell-line, refused-line}
+use Rattle.listing.specs.Listing.{across, down, cell-lines}
+use Rattle.listing_lines.proofs.Numbers.{hex-length}
 
 -- a number below ten to the k + 1 has no more than k + 1 digits
 places-most : (k most n : ℕ) → n < 10 ^ suc k → places most n ≤ suc k

@@ -16,8 +16,9 @@ use Rattle.job.specs.Job.{fresh}
 use Rattle.turns.specs.Turns.{Said, finished, refused, running}
 use Rattle.job.specs.declared.Started.{Started}
 use Rattle.job.specs.declared.Started.the-variants as begun
-use Rattle.listing.specs.Listing.{refused-line, listing-lines, joined}
-use Rattle.listing.specs.Placed.{Written, written, with-text}
+use Rattle.put_text.specs.Placed.{joined, Written, written, with-text}
+use Rattle.listing_lines.specs.Line.{refused-line}
+use Rattle.listing.specs.Listing.{listing-lines}
 
 -- a refusal is one line
 abbrev pub refusal-lines : ℕ → List (List ℕ)

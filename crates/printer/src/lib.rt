@@ -7,8 +7,8 @@ ghost use Rattle.lens.specs.Refusal.{number};
 ghost use Rattle.region.specs.Size.{Sized};
 ghost use Rattle.io.specs.Counts.{Counts};
 ghost use Rattle.distortion_table.specs.Answer.{told-turned, whole-table};
-ghost use Rattle.listing.specs.Listing.{refused-line};
-ghost use Rattle.listing.specs.Placed.{written, placed-all};
+ghost use Rattle.listing_lines.specs.Line.{refused-line};
+ghost use Rattle.put_text.specs.Placed.{written, placed-all};
 ghost use Rattle.printer.specs.Printed.{shown, sized-lines, table-lines, printed-lines, print};
 use camera::Camera;
 use camera_file::Parsed;
@@ -29,7 +29,7 @@ pub const OUTPUT: usize = 139264;
 fn refuse(out: &mut [u8], refusal: Refusal) -> usize
     ensures { λ r. ⌜ written (now (out .exit)) r ≡ placed-all (written (now (out .entry)) 0) (refused-line (number refusal) ∷ []) ⌝ }
 {
-    listing::refused_line(out, 0, refusal)
+    listing_lines::refused_line(out, 0, refusal)
 }
 
 // The lines of a table that is done, or of the refusal that ended it.
