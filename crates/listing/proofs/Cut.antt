@@ -1,16 +1,18 @@
 -- A listing is cut into the lines that it is made of. Assumes nothing.
 use mathlib.Core.Path.{_≡_, refl, ap, _∙_}
+use mathlib.Core.Bool.{Bool, true, false, cond}
 use mathlib.Core.List.{List, [], _∷_, _++_, append-assoc}
 use Prim.Native.Nat.{ℕ}
 use native.Mathlib.Omega.{arith}
 use borrow.Author.Tests.{ne-eqb}
-use lib.Ieee.{Float}
+use lib.Dec.{ltb}
 use Rattle.decimal.specs.Decimal.{decimal}
-use Rattle.region.specs.declared.Region.{Region}
-use Rattle.listing_lines.specs.Line.{single, double, line, word-table, word-region, word-cell, table-line, region-line, cell-line}
-use Rattle.listing_lines.specs.Read.{onto}
+use Rattle.put_text.specs.Placed.{joined}
+use Rattle.listing_lines.specs.Line.{hex, line, word-table, word-region, word-cell, table-line, region-text, cell-text}
+use Rattle.listing_lines.specs.Read.{onto, header-text, Edges, edges-text, Cell, text-of-cell}
 use Rattle.listing_lines.proofs.Back.{Plain, Plains, table-plain, region-plain, cell-plain, plains-of-table, plains-of-region, plains-of-cell}
-use Rattle.listing.specs.Read.{lines}
+use Rattle.listing.specs.Listing.{across, down, cell-texts}
+use Rattle.listing.specs.Read.{lines, Listed, listed-text}
 
 -- ---- the lines of a text
 
@@ -43,13 +45,41 @@ module _ (width height updates : ℕ) where
   unfolding table-line
   table-cut rest = lines-line word-table (decimal width ∷ decimal height ∷ decimal updates ∷ []) rest table-plain (plains-of-table width height updates)
 
-module _ (r : Region) where
-  pub region-cut : (rest : List ℕ) → lines (region-line r ++ rest) ≡ region-line r ∷ lines rest
-  unfolding region-line
+module _ (e : Edges) where
+  pub region-cut : (rest : List ℕ) → lines (edges-text e ++ rest) ≡ edges-text e ∷ lines rest
+  unfolding region-text
   region-cut rest =
-      lines-line word-region (double (r .left) ∷ double (r .top) ∷ double (r .right) ∷ double (r .bottom) ∷ []) rest region-plain (plains-of-region r)
+      lines-line word-region (hex 16 (e .left) ∷ hex 16 (e .top) ∷ hex 16 (e .right) ∷ hex 16 (e .bottom) ∷ []) rest region-plain (plains-of-region e)
 
-module _ (u v : ℕ) (a b : Float) where
-  pub cell-cut : (rest : List ℕ) → lines (cell-line u v a b ++ rest) ≡ cell-line u v a b ∷ lines rest
-  unfolding cell-line
-  cell-cut rest = lines-line word-cell (decimal u ∷ decimal v ∷ single a ∷ single b ∷ []) rest cell-plain (plains-of-cell u v a b)
+module _ (c : Cell) where
+  pub cell-cut : (rest : List ℕ) → lines (text-of-cell c ++ rest) ≡ text-of-cell c ∷ lines rest
+  unfolding cell-text
+  cell-cut rest = lines-line word-cell (decimal (c .u) ∷ decimal (c .v) ∷ hex 8 (c .a) ∷ hex 8 (c .b) ∷ []) rest cell-plain (plains-of-cell c)
+
+pub cells-cut : (width height u v : ℕ) (rest : List ℕ) → lines (joined (cell-texts width height u v rest)) ≡ cell-texts width height u v rest
+unfolding cell-texts joined lines
+cells-cut width height u v [] = refl
+cells-cut width height u v (a ∷ []) = refl
+cells-cut width height u v (a ∷ b ∷ rest) = by-row (ltb v height) (cells-cut width height (across width u) (down width u v) rest)
+  where
+    by-row :
+        (t : Bool) →
+        lines (joined (cell-texts width height (across width u) (down width u v) rest)) ≡ cell-texts width height (across width u) (down width u v) rest →
+        lines (joined (cond t (cell-text u v a b ∷ cell-texts width height (across width u) (down width u v) rest) []))
+        ≡ cond t (cell-text u v a b ∷ cell-texts width height (across width u) (down width u v) rest) []
+    by-row true e =
+        cell-cut (record { u = u; v = v; a = a; b = b }) (joined (cell-texts width height (across width u) (down width u v) rest))
+        ∙ ap (λ (l : List (List ℕ)). cell-text u v a b ∷ l) e
+    by-row false e = refl
+
+-- all of it
+pub listed-cut :
+    (l : Listed) →
+    lines (listed-text l) ≡ header-text (l .header) ∷ edges-text (l .edges) ∷ cell-texts (l .header .width) (l .header .height) 0 0 (l .cells)
+unfolding listed-text joined
+listed-cut l =
+    let h = l .header in
+    let cells = cell-texts (h .width) (h .height) 0 0 (l .cells) in
+    table-cut (h .width) (h .height) (h .updates) (edges-text (l .edges) ++ joined cells)
+    ∙ ap (λ (texts : List (List ℕ)). header-text h ∷ texts)
+    (region-cut (l .edges) (joined cells) ∙ ap (λ (texts : List (List ℕ)). edges-text (l .edges) ∷ texts) (cells-cut (h .width) (h .height) 0 0 (l .cells)))

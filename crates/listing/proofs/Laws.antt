@@ -1,23 +1,28 @@
 -- What a caller may rely on, of the definitions of specs/ and of the contracts of src/. Assumes nothing.
-use mathlib.Core.Path.{_≡_, sym, ap, _∙_}
+use mathlib.Core.Path.{_≡_, refl, sym, ap, _∙_}
+use mathlib.Core.Bool.{true, _&&_}
 use mathlib.Core.List.{List, [], _∷_}
 use mathlib.Core.Option.{some}
 use Prim.Native.Nat.{ℕ, _+_, _*_, _≤_, _<_}
 use native.Mathlib.Omega.{arith}
 use denote.Ref.{now}
-use lib.Dec.{T}
-use lib.Ieee.{Float, nan, binary64, fits}
+use borrow.Author.Tests.{leb-true, eqb-true}
+use lib.Dec.{eqb, leb}
+use lib.Ieee.{Float, nan}
 use lib.ListN.{length, getD}
 use Rattle.exact.specs.Determined.{DeterminedWith}
+use Rattle.region.specs.Size.{within, sized}
 use Rattle.region.specs.declared.Region.{Region}
 use Rattle.put_text.specs.Placed.{written, placed, placed-all}
 use Rattle.put_text.proofs.Laws.{both, texts-in-place}
 use Rattle.listing_lines.specs.Line.{cell-line}
-use Rattle.listing_lines.proofs.Back.{header-back, region-back}
-use Rattle.listing_lines.proofs.Laws.{read-again, only-same}
-use Rattle.listing.specs.Listing.{cell-lines, listing-lines, listing}
-use Rattle.listing.specs.Read.{lines, Listed, listed-of, numbers, read-listing}
-use Rattle.listing.proofs.Grid.{AllFit, numbers-back, listing-cut, count, line-at, before-end}
+use Rattle.listing_lines.specs.Read.{fair-edges}
+use Rattle.listing_lines.proofs.Reading.{both-true, read-again, only-read}
+use Rattle.listing_lines.proofs.Back.{header-back, edges-back}
+use Rattle.listing.specs.Listing.{cell-texts, cell-lines, listing-lines, listing}
+use Rattle.listing.specs.Read.{Listed, listed, listed-text, fair-header, fair, lines, patterns, listed-of, read-listing}
+use Rattle.listing.proofs.Cut.{listed-cut}
+use Rattle.listing.proofs.Grid.{patterns-back, count, line-at, before-end}
 use Rattle.listing.proofs.cells.Reads as cells-contract
 use Rattle.listing.proofs.write_listing.Reads as write-listing-contract
 
@@ -64,50 +69,33 @@ module _ (width height : ℕ) (table : List Float) (long : length table ≡ 2 * 
 
 -- ---- reading back
 
--- The lines of a listing are those it is made of.
-pub listing-lines-back :
+-- The bytes of a listing are what is written of the bit patterns of its table and region.
+pub listing-is :
     (width height updates : ℕ) (region : Region) (table : List Float) →
-    lines (listing width height updates region table) ≡ listing-lines width height updates region table
-listing-lines-back = listing-cut
+    listing width height updates region table ≡ listed-text (listed width height updates region table)
+unfolding listing listing-lines listed-text
+listing-is width height updates region table = refl
 
-listed-back :
-    (width height updates : ℕ) (region : Region) (table : List Float) →
-    0 < width →
-    length table ≡ 2 * (width * height) →
-    AllFit table →
-    T (fits binary64 (region .left)) →
-    T (fits binary64 (region .top)) →
-    T (fits binary64 (region .right)) →
-    T (fits binary64 (region .bottom)) →
-    listed-of (lines (listing width height updates region table)) ≡ record { header = record { width = width; height = height; updates = updates }; region = region; table = table }
-unfolding listed-of listing-lines
-listed-back width height updates region table wide long f h i j k =
-    let n : numbers (cell-lines width height 0 0 table) ≡ table = numbers-back width height 0 0 table wide (omega arith) f in
-    ap listed-of (listing-cut width height updates region table)
-    ∙ simp (header-back width height updates, region-back region h i j k, n)
+listed-back : (l : Listed) → fair l ≡ true → listed-of (lines (listed-text l)) ≡ l
+unfolding listed-of
+listed-back l f =
+    let h = l .header in
+    let x = both-true (fair-header h && fair-edges (l .edges)) _ f in
+    let y = both-true (fair-header h) _ (x .0) in
+    let z = both-true (eqb (length (l .cells)) (2 * (h .width * h .height))) _ (x .1) in
+    let w = both-true (within (h .width)) _ (both-true (sized (h .width) (h .height)) _ (both-true (sized (h .width) (h .height) && leb (h .width * h .height) 4096) _ (y .0) .0) .0) .0 in
+    let wide : 2 ≤ h .width = leb-true 2 (h .width) (both-true (leb 2 (h .width)) _ w .0) in
+    let long : length (l .cells) ≡ 2 * (h .width * h .height) = eqb-true (length (l .cells)) _ (z .0) in
+    let cells : patterns (cell-texts (h .width) (h .height) 0 0 (l .cells)) ≡ l .cells =
+    patterns-back (h .width) (h .height) 0 0 (l .cells) (omega arith) (omega arith) (z .1) in
+    ap listed-of (listed-cut l) ∙ simp (header-back (h .width) (h .height) (h .updates), edges-back (l .edges) (y .1), cells)
 
--- From a listing the same header, region and cells come back.
-pub listing-read :
-    (width height updates : ℕ) (region : Region) (table : List Float) →
-    0 < width →
-    length table ≡ 2 * (width * height) →
-    AllFit table →
-    T (fits binary64 (region .left)) →
-    T (fits binary64 (region .top)) →
-    T (fits binary64 (region .right)) →
-    T (fits binary64 (region .bottom)) →
-    read-listing (listing width height updates region table) ≡ some (record { header = record { width = width; height = height; updates = updates }; region = region; table = table })
+-- From the bytes that are written of what a listing may tell, that comes back: w·h cells row by row, sides of 2 to 4,096, at most 4,096 cells, any bit pattern.
+pub listing-read : (l : Listed) → fair l ≡ true → read-listing (listed-text l) ≡ some l
 unfolding read-listing
-listing-read width height updates region table wide long f h i j k =
-    let e = listed-back width height updates region table wide long f h i j k in
-    read-again _ _ _ _ e (ap (λ (l : Listed). listing (l .header .width) (l .header .height) (l .header .updates) (l .region) (l .table)) e)
+listing-read l f = read-again fair listed-text (listed-of (lines (listed-text l))) (listed-text l) l (listed-back l f) refl f
 
--- Bytes that are read as a listing are the one that is written of those numbers; no other bytes are read.
-pub only-listing :
-    (text : List ℕ) (l : Listed) →
-    read-listing text ≡ some l →
-    text ≡ listing (l .header .width) (l .header .height) (l .header .updates) (l .region) (l .table)
+-- And no other bytes are read: what is read of a text may be told, and the text is what is written of it.
+pub only-listing : (text : List ℕ) (l : Listed) → read-listing text ≡ some l → (text ≡ listed-text l) × (fair l ≡ true)
 unfolding read-listing
-only-listing text l e =
-    let p = only-same _ _ _ l e in
-    p .0 ∙ ap (λ (l : Listed). listing (l .header .width) (l .header .height) (l .header .updates) (l .region) (l .table)) (p .1)
+only-listing text l e = only-read fair listed-text (listed-of (lines text)) text l e

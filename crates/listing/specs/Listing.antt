@@ -1,12 +1,12 @@
 -- The listing of a table, as bytes (docs/RULES.md, 16). Definitions only.
 use mathlib.Core.Bool.{cond}
-use mathlib.Core.List.{List, [], _∷_}
+use mathlib.Core.List.{List, [], _∷_, map}
 use Prim.Native.Nat.{ℕ, _+_}
 use lib.Dec.{eqb, ltb}
-use lib.Ieee.{Float}
+use lib.Ieee.{Float, binary32, toBits}
 use Rattle.region.specs.declared.Region.{Region}
 use Rattle.put_text.specs.Placed.{joined}
-use Rattle.listing_lines.specs.Line.{table-line, region-line, cell-line}
+use Rattle.listing_lines.specs.Line.{table-line, region-line, cell-text}
 
 -- ---- the cells
 
@@ -17,12 +17,17 @@ across width u = cond (eqb (u + 1) width) 0 (u + 1)
 unfoldable pub down : ℕ → ℕ → ℕ → ℕ
 down width u v = cond (eqb (u + 1) width) (v + 1) v
 
--- the lines from the cell at (u, v) on, with the table's numbers from there on: row by row, to the last row or to the table's end
-unfoldable pub cell-lines : ℕ → ℕ → ℕ → ℕ → List Float → List (List ℕ)
-cell-lines width height u v [] = []
-cell-lines width height u v (a ∷ []) = []
-cell-lines width height u v (a ∷ b ∷ rest) =
-    cond (ltb v height) (cell-line u v a b ∷ cell-lines width height (across width u) (down width u v) rest) []
+-- the lines from the cell at (u, v) on, with the table's bit patterns from there on: row by row, to the last row or to
+-- the table's end
+unfoldable pub cell-texts : ℕ → ℕ → ℕ → ℕ → List ℕ → List (List ℕ)
+cell-texts width height u v [] = []
+cell-texts width height u v (a ∷ []) = []
+cell-texts width height u v (a ∷ b ∷ rest) =
+    cond (ltb v height) (cell-text u v a b ∷ cell-texts width height (across width u) (down width u v) rest) []
+
+-- of a table of f32, those of their patterns
+abbrev pub cell-lines : ℕ → ℕ → ℕ → ℕ → List Float → List (List ℕ)
+cell-lines width height u v table = cell-texts width height u v (map (toBits binary32) table)
 
 -- ---- the listing
 

@@ -1,40 +1,79 @@
--- Reading a listing: the numbers whose listing the bytes are, and none for any other bytes. Definitions only.
-use mathlib.Core.Bool.{cond}
-use mathlib.Core.List.{List, [], _∷_}
+-- Reading a listing: what it tells, for the bytes that are the listing of a table of a size that is printed, and none for
+-- any other bytes: not for one with a cell too few, too many or out of its place. Definitions only.
+use mathlib.Core.Bool.{Bool, true, cond, _&&_}
+use mathlib.Core.List.{List, [], _∷_, map}
 use mathlib.Core.Option.{Option}
-use Prim.Native.Nat.{ℕ}
-use lib.Dec.{eqb}
-use lib.Ieee.{Float}
-use lib.ListN.{getD, drop}
+use Prim.Native.Nat.{ℕ, _*_, _^_}
+use lib.Dec.{eqb, leb, ltb}
+use lib.Ieee.{Float, binary32, binary64, toBits}
+use lib.ListN.{length, getD, drop}
 use Rattle.decimal.specs.Text.{newline}
+use Rattle.region.specs.Size.{sized}
 use Rattle.region.specs.declared.Region.{Region}
-use Rattle.listing_lines.specs.Read.{onto, if-same, fields, Header, header-of, region-of, cell-of}
-use Rattle.listing.specs.Listing.{listing}
+use Rattle.put_text.specs.Placed.{joined}
+use Rattle.listing_lines.specs.Read.{onto, read-as, fields, single, Header, header-text, header-of, Edges, edges-text, fair-edges, edges-of, cell-of}
+use Rattle.listing.specs.Listing.{cell-texts}
+
+-- ---- what a listing tells
+
+-- the table's size and the updates that it took, its region, and its cells: bit patterns, so that each NaN is itself
+pub record Listed : Type 0 where
+  pub header : Header
+  pub edges : Edges
+  pub cells : List ℕ
+
+-- of a table of f32 and its region, their patterns
+abbrev pub listed : ℕ → ℕ → ℕ → Region → List Float → Listed
+listed width height updates region table = record {
+  header = record { width = width; height = height; updates = updates };
+  edges = record {
+    left = toBits binary64 (region .left);
+    top = toBits binary64 (region .top);
+    right = toBits binary64 (region .right);
+    bottom = toBits binary64 (region .bottom);
+  };
+  cells = map (toBits binary32) table;
+}
+
+-- its bytes: the table's line, the region's, the cells' row by row
+unfoldable pub listed-text : Listed → List ℕ
+listed-text l =
+    joined (header-text (l .header) ∷ edges-text (l .edges) ∷ cell-texts (l .header .width) (l .header .height) 0 0 (l .cells))
+
+-- ---- what it may tell
+
+-- sides of 2 to 4,096, at most 4,096 cells, and updates that are a u32
+abbrev pub fair-header : Header → Bool
+fair-header h = (sized (h .width) (h .height) && leb (h .width * h .height) 4096) && ltb (h .updates) (2 ^ 32)
+
+abbrev pub all-single : List ℕ → Bool
+all-single [] = true
+all-single (n ∷ rest) = single n && all-single rest
+
+-- edges that are an f64's patterns, and two f32's for each of w·h cells
+abbrev pub fair : Listed → Bool
+fair l =
+    (fair-header (l .header) && fair-edges (l .edges))
+    && (eqb (length (l .cells)) (2 * (l .header .width * l .header .height)) && all-single (l .cells))
+
+-- ---- reading
 
 -- the lines of a text, each with its end
 unfoldable pub lines : List ℕ → List (List ℕ)
 lines [] = []
 lines (b ∷ text) = cond (eqb b newline) ((newline ∷ []) ∷ lines text) (onto b (lines text))
 
--- a table with its size and region, and the updates that it took
-pub record Listed : Type 0 where
-  pub header : Header
-  pub region : Region
-  pub table : List Float
-
--- the numbers of the cells that some lines tell of
-unfoldable pub numbers : List (List ℕ) → List Float
-numbers [] = []
-numbers (text ∷ texts) = let c = cell-of (fields text) in c .a ∷ c .b ∷ numbers texts
+-- the patterns of the cells that some lines tell of
+unfoldable pub patterns : List (List ℕ) → List ℕ
+patterns [] = []
+patterns (text ∷ texts) = let c = cell-of (fields text) in c .a ∷ c .b ∷ patterns texts
 
 unfoldable pub listed-of : List (List ℕ) → Listed
 listed-of texts = record {
   header = header-of (fields (getD texts 0 []));
-  region = region-of (fields (getD texts 1 []));
-  table = numbers (drop 2 texts);
+  edges = edges-of (fields (getD texts 1 []));
+  cells = patterns (drop 2 texts);
 }
 
 unfoldable pub read-listing : List ℕ → Option Listed
-read-listing text =
-    let l = listed-of (lines text) in
-    if-same text (listing (l .header .width) (l .header .height) (l .header .updates) (l .region) (l .table)) l
+read-listing text = read-as fair listed-text (listed-of (lines text)) text

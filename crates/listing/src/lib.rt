@@ -20,7 +20,8 @@ fn down(width: usize, u: usize, v: usize) -> usize
     if u + 1 == width { v + 1 } else { v }
 }
 
-// Puts the lines of a table's cells row by row, up to the first that does not fit, and answers the place behind the last one put.
+// Puts the lines of a table's cells row by row, up to the first that does not fit, and answers the place behind the
+// last one put.
 pub fn cells(out: &mut [u8], at: usize, table: &[f32], width: usize, height: usize) -> usize
     ensures { λ r. ⌜ written (now (out .exit)) r ≡ placed-all (written (now (out .entry)) at) (cell-lines width height 0 0 (now (table .entry))) ⌝ }
 {
@@ -44,7 +45,8 @@ pub fn cells(out: &mut [u8], at: usize, table: &[f32], width: usize, height: usi
     next
 }
 
-// Puts a table's whole listing line by line, up to the first line that does not fit, and answers the place behind the last one put.
+// Puts a table's whole listing line by line, up to the first line that does not fit, and answers the place behind the
+// last one put.
 pub fn write_listing(
     out: &mut [u8],
     at: usize,

@@ -1,35 +1,26 @@
 -- What is written of numbers and of lines is read back. Assumes nothing.
 use mathlib.Core.Path.{_≡_, refl, ap, _∙_}
-use mathlib.Core.Bool.{Bool, true, false, cond}
+use mathlib.Core.Bool.{Bool, true, false, cond, _&&_}
 use mathlib.Core.List.{List, [], _∷_, _++_}
-use Prim.Native.Nat.{ℕ, zero, suc, _+_, _/_, _%_, _<_}
+use Prim.Native.Nat.{ℕ, zero, suc, _+_, _/_, _%_, _^_, _<_}
 use native.Mathlib.Omega.{arith}
-use borrow.Author.Tests.{ne-eqb}
-use lib.Dec.{T, ltb}
-use lib.Ieee.{Float, binary32, binary64, fits, toBits, ofBits}
-use lib.Ieee.Bits.{ofBits-toBits, toBits-lt}
+use borrow.Author.Tests.{ne-eqb, ltb-true}
+use lib.Dec.{ltb}
 use Rattle.io.specs.Digits.{glyph, digits}
 use Rattle.decimal.specs.Decimal.{places, decimal}
 use Rattle.decimal.proofs.Digits.{decimal-worth}
 use Rattle.hex.specs.Hex.{read, bits-of}
-use Rattle.hex.specs.declared.Bits.{Bits}
 use Rattle.hex.specs.declared.Bits.the-variants.{Of}
 use Rattle.hex.proofs.Written.{read-digits}
-use Rattle.region.specs.declared.Region.{Region}
-use Rattle.listing_lines.specs.Line.{hex, single, double, line, word-table, word-region, word-cell, table-line, region-line, cell-line}
-use Rattle.listing_lines.specs.Read.{onto, fields, header-of, region-of, cell-of}
+use Rattle.listing_lines.specs.Line.{hex, line, word-table, word-region, word-cell, table-line, region-text, cell-text}
+use Rattle.listing_lines.specs.Read.{onto, fields, single, double, header-of, Edges, edges-text, fair-edges, edges-of, Cell, text-of-cell, fair-cell, cell-of}
+use Rattle.listing_lines.proofs.Reading.{both-true}
 
--- ---- a number
+-- ---- a bit pattern
 
-pub single-back : (x : Float) → T (fits binary32 x) → ofBits binary32 (bits-of (read (Of 0) (single x))) ≡ x
+pub pattern-back : (k n : ℕ) → n < 16 ^ k → bits-of (read (Of 0) (hex k n)) ≡ n
 unfolding hex
-single-back x h =
-    ap (λ (b : Bits). ofBits binary32 (bits-of b)) (read-digits 8 (toBits binary32 x) (toBits-lt binary32 x h)) ∙ ofBits-toBits binary32 x h
-
-pub double-back : (x : Float) → T (fits binary64 x) → ofBits binary64 (bits-of (read (Of 0) (double x))) ≡ x
-unfolding hex
-double-back x h =
-    ap (λ (b : Bits). ofBits binary64 (bits-of b)) (read-digits 16 (toBits binary64 x) (toBits-lt binary64 x h)) ∙ ofBits-toBits binary64 x h
+pattern-back k n h = ap bits-of (read-digits k n h)
 
 -- ---- words and fields hold no tab and no line end
 
@@ -103,27 +94,36 @@ module _ (width height updates : ℕ) where
       ap header-of (fields-line word-table (decimal width ∷ decimal height ∷ decimal updates ∷ []) table-plain plains-of-table)
       ∙ simp (decimal-worth width, decimal-worth height, decimal-worth updates)
 
-module _ (r : Region) where
-  pub plains-of-region : Plains (double (r .left) ∷ double (r .top) ∷ double (r .right) ∷ double (r .bottom) ∷ [])
+module _ (e : Edges) where
+  pub plains-of-region : Plains (hex 16 (e .left) ∷ hex 16 (e .top) ∷ hex 16 (e .right) ∷ hex 16 (e .bottom) ∷ [])
   plains-of-region = (hex-plain 16 _, (hex-plain 16 _, (hex-plain 16 _, (hex-plain 16 _, tt))))
 
-  pub region-back :
-      T (fits binary64 (r .left)) →
-      T (fits binary64 (r .top)) →
-      T (fits binary64 (r .right)) →
-      T (fits binary64 (r .bottom)) →
-      region-of (fields (region-line r)) ≡ r
-  unfolding region-line region-of
-  region-back h i j k =
-      ap region-of (fields-line word-region (double (r .left) ∷ double (r .top) ∷ double (r .right) ∷ double (r .bottom) ∷ []) region-plain plains-of-region)
-      ∙ simp (double-back (r .left) h, double-back (r .top) i, double-back (r .right) j, double-back (r .bottom) k)
+  pub edges-back : fair-edges e ≡ true → edges-of (fields (edges-text e)) ≡ e
+  unfolding region-text edges-of
+  edges-back h =
+      let x = both-true (double (e .left) && double (e .top)) _ h in
+      let y = both-true (double (e .left)) _ (x .0) in
+      let z = both-true (double (e .right)) _ (x .1) in
+      ap edges-of (fields-line word-region (hex 16 (e .left) ∷ hex 16 (e .top) ∷ hex 16 (e .right) ∷ hex 16 (e .bottom) ∷ []) region-plain plains-of-region)
+      ∙ simp (
+        pattern-back 16 (e .left) (omega (arith, ltb-true (e .left) (2 ^ 64) (y .0))),
+        pattern-back 16 (e .top) (omega (arith, ltb-true (e .top) (2 ^ 64) (y .1))),
+        pattern-back 16 (e .right) (omega (arith, ltb-true (e .right) (2 ^ 64) (z .0))),
+        pattern-back 16 (e .bottom) (omega (arith, ltb-true (e .bottom) (2 ^ 64) (z .1))),
+      )
 
-module _ (u v : ℕ) (a b : Float) where
-  pub plains-of-cell : Plains (decimal u ∷ decimal v ∷ single a ∷ single b ∷ [])
-  plains-of-cell = (decimal-plain u, (decimal-plain v, (hex-plain 8 _, (hex-plain 8 _, tt))))
+module _ (c : Cell) where
+  pub plains-of-cell : Plains (decimal (c .u) ∷ decimal (c .v) ∷ hex 8 (c .a) ∷ hex 8 (c .b) ∷ [])
+  plains-of-cell = (decimal-plain (c .u), (decimal-plain (c .v), (hex-plain 8 _, (hex-plain 8 _, tt))))
 
-  pub cell-back : T (fits binary32 a) → T (fits binary32 b) → cell-of (fields (cell-line u v a b)) ≡ record { u = u; v = v; a = a; b = b }
-  unfolding cell-line cell-of
-  cell-back h i =
-      ap cell-of (fields-line word-cell (decimal u ∷ decimal v ∷ single a ∷ single b ∷ []) cell-plain plains-of-cell)
-      ∙ simp (decimal-worth u, decimal-worth v, single-back a h, single-back b i)
+  pub cell-back : fair-cell c ≡ true → cell-of (fields (text-of-cell c)) ≡ c
+  unfolding cell-text cell-of
+  cell-back h =
+      let x = both-true (single (c .a)) _ h in
+      ap cell-of (fields-line word-cell (decimal (c .u) ∷ decimal (c .v) ∷ hex 8 (c .a) ∷ hex 8 (c .b) ∷ []) cell-plain plains-of-cell)
+      ∙ simp (
+        decimal-worth (c .u),
+        decimal-worth (c .v),
+        pattern-back 8 (c .a) (omega (arith, ltb-true (c .a) (2 ^ 32) (x .0))),
+        pattern-back 8 (c .b) (omega (arith, ltb-true (c .b) (2 ^ 32) (x .1))),
+      )

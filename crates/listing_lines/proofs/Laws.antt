@@ -1,21 +1,17 @@
 -- What a caller may rely on, of the definitions of specs/ and of the contracts of src/. Assumes nothing.
-use mathlib.Core.Path.{_≡_, refl, sym, ap, _∙_}
-use mathlib.Core.Bool.{Bool, true, false, cond}
+use mathlib.Core.Path.{_≡_, refl, sym, _∙_}
+use mathlib.Core.Bool.{true}
 use mathlib.Core.List.{List, [], _∷_}
-use mathlib.Core.Option.{Option, none, some, Option·some-injective, Option·none-ne-some}
+use mathlib.Core.Option.{some}
 use Prim.Native.Nat.{ℕ}
 use denote.Ref.{now}
-use lib.Dec.{T}
-use lib.Ieee.{Float, binary32, binary64, fits}
 use Rattle.exact.specs.Determined.{DeterminedWith}
 use Rattle.decimal.specs.Decimal.{places, decimal}
-use Rattle.decimal.specs.Text.{same}
-use Rattle.decimal.proofs.Bytes.{same-self, same-true}
-use Rattle.region.specs.declared.Region.{Region}
 use Rattle.put_text.proofs.Laws.{both}
-use Rattle.listing_lines.specs.Line.{hex, line, table-line, region-line, cell-line, refused-line}
-use Rattle.listing_lines.specs.Read.{if-same, Header, Cell, read-table, read-region, read-cell}
-use Rattle.listing_lines.proofs.Back.{header-back, region-back, cell-back}
+use Rattle.listing_lines.specs.Line.{hex, line, table-line, refused-line}
+use Rattle.listing_lines.specs.Read.{fields, Header, header-text, header-of, read-table, Edges, edges-text, fair-edges, edges-of, read-region, Cell, text-of-cell, fair-cell, cell-of, read-cell}
+use Rattle.listing_lines.proofs.Reading.{read-again, only-read}
+use Rattle.listing_lines.proofs.Back.{header-back, edges-back, cell-back}
 use Rattle.listing_lines.proofs.table_line.Reads as table-line-contract
 use Rattle.listing_lines.proofs.region_line.Reads as region-line-contract
 use Rattle.listing_lines.proofs.cell_line.Reads as cell-line-contract
@@ -41,64 +37,35 @@ refused-line-determined κ a s s' r r' p q = both (p ∙ sym q)
 
 -- ---- reading back
 
-pub read-again : {A : Type 0} (text text' : List ℕ) (x y : A) → x ≡ y → text' ≡ text → if-same text text' x ≡ some y
-read-again text text' x y e f =
-    ap (λ (t : List ℕ). cond (same text t) (some x) none) f ∙ ap (λ (b : Bool). cond b (some x) none) (same-self text) ∙ ap some e
-
 -- From a table's line its width, height and updates come back.
-pub table-read : (width height updates : ℕ) → read-table (table-line width height updates) ≡ some (record { width = width; height = height; updates = updates })
+pub table-read : (h : Header) → read-table (header-text h) ≡ some h
 unfolding read-table
-table-read width height updates =
-    read-again _ _ _ _ (header-back width height updates) (ap (λ (h : Header). table-line (h .width) (h .height) (h .updates)) (header-back width height updates))
+table-read h = read-again (λ h. true) header-text _ (header-text h) h (header-back (h .width) (h .height) (h .updates)) refl refl
 
--- From a region's line the region comes back. (Every f64 that a program holds fits the format.)
-pub region-read :
-    (r : Region) →
-    T (fits binary64 (r .left)) →
-    T (fits binary64 (r .top)) →
-    T (fits binary64 (r .right)) →
-    T (fits binary64 (r .bottom)) →
-    read-region (region-line r) ≡ some r
+-- From a region's line the bit patterns of its edges come back, whichever they are of the 2^64,
+pub region-read : (e : Edges) → fair-edges e ≡ true → read-region (edges-text e) ≡ some e
 unfolding read-region
-region-read r h i j k = read-again _ _ _ _ (region-back r h i j k) (ap region-line (region-back r h i j k))
+region-read e f = read-again fair-edges edges-text _ (edges-text e) e (edges-back e f) refl f
 
--- From a cell's line its place and its two numbers come back.
-pub cell-read :
-    (u v : ℕ) (a b : Float) →
-    T (fits binary32 a) →
-    T (fits binary32 b) →
-    read-cell (cell-line u v a b) ≡ some (record { u = u; v = v; a = a; b = b })
+-- and from a cell's line its place and its two bit patterns, whichever they are of the 2^32.
+pub cell-read : (c : Cell) → fair-cell c ≡ true → read-cell (text-of-cell c) ≡ some c
 unfolding read-cell
-cell-read u v a b h i =
-    read-again _ _ _ _ (cell-back u v a b h i) (ap (λ (c : Cell). cell-line (c .u) (c .v) (c .a) (c .b)) (cell-back u v a b h i))
-
-pub only-same : {A : Type 0} (text text' : List ℕ) (x y : A) → if-same text text' x ≡ some y → (text ≡ text') × (x ≡ y)
-only-same {A} text text' x y e = by-test (same text text') refl e
-  where
-    by-test : (c : Bool) → same text text' ≡ c → cond c (some x) none ≡ some y → (text ≡ text') × (x ≡ y)
-    by-test true f g = (same-true text text' f, Option·some-injective x y g)
-    by-test false f g = absurd (Option·none-ne-some y g)
+cell-read c f = read-again fair-cell text-of-cell _ (text-of-cell c) c (cell-back c f) refl f
 
 -- Bytes that are read as a table's line are the line that is written of those numbers; no other bytes are read,
-pub only-table : (text : List ℕ) (h : Header) → read-table text ≡ some h → text ≡ table-line (h .width) (h .height) (h .updates)
+pub only-table : (text : List ℕ) (h : Header) → read-table text ≡ some h → text ≡ header-text h
 unfolding read-table
-only-table text h e =
-    let p = only-same _ _ _ h e in
-    p .0 ∙ ap (λ (h : Header). table-line (h .width) (h .height) (h .updates)) (p .1)
+only-table text h e = only-read (λ h. true) header-text (header-of (fields text)) text h e .0
 
 -- nor as a region's,
-pub only-region : (text : List ℕ) (r : Region) → read-region text ≡ some r → text ≡ region-line r
+pub only-region : (text : List ℕ) (r : Edges) → read-region text ≡ some r → (text ≡ edges-text r) × (fair-edges r ≡ true)
 unfolding read-region
-only-region text r e =
-    let p = only-same _ _ _ r e in
-    p .0 ∙ ap region-line (p .1)
+only-region text r e = only-read fair-edges edges-text (edges-of (fields text)) text r e
 
 -- or a cell's.
-pub only-cell : (text : List ℕ) (c : Cell) → read-cell text ≡ some c → text ≡ cell-line (c .u) (c .v) (c .a) (c .b)
+pub only-cell : (text : List ℕ) (c : Cell) → read-cell text ≡ some c → (text ≡ text-of-cell c) × (fair-cell c ≡ true)
 unfolding read-cell
-only-cell text c e =
-    let p = only-same _ _ _ c e in
-    p .0 ∙ ap (λ (c : Cell). cell-line (c .u) (c .v) (c .a) (c .b)) (p .1)
+only-cell text c e = only-read fair-cell text-of-cell (cell-of (fields text)) text c e
 
 -- ---- lines written out
 

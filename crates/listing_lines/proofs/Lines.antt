@@ -3,12 +3,18 @@ use mathlib.Core.Path.{_≡_, ap, _∙_}
 use mathlib.Core.List.{List, [], _∷_, _++_, append-assoc}
 use Prim.Native.Nat.{ℕ, _+_, _<_}
 use native.Mathlib.Omega.{arith}
-use lib.Ieee.{Float}
+use lib.Ieee.{Float, binary32, binary64, toBits}
 use lib.ListN.{length, take}
 use Rattle.decimal.specs.Decimal.{decimal}
 use Rattle.region.specs.declared.Region.{Region}
-use Rattle.listing_lines.specs.Line.{single, double, line, word-table, word-region, word-cell, word-refused, table-line, region-line, cell-line, refused-line}
+use Rattle.listing_lines.specs.Line.{hex, line, word-table, word-region, word-cell, word-refused, table-line, region-text, region-line, cell-text, cell-line, refused-line}
 use Rattle.listing_lines.specs.Grown.{Grown}
+
+abbrev single : Float → List ℕ
+single x = hex 8 (toBits binary32 x)
+
+abbrev double : Float → List ℕ
+double x = hex 16 (toBits binary64 x)
 
 on : {l l' s t : List ℕ} {n n' : ℕ} → take n l ≡ t → Grown l n s l' n' → take n' l' ≡ t ++ s
 on {l} {l'} {s} {t} e g = g .front ∙ ap (λ (x : List ℕ). x ++ s) e
@@ -77,7 +83,7 @@ module _ {z l₁ l₂ l₃ l₄ l₅ l₆ : List ℕ} {n₁ n₂ n₃ n₄ n₅ 
       Grown l₄ n₄ (9 ∷ double (r .bottom)) l₅ n₅ →
       Grown l₅ n₅ (10 ∷ []) l₆ n₆ →
       take n₆ l₆ ≡ region-line r
-  unfolding region-line
+  unfolding region-text
   region-made r = made4
 
   pub cell-made :
@@ -89,7 +95,7 @@ module _ {z l₁ l₂ l₃ l₄ l₅ l₆ : List ℕ} {n₁ n₂ n₃ n₄ n₅ 
       Grown l₄ n₄ (9 ∷ single b) l₅ n₅ →
       Grown l₅ n₅ (10 ∷ []) l₆ n₆ →
       take n₆ l₆ ≡ cell-line u v a b
-  unfolding cell-line
+  unfolding cell-text
   cell-made u v a b = made4
 
 -- ---- no line is empty
@@ -99,9 +105,9 @@ unfolding table-line line
 table-some width height updates = omega arith
 
 pub region-some : (r : Region) → 0 < length (region-line r)
-unfolding region-line line
+unfolding region-text line
 region-some r = omega arith
 
 pub cell-some : (u v : ℕ) (a b : Float) → 0 < length (cell-line u v a b)
-unfolding cell-line line
+unfolding cell-text line
 cell-some u v a b = omega arith

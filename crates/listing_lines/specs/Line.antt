@@ -13,13 +13,6 @@ use Rattle.region.specs.declared.Region.{Region}
 unfoldable pub hex : ℕ → ℕ → List ℕ
 hex places n = digits 16 places n
 
--- the bit patterns of an f32 and of an f64
-abbrev pub single : Float → List ℕ
-single x = hex 8 (toBits binary32 x)
-
-abbrev pub double : Float → List ℕ
-double x = hex 16 (toBits binary64 x)
-
 -- ---- a line
 
 -- a word and the fields that follow it, with a tab before each, and the line's end
@@ -43,13 +36,24 @@ word-refused = 114 ∷ 101 ∷ 102 ∷ 117 ∷ 115 ∷ 101 ∷ 100 ∷ []
 unfoldable pub table-line : ℕ → ℕ → ℕ → List ℕ
 table-line width height updates = line word-table (decimal width ∷ decimal height ∷ decimal updates ∷ [])
 
--- lower x and y, upper x and y
-unfoldable pub region-line : Region → List ℕ
-region-line r = line word-region (double (r .left) ∷ double (r .top) ∷ double (r .right) ∷ double (r .bottom) ∷ [])
+-- the bit patterns of lower x and y, upper x and y; of a region, those of its edges
+unfoldable pub region-text : ℕ → ℕ → ℕ → ℕ → List ℕ
+region-text left top right bottom = line word-region (hex 16 left ∷ hex 16 top ∷ hex 16 right ∷ hex 16 bottom ∷ [])
 
--- a cell's place, across and down, and its two numbers
-unfoldable pub cell-line : ℕ → ℕ → Float → Float → List ℕ
-cell-line u v a b = line word-cell (decimal u ∷ decimal v ∷ single a ∷ single b ∷ [])
+abbrev pub region-line : Region → List ℕ
+region-line r =
+    region-text
+    (toBits binary64 (r .left))
+    (toBits binary64 (r .top))
+    (toBits binary64 (r .right))
+    (toBits binary64 (r .bottom))
+
+-- a cell's place, across and down, and the bit patterns of its two numbers; of two f32, theirs
+unfoldable pub cell-text : ℕ → ℕ → ℕ → ℕ → List ℕ
+cell-text u v a b = line word-cell (decimal u ∷ decimal v ∷ hex 8 a ∷ hex 8 b ∷ [])
+
+abbrev pub cell-line : ℕ → ℕ → Float → Float → List ℕ
+cell-line u v a b = cell-text u v (toBits binary32 a) (toBits binary32 b)
 
 -- all that is printed of a refusal
 unfoldable pub refused-line : ℕ → List ℕ

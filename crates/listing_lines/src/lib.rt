@@ -12,7 +12,8 @@ ghost use Rattle.listing_lines.specs.Grown.{Grown};
 use lens::Refusal;
 use region::Region;
 
-// A line is made here before it is put, so that one that does not fit leaves no trace. The longest is a region's, of 75 bytes; the proofs count 21 for each field.
+// A line is made here before it is put, so that one that does not fit leaves no trace. The longest is a region's, of 75
+// bytes; the proofs count 21 for each field.
 const LINE: usize = 96;
 
 // Puts text into a line behind its first at bytes, and answers how many there are then.

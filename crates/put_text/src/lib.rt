@@ -16,7 +16,8 @@ fn copy(out: &mut [u8], at: usize, text: &[u8])
     }
 }
 
-// Puts text at place at of out, if it fits between there and the end, and answers the place behind it. Else out is left as it is, and at is answered.
+// Puts text at place at of out, if it fits between there and the end, and answers the place behind it. Else out is left
+// as it is, and at is answered.
 pub fn put(out: &mut [u8], at: usize, text: &[u8]) -> usize
     ensures { λ r. ⌜ written (now (out .exit)) r ≡ placed (written (now (out .entry)) at) (now (text .entry)) ⌝ }
 {
