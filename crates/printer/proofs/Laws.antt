@@ -11,6 +11,7 @@ use lib.Ieee.{Float}
 use lib.ListN.{length}
 use Rattle.exact.specs.Determined.{DeterminedWith}
 use Rattle.lens.specs.Refusal.{number}
+use Rattle.lens.specs.Rows.{first}
 use Rattle.lens.specs.declared.Judgement.the-variants.{Taken}
 use Rattle.lens.specs.declared.Refusal.the-variants.{WrongSize}
 use Rattle.camera.specs.declared.Camera.{Camera}
@@ -25,7 +26,7 @@ use Rattle.listing.proofs.Fair.{AllFit, listed-fair}
 use Rattle.listing.proofs.Laws.{listing-is, listing-read}
 use Rattle.region.specs.Fits.{FourFit}
 use Rattle.camera.proofs.Fits.{undistort-judged-fits}
-use Rattle.turns.specs.Turns.{Said, finished, refused, Turn, turn}
+use Rattle.turns.specs.Turns.{Said, finished, refused, running, Turn, turn}
 use Rattle.plans.specs.Plan.{Plan, State, nowhere, next}
 use Rattle.plans.specs.Plan as plan
 use Rattle.plans.proofs.Fits.{start-numbers-fit, turn-numbers-fit}
@@ -38,10 +39,13 @@ use Rattle.job.specs.declared.Job.{Job}
 use Rattle.job.specs.declared.Started.{Started}
 use Rattle.job.specs.declared.Started.the-variants as begun
 use Rattle.distortion_table.specs.Answer.{Answer, answer, whole-table, enough}
+use Rattle.distortion_table.proofs.Laws.{at-once-ends}
 use Rattle.distortion_table.proofs.Calls.{fresh-opens, answer-is}
 use Rattle.printer.specs.Printed.{refusal-lines, shown-as, most-cells, blank, sized-lines, started, table-lines, file-lines, printed-lines, printed, most-printed}
+use Rattle.printer.specs.Rows.{printer-rows, built-text, by-rows}
 use Rattle.printer.proofs.Back.{blank-fit, turn-cells-fit}
 use Rattle.printer.proofs.Fits.{blank-long, few, printed-short}
+use Rattle.printer.proofs.Order.{Asks, order, none-holds}
 use Rattle.printer.proofs.print.Reads as print-contract
 
 -- Any two answers to one call that the contract of `print` permits are equal, and so are any two buffers at the return.
@@ -51,6 +55,15 @@ print-determined κ a s s' r r' p q = let e = p .0 ∙ sym (q .0) in (ap (λ (w 
 -- All that is printed has room in a buffer of OUTPUT bytes, whatever the input: 34 bytes for each of 4,096 cells.
 pub fits : (input : List ℕ) → length (printed input) ≤ most-printed
 fits = printed-short
+
+-- What is printed for any input: the line with the number of the first row that holds, of 14, 1, 3, 4, 5, 6 for a side, 6 for more than 4,096 cells; and
+-- where none holds, what the build says.
+pub printed-order : (input : List ℕ) → printed input ≡ by-rows (first (printer-rows input)) (built-text (parsed input))
+printed-order = order
+
+-- Where none holds, the input is a camera file that asks for a table of at most 4,096 cells, and a build of it begins: what follows holds of it.
+pub printed-asks : (input : List ℕ) → first (printer-rows input) ≡ 0 → Asks input
+printed-asks = none-holds
 
 -- ---- an input that asks for a table
 
@@ -95,6 +108,10 @@ module _ (input : List ℕ) (camera : Camera) (width height : ℕ) (asks : parse
   pub printed-refused : (n : ℕ) → built .said ≡ refused n → printed input ≡ refused-line n
   unfolding printed joined
   printed-refused n e = ap joined (shown-lines (refused n) e) ∙ append-nil (refused-line n)
+
+  -- It is the one or the other: the build ends.
+  pub printed-ends : built .said ≡ running → ⊥
+  printed-ends = at-once-ends camera width height job begin (blank (width * height)) long
 
   cells-fit : AllFit (last .state .cells)
   cells-fit = turn-cells-fit camera width height enough (plan.fresh (blank (width * height))) (blank-fit (2 * (width * height)) (2 * most-cells) 0)

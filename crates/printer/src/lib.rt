@@ -1,4 +1,5 @@
-// What the table printer writes for an input, whatever the input: a camera file's table, or one line that says which refusal.
+// What the table printer writes for an input, whatever the input: a camera file's table, or one line that says which
+// refusal.
 ghost use mathlib.Core.Path.{_≡_};
 ghost use mathlib.Core.List.{[], _∷_};
 ghost use Prim.Native.Nat.{_*_, _≤_};
@@ -22,7 +23,8 @@ pub const CELLS: usize = 4096;
 
 const NUMBERS: usize = 8192;
 
-// Room for all that is printed, whatever the input: 34 bytes for each of so many cells. No cell's line is longer than 33, and what is over holds the two lines above them.
+// Room for all that is printed, whatever the input: 34 bytes for each of so many cells. No cell's line is longer than
+// 33, and what is over holds the two lines above them.
 pub const OUTPUT: usize = 139264;
 
 // The one line of a refusal.
@@ -116,8 +118,8 @@ fn print_lines(input: &[u8], out: &mut [u8]) -> usize
     }
 }
 
-// Writes all that is printed for the input to the start of out, and answers how many bytes that is. A buffer of fewer than OUTPUT bytes is left as it is, and 0 is answered:
-// half a listing is none.
+// Writes all that is printed for the input to the start of out, and answers how many bytes that is. A buffer of fewer
+// than OUTPUT bytes is left as it is, and 0 is answered: half a listing is none.
 pub fn print(input: &[u8], out: &mut [u8]) -> usize
     ensures { λ r. ⌜ written (now (out .exit)) r ≡ print (now (input .entry)) (now (out .entry)) ⌝ }
     ensures { λ r. ⌜ Counts r (now (out .exit)) ⌝ }
