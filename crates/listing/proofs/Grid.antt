@@ -1,20 +1,22 @@
 -- The cells' lines: where each stands, how many they are, and that they are read back. Assumes nothing.
-use mathlib.Core.Path.{_≡_, refl, sym, ap, ap₂, _∙_, subst}
-use mathlib.Core.Bool.{Bool, true, false, cond}
-use mathlib.Core.List.{List, [], _∷_, _++_}
+use mathlib.Core.Path.{_≡_, refl, sym, ap, ap₂, _∙_}
+use mathlib.Core.Bool.{Bool, true, false, cond, _&&_}
+use mathlib.Core.List.{List, [], _∷_}
 use Prim.Native.Nat.{ℕ, zero, suc, _+_, _*_, _/_, _%_, _≤_, _<_}
 use native.Mathlib.Nat.{suc-mul, mul-comm, mul-le-mul-right}
 use native.Mathlib.Numerals.{add-one}
 use native.Mathlib.Omega.{arith}
 use borrow.Author.Tests.{lt-ltb, ltb-true, ltb-false, eqb-true, eqb-false}
 use lib.Arith.{digits-div, digits-mod}
-use lib.Dec.{T, eqb, ltb}
-use lib.Ieee.{Float, nan, binary32, fits}
+use lib.Dec.{eqb, ltb}
+use lib.Ieee.{Float, nan}
 use lib.ListN.{length, getD}
-use Rattle.region.specs.declared.Region.{Region}
-use Rattle.listing.specs.Listing.{table-line, region-line, cell-line, across, down, cell-lines, listing-lines, joined, listing}
-use Rattle.listing.specs.Read.{fields, lines, Cell, cell-of, numbers}
-use Rattle.listing.proofs.Back.{cell-back, table-cut, region-cut, cell-cut}
+use Rattle.listing_lines.specs.Line.{cell-line}
+use Rattle.listing_lines.specs.Read.{single, Cell}
+use Rattle.listing_lines.proofs.Reading.{both-true}
+use Rattle.listing_lines.proofs.Back.{cell-back}
+use Rattle.listing.specs.Listing.{across, down, cell-texts, cell-lines}
+use Rattle.listing.specs.Read.{all-single, patterns}
 
 -- ---- from place to place
 
@@ -54,53 +56,26 @@ before-end width height u v h k =
 
 -- ---- reading the cells back
 
-abbrev pub AllFit : List Float → Type 0
-AllFit [] = Unit {0}
-AllFit (x ∷ rest) = T (fits binary32 x) × AllFit rest
-
-pub numbers-back :
-    (width height u v : ℕ) (rest : List Float) →
+pub patterns-back :
+    (width height u v : ℕ) (rest : List ℕ) →
     u < width →
     length rest + 2 * (v * width + u) ≡ 2 * (width * height) →
-    AllFit rest →
-    numbers (cell-lines width height u v rest) ≡ rest
-unfolding numbers cell-lines
-numbers-back width height u v [] h e f = refl
-numbers-back width height u v (a ∷ []) h e f = absurd (omega arith)
-numbers-back width height u v (a ∷ b ∷ rest) h e f =
+    all-single rest ≡ true →
+    patterns (cell-texts width height u v rest) ≡ rest
+unfolding patterns cell-texts
+patterns-back width height u v [] h e f = refl
+patterns-back width height u v (a ∷ []) h e f = absurd (omega arith)
+patterns-back width height u v (a ∷ b ∷ rest) h e f =
     let l : v < height = in-a-row width height u v (omega arith) in
     let n = next width u v h in
     let g : length rest + 2 * (down width u v * width + across width u) ≡ 2 * (width * height) = omega (arith, n .1) in
+    let x = both-true (single a) (single b && all-single rest) f in
+    let y = both-true (single b) (all-single rest) (x .1) in
+    let s : (single a && single b) ≡ true = ap₂ (λ (p q : Bool). p && q) (x .0) (y .0) in
     simp (lt-ltb v height l)
-    (ap₂ (λ (c : Cell) (l : List Float). c .a ∷ c .b ∷ l)
-    (cell-back u v a b (f .0) (f .1 .0))
-    (numbers-back width height (across width u) (down width u v) rest (n .0) g (f .1 .1)))
-
-pub cells-cut : (width height u v : ℕ) (rest : List Float) → lines (joined (cell-lines width height u v rest)) ≡ cell-lines width height u v rest
-unfolding cell-lines joined lines
-cells-cut width height u v [] = refl
-cells-cut width height u v (a ∷ []) = refl
-cells-cut width height u v (a ∷ b ∷ rest) = by-row (ltb v height) (cells-cut width height (across width u) (down width u v) rest)
-  where
-    by-row :
-        (t : Bool) →
-        lines (joined (cell-lines width height (across width u) (down width u v) rest)) ≡ cell-lines width height (across width u) (down width u v) rest →
-        lines (joined (cond t (cell-line u v a b ∷ cell-lines width height (across width u) (down width u v) rest) []))
-        ≡ cond t (cell-line u v a b ∷ cell-lines width height (across width u) (down width u v) rest) []
-    by-row true e =
-        cell-cut u v a b (joined (cell-lines width height (across width u) (down width u v) rest))
-        ∙ ap (λ (l : List (List ℕ)). cell-line u v a b ∷ l) e
-    by-row false e = refl
-
-pub listing-cut :
-    (width height updates : ℕ) (region : Region) (table : List Float) →
-    lines (listing width height updates region table) ≡ listing-lines width height updates region table
-unfolding listing listing-lines joined
-listing-cut width height updates region table =
-    table-cut width height updates (region-line region ++ joined (cell-lines width height 0 0 table))
-    ∙ ap (λ (l : List (List ℕ)). table-line width height updates ∷ l)
-    (region-cut region (joined (cell-lines width height 0 0 table))
-    ∙ ap (λ (l : List (List ℕ)). region-line region ∷ l) (cells-cut width height 0 0 table))
+    (ap₂ (λ (c : Cell) (l : List ℕ). c .a ∷ c .b ∷ l)
+    (cell-back (record { u = u; v = v; a = a; b = b }) s)
+    (patterns-back width height (across width u) (down width u v) rest (n .0) g (y .1)))
 
 -- ---- where a cell's line stands
 
@@ -109,7 +84,7 @@ pub count :
     u < width →
     length rest + 2 * (v * width + u) ≡ 2 * (width * height) →
     2 * length (cell-lines width height u v rest) ≡ length rest
-unfolding cell-lines
+unfolding cell-texts
 count width height u v [] h e = refl
 count width height u v (a ∷ []) h e = absurd (omega arith)
 count width height u v (a ∷ b ∷ rest) h e =
@@ -129,7 +104,7 @@ pub line-at :
     y * width + x + k ≡ v * width + u →
     2 * k + 1 < length rest →
     getD (cell-lines width height x y rest) k [] ≡ cell-line u v (getD rest (2 * k) nan) (getD rest (2 * k + 1) nan)
-unfolding cell-lines
+unfolding cell-texts
 line-at width height k x y u v [] h i j e s = absurd (omega arith)
 line-at width height k x y u v (a ∷ []) h i j e s = absurd (omega arith)
 line-at width height zero x y u v (a ∷ b ∷ rest) h i j e s =

@@ -1,8 +1,5 @@
-pub mod Putting
-pub mod Numbers
-pub mod Lines
 pub mod Rows
-pub mod Back
+pub mod Cut
 pub mod Grid
-pub mod Whole
+pub mod Fair
 pub mod Laws

@@ -11,10 +11,11 @@ use lib.Ieee.{Float, nan}
 use lib.ListN.{length, getD, drop, length-drop}
 use lib.Seq.{drop-cons}
 use Rattle.region.specs.declared.Region.{Region}
-use Rattle.listing.specs.Listing.{table-line, region-line, cell-line, across, down, cell-lines, listing-lines}
-use Rattle.listing.specs.Placed.{Written, written, placed, placed-all}
-use Rattle.listing.proofs.Putting.{stopped, went-on}
-use Rattle.listing.proofs.Lines.{table-some, region-some, cell-some}
+use Rattle.listing_lines.specs.Line.{table-line, region-line, cell-line}
+use Rattle.listing.specs.Listing.{across, down, cell-texts, cell-lines, listing-lines}
+use Rattle.put_text.specs.Placed.{Written, written, placed, placed-all}
+use Rattle.put_text.proofs.Putting.{stopped, went-on}
+use Rattle.listing_lines.proofs.Lines.{table-some, region-some, cell-some}
 
 -- ---- the next place
 
@@ -42,21 +43,21 @@ two table i h =
     ∙ ap (λ (n : ℕ). getD table i nan ∷ getD table (i + 1) nan ∷ drop n table) k
 
 at-most-one : (width height u v : ℕ) (rest : List Float) → length rest ≤ 1 → cell-lines width height u v rest ≡ []
-unfolding cell-lines
+unfolding cell-texts
 at-most-one width height u v [] h = refl
 at-most-one width height u v (a ∷ []) h = refl
 at-most-one width height u v (a ∷ b ∷ rest) h = absurd (omega arith)
 
 module _ (width height u v : ℕ) (table : List Float) (i : ℕ) (h : i + 1 < length table) where
   past-rows : height ≤ v → cell-lines width height u v (drop i table) ≡ []
-  unfolding cell-lines
+  unfolding cell-texts
   past-rows l = ap (cell-lines width height u v) (two table i h) ∙ simp (le-ltb v height l)
 
   in-rows :
       v < height →
       cell-lines width height u v (drop i table)
       ≡ cell-line u v (getD table i nan) (getD table (i + 1) nan) ∷ cell-lines width height (across width u) (down width u v) (drop (i + 2) table)
-  unfolding cell-lines
+  unfolding cell-texts
   in-rows l = ap (cell-lines width height u v) (two table i h) ∙ simp (lt-ltb v height l)
 
 -- ---- what holds at each turn

@@ -1,61 +1,12 @@
--- The listing of a table, as bytes (docs/RULES.md, 16): its lines, and all of it. Definitions only.
+-- The listing of a table, as bytes (docs/RULES.md, 16). Definitions only.
 use mathlib.Core.Bool.{cond}
-use mathlib.Core.List.{List, [], _∷_, _++_}
+use mathlib.Core.List.{List, [], _∷_, map}
 use Prim.Native.Nat.{ℕ, _+_}
 use lib.Dec.{eqb, ltb}
-use lib.Ieee.{Float, binary32, binary64, toBits}
-use Rattle.io.specs.Digits.{digits}
-use Rattle.decimal.specs.Decimal.{decimal}
-use Rattle.decimal.specs.Text.{tab, newline}
+use lib.Ieee.{Float, binary32, toBits}
 use Rattle.region.specs.declared.Region.{Region}
-
--- ---- numbers
-
--- a number as so many hexadecimal digits, in lower case
-unfoldable pub hex : ℕ → ℕ → List ℕ
-hex places n = digits 16 places n
-
--- the bit patterns of an f32 and of an f64
-abbrev pub single : Float → List ℕ
-single x = hex 8 (toBits binary32 x)
-
-abbrev pub double : Float → List ℕ
-double x = hex 16 (toBits binary64 x)
-
--- ---- a line
-
--- a word and the fields that follow it, with a tab before each, and the line's end
-unfoldable pub line : List ℕ → List (List ℕ) → List ℕ
-line word [] = word ++ (newline ∷ [])
-line word (field ∷ fields) = word ++ (tab ∷ line field fields)
-
-abbrev pub word-table : List ℕ
-word-table = 116 ∷ 97 ∷ 98 ∷ 108 ∷ 101 ∷ []
-
-abbrev pub word-region : List ℕ
-word-region = 114 ∷ 101 ∷ 103 ∷ 105 ∷ 111 ∷ 110 ∷ []
-
-abbrev pub word-cell : List ℕ
-word-cell = 99 ∷ 101 ∷ 108 ∷ 108 ∷ []
-
-abbrev pub word-refused : List ℕ
-word-refused = 114 ∷ 101 ∷ 102 ∷ 117 ∷ 115 ∷ 101 ∷ 100 ∷ []
-
--- width, height, updates
-unfoldable pub table-line : ℕ → ℕ → ℕ → List ℕ
-table-line width height updates = line word-table (decimal width ∷ decimal height ∷ decimal updates ∷ [])
-
--- lower x and y, upper x and y
-unfoldable pub region-line : Region → List ℕ
-region-line r = line word-region (double (r .left) ∷ double (r .top) ∷ double (r .right) ∷ double (r .bottom) ∷ [])
-
--- a cell's place, across and down, and its two numbers
-unfoldable pub cell-line : ℕ → ℕ → Float → Float → List ℕ
-cell-line u v a b = line word-cell (decimal u ∷ decimal v ∷ single a ∷ single b ∷ [])
-
--- all that is printed of a refusal
-unfoldable pub refused-line : ℕ → List ℕ
-refused-line number = line word-refused (decimal number ∷ [])
+use Rattle.put_text.specs.Placed.{joined}
+use Rattle.listing_lines.specs.Line.{table-line, region-line, cell-text}
 
 -- ---- the cells
 
@@ -66,23 +17,23 @@ across width u = cond (eqb (u + 1) width) 0 (u + 1)
 unfoldable pub down : ℕ → ℕ → ℕ → ℕ
 down width u v = cond (eqb (u + 1) width) (v + 1) v
 
--- the lines from the cell at (u, v) on, with the table's numbers from there on: row by row, to the last row or to the table's end
-unfoldable pub cell-lines : ℕ → ℕ → ℕ → ℕ → List Float → List (List ℕ)
-cell-lines width height u v [] = []
-cell-lines width height u v (a ∷ []) = []
-cell-lines width height u v (a ∷ b ∷ rest) =
-    cond (ltb v height) (cell-line u v a b ∷ cell-lines width height (across width u) (down width u v) rest) []
+-- the lines from the cell at (u, v) on, with the table's bit patterns from there on: row by row, to the last row or to
+-- the table's end
+unfoldable pub cell-texts : ℕ → ℕ → ℕ → ℕ → List ℕ → List (List ℕ)
+cell-texts width height u v [] = []
+cell-texts width height u v (a ∷ []) = []
+cell-texts width height u v (a ∷ b ∷ rest) =
+    cond (ltb v height) (cell-text u v a b ∷ cell-texts width height (across width u) (down width u v) rest) []
+
+-- of a table of f32, those of their patterns
+abbrev pub cell-lines : ℕ → ℕ → ℕ → ℕ → List Float → List (List ℕ)
+cell-lines width height u v table = cell-texts width height u v (map (toBits binary32) table)
 
 -- ---- the listing
 
 unfoldable pub listing-lines : ℕ → ℕ → ℕ → Region → List Float → List (List ℕ)
 listing-lines width height updates region table =
     table-line width height updates ∷ region-line region ∷ cell-lines width height 0 0 table
-
--- texts one after the other
-unfoldable pub joined : List (List ℕ) → List ℕ
-joined [] = []
-joined (text ∷ texts) = text ++ joined texts
 
 unfoldable pub listing : ℕ → ℕ → ℕ → Region → List Float → List ℕ
 listing width height updates region table = joined (listing-lines width height updates region table)

@@ -1,101 +1,79 @@
--- Reading a listing and its lines. Each of the four readings answers the numbers whose text the bytes are, and none for any other bytes. Definitions only.
-use mathlib.Core.Bool.{cond}
-use mathlib.Core.List.{List, [], _∷_}
-use mathlib.Core.Option.{Option, none, some}
-use Prim.Native.Nat.{ℕ}
-use lib.Dec.{eqb}
-use lib.Ieee.{Float, binary32, binary64, ofBits}
-use lib.ListN.{getD, drop}
-use Rattle.decimal.specs.Decimal.{worth}
-use Rattle.decimal.specs.Text.{tab, newline, same}
-use Rattle.hex.specs.Hex.{read, bits-of}
-use Rattle.hex.specs.declared.Bits.the-variants.{Of}
+-- Reading a listing: what it tells, for the bytes that are the listing of a table of a size that is printed, and none for
+-- any other bytes: not for one with a cell too few, too many or out of its place. Definitions only.
+use mathlib.Core.Bool.{Bool, true, cond, _&&_}
+use mathlib.Core.List.{List, [], _∷_, map}
+use mathlib.Core.Option.{Option}
+use Prim.Native.Nat.{ℕ, _*_, _^_}
+use lib.Dec.{eqb, leb, ltb}
+use lib.Ieee.{Float, binary32, binary64, toBits}
+use lib.ListN.{length, getD, drop}
+use Rattle.decimal.specs.Text.{newline}
+use Rattle.region.specs.Size.{sized}
 use Rattle.region.specs.declared.Region.{Region}
-use Rattle.listing.specs.Listing.{table-line, region-line, cell-line, listing}
+use Rattle.put_text.specs.Placed.{joined}
+use Rattle.listing_lines.specs.Read.{onto, read-as, fields, single, Header, header-text, header-of, Edges, edges-text, fair-edges, edges-of, cell-of}
+use Rattle.listing.specs.Listing.{cell-texts}
 
--- ---- pieces
+-- ---- what a listing tells
 
--- a byte ahead of the first of some texts
-abbrev pub onto : ℕ → List (List ℕ) → List (List ℕ)
-onto b [] = (b ∷ []) ∷ []
-onto b (text ∷ texts) = (b ∷ text) ∷ texts
+-- the table's size and the updates that it took, its region, and its cells: bit patterns, so that each NaN is itself
+pub record Listed : Type 0 where
+  pub header : Header
+  pub edges : Edges
+  pub cells : List ℕ
 
--- the word and the fields of a line: what stands between its tabs, up to its end
-unfoldable pub fields : List ℕ → List (List ℕ)
-fields [] = [] ∷ []
-fields (b ∷ text) = cond (eqb b newline) ([] ∷ []) (cond (eqb b tab) ([] ∷ fields text) (onto b (fields text)))
+-- of a table of f32 and its region, their patterns
+abbrev pub listed : ℕ → ℕ → ℕ → Region → List Float → Listed
+listed width height updates region table = record {
+  header = record { width = width; height = height; updates = updates };
+  edges = record {
+    left = toBits binary64 (region .left);
+    top = toBits binary64 (region .top);
+    right = toBits binary64 (region .right);
+    bottom = toBits binary64 (region .bottom);
+  };
+  cells = map (toBits binary32) table;
+}
+
+-- its bytes: the table's line, the region's, the cells' row by row
+unfoldable pub listed-text : Listed → List ℕ
+listed-text l =
+    joined (header-text (l .header) ∷ edges-text (l .edges) ∷ cell-texts (l .header .width) (l .header .height) 0 0 (l .cells))
+
+-- ---- what it may tell
+
+-- sides of 2 to 4,096, at most 4,096 cells, and updates that are a u32
+abbrev pub fair-header : Header → Bool
+fair-header h = (sized (h .width) (h .height) && leb (h .width * h .height) 4096) && ltb (h .updates) (2 ^ 32)
+
+abbrev pub all-single : List ℕ → Bool
+all-single [] = true
+all-single (n ∷ rest) = single n && all-single rest
+
+-- edges that are an f64's patterns, and two f32's for each of w·h cells
+abbrev pub fair : Listed → Bool
+fair l =
+    (fair-header (l .header) && fair-edges (l .edges))
+    && (eqb (length (l .cells)) (2 * (l .header .width * l .header .height)) && all-single (l .cells))
+
+-- ---- reading
 
 -- the lines of a text, each with its end
 unfoldable pub lines : List ℕ → List (List ℕ)
 lines [] = []
 lines (b ∷ text) = cond (eqb b newline) ((newline ∷ []) ∷ lines text) (onto b (lines text))
 
--- what is read, if the text is the one that is written of it
-abbrev pub if-same : {A : Type 0} → List ℕ → List ℕ → A → Option A
-if-same text written read = cond (same text written) (some read) none
-
--- field k of a line, in decimal, as an f32's and as an f64's bits
-abbrev pub number-at : List (List ℕ) → ℕ → ℕ
-number-at fields k = worth 0 (getD fields k [])
-
-abbrev pub single-at : List (List ℕ) → ℕ → Float
-single-at fields k = ofBits binary32 (bits-of (read (Of 0) (getD fields k [])))
-
-abbrev pub double-at : List (List ℕ) → ℕ → Float
-double-at fields k = ofBits binary64 (bits-of (read (Of 0) (getD fields k [])))
-
--- ---- lines
-
-pub record Header : Type 0 where
-  pub width : ℕ
-  pub height : ℕ
-  pub updates : ℕ
-
-unfoldable pub header-of : List (List ℕ) → Header
-header-of f = record { width = number-at f 1; height = number-at f 2; updates = number-at f 3 }
-
-unfoldable pub region-of : List (List ℕ) → Region
-region-of f = record { left = double-at f 1; top = double-at f 2; right = double-at f 3; bottom = double-at f 4 }
-
-pub record Cell : Type 0 where
-  pub u : ℕ
-  pub v : ℕ
-  pub a : Float
-  pub b : Float
-
-unfoldable pub cell-of : List (List ℕ) → Cell
-cell-of f = record { u = number-at f 1; v = number-at f 2; a = single-at f 3; b = single-at f 4 }
-
-unfoldable pub read-table : List ℕ → Option Header
-read-table text = let h = header-of (fields text) in if-same text (table-line (h .width) (h .height) (h .updates)) h
-
-unfoldable pub read-region : List ℕ → Option Region
-read-region text = let r = region-of (fields text) in if-same text (region-line r) r
-
-unfoldable pub read-cell : List ℕ → Option Cell
-read-cell text = let c = cell-of (fields text) in if-same text (cell-line (c .u) (c .v) (c .a) (c .b)) c
-
--- ---- a listing
-
--- a table with its size and region, and the updates that it took
-pub record Listed : Type 0 where
-  pub header : Header
-  pub region : Region
-  pub table : List Float
-
--- the numbers of the cells that some lines tell of
-unfoldable pub numbers : List (List ℕ) → List Float
-numbers [] = []
-numbers (text ∷ texts) = let c = cell-of (fields text) in c .a ∷ c .b ∷ numbers texts
+-- the patterns of the cells that some lines tell of
+unfoldable pub patterns : List (List ℕ) → List ℕ
+patterns [] = []
+patterns (text ∷ texts) = let c = cell-of (fields text) in c .a ∷ c .b ∷ patterns texts
 
 unfoldable pub listed-of : List (List ℕ) → Listed
 listed-of texts = record {
   header = header-of (fields (getD texts 0 []));
-  region = region-of (fields (getD texts 1 []));
-  table = numbers (drop 2 texts);
+  edges = edges-of (fields (getD texts 1 []));
+  cells = patterns (drop 2 texts);
 }
 
 unfoldable pub read-listing : List ℕ → Option Listed
-read-listing text =
-    let l = listed-of (lines text) in
-    if-same text (listing (l .header .width) (l .header .height) (l .header .updates) (l .region) (l .table)) l
+read-listing text = read-as fair listed-text (listed-of (lines text)) text

@@ -17,7 +17,7 @@ use Rattle.narrow.specs.Narrow.{narrowed}
 use Rattle.narrow.proofs.Laws.{narrow-fits}
 use Rattle.camera.specs.Camera.{distort-judged}
 use Rattle.camera.specs.declared.Camera.{Camera}
-use Rattle.listing.proofs.Grid.{AllFit}
+use Rattle.listing.proofs.Fair.{AllFit}
 use Rattle.cell.specs.Cell.{cell-point, f32, of-pixel, cell-by}
 use Rattle.turns.specs.Turns.{turn}
 use Rattle.turns.proofs.Laws.{keeps}

@@ -20,7 +20,9 @@ use Rattle.camera.specs.declared.Camera.the-variants as model
 use Rattle.camera_file.specs.Asked.{parsed}
 use Rattle.camera_file.specs.declared.Parsed.{Parsed}
 use Rattle.camera_file.specs.declared.Parsed.the-variants as file
-use Rattle.listing.specs.Listing.{table-line, region-line, refused-line, cell-lines, listing-lines, joined}
+use Rattle.put_text.specs.Placed.{joined}
+use Rattle.listing_lines.specs.Line.{table-line, region-line, refused-line}
+use Rattle.listing.specs.Listing.{cell-lines, listing-lines}
 use Rattle.border.specs.Border.{samples}
 use Rattle.distortion_table.specs.Answer.{Answer, answer, whole-table, enough}
 use Rattle.job.specs.Job.{fresh-job, fresh}
@@ -87,6 +89,10 @@ module _ (camera : Camera) (width height : ℕ) (s : Sized width height) where
       go (refused n) k = refusal-short n k
       go running k = none-short
 
+  -- the updates of a table of any size have seven digits at most
+  pub few : (updates done : ℕ) → updates ≤ limit camera * min done (samples width height) → updates < 10000000
+  few updates done h = omega (arith, h, mul-le-mul-right (min done (samples width height)) (limit-most camera), min-le-right done (samples width height), s .not-wider, s .not-higher)
+
   whole-short : (job : Job) → fresh camera width height ≡ begun.With job → width * height ≤ most-cells → Short (shown (whole-table camera width height (blank (width * height))))
   whole-short job e h =
       let cells = blank (width * height) in
@@ -97,9 +103,6 @@ module _ (camera : Camera) (width height : ℕ) (s : Sized width height) where
       let t = turn (next p) enough (plan.fresh cells) in
       subst (λ (a : Answer Float). Short (shown a)) (sym (answer-is camera width height (fresh-opens camera width height job e .0) cells long enough))
       (shown-short (answer (fresh-job camera width height) t) refl refl (few _ (t .state .at .done) (after .record-of .updates)) (omega (arith, after .long)) (table-told camera width height enough (plan.fresh cells)))
-    where
-      few : (updates done : ℕ) → updates ≤ limit camera * min done (samples width height) → updates < 10000000
-      few updates done h = omega (arith, h, mul-le-mul-right (min done (samples width height)) (limit-most camera), min-le-right done (samples width height), s .not-wider, s .not-higher)
 
   pub sized-short : (job : Job) → fresh camera width height ≡ begun.With job → Short (sized-lines camera width height)
   unfolding sized-lines

@@ -3,7 +3,7 @@ use mathlib.Core.Path.{_≡_, refl, ap}
 use mathlib.Core.Bool.{Bool, true, false, cond}
 use mathlib.Core.List.{List, [], _∷_}
 use Prim.Native.Nat.{ℕ}
-use Rattle.listing.specs.Placed.{Written, room, with-text, placed, placed-all}
+use Rattle.put_text.specs.Placed.{Written, room, with-text, placed, placed-all}
 
 not-put : (w : Written) (t : List ℕ) → room w t ≡ false → placed w t ≡ w
 unfolding placed

@@ -12,8 +12,10 @@ use lib.ListN.{length, length-append}
 use Rattle.region.specs.declared.Region.{Region}
 use Rattle.decimal.specs.Decimal.{places, decimal}
 use Rattle.decimal.proofs.Digits.{length-digits}
-use Rattle.listing.specs.Listing.{line, table-line, region-line, cell-line, refused-line, across, down, cell-lines, joined}
-use Rattle.listing.proofs.Numbers.{hex-length}
+use Rattle.put_text.specs.Placed.{joined}
+use Rattle.listing_lines.specs.Line.{line, table-line, region-text, region-line, cell-text, cell-line, refused-line}
+use Rattle.listing.specs.Listing.{across, down, cell-texts, cell-lines}
+use Rattle.listing_lines.proofs.Numbers.{hex-length}
 
 -- a number below ten to the k + 1 has no more than k + 1 digits
 places-most : (k most n : ℕ) → n < 10 ^ suc k → places most n ≤ suc k
@@ -51,11 +53,11 @@ unfolding table-line
 table-short width height updates h i j = simp (field-more, field-last) (omega (arith, decimal-short 3 width h, decimal-short 3 height i, decimal-short 6 updates j))
 
 pub region-long : (r : Region) → length (region-line r) ≡ 75
-unfolding region-line
+unfolding region-text
 region-long r = simp (field-more, field-last, hex-length) refl
 
 cell-short : (u v : ℕ) (a b : Float) → u < 10 ^ 4 → v < 10 ^ 4 → length (cell-line u v a b) ≤ 33
-unfolding cell-line
+unfolding cell-text
 cell-short u v a b h i = simp (field-more, field-last, hex-length) (omega (arith, decimal-short 3 u h, decimal-short 3 v i))
 
 -- ---- cells
@@ -70,7 +72,7 @@ across-within width u h = go (eqb (u + 1) width) refl
 
 -- the lines of a table's cells have no more than 33 bytes for each two of its numbers
 pub cells-short : (width height u v : ℕ) (table : List Float) → width < 10 ^ 4 → height < 10 ^ 4 → u < width → 2 * length (joined (cell-lines width height u v table)) ≤ 33 * length table
-unfolding cell-lines joined
+unfolding cell-texts joined
 cells-short width height u v [] h i j = omega arith
 cells-short width height u v (a ∷ []) h i j = omega arith
 cells-short width height u v (a ∷ b ∷ rest) h i j = go (ltb v height) refl (cells-short width height (across width u) (down width u v) rest h i (across-within width u j))

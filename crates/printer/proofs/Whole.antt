@@ -9,9 +9,9 @@ use lib.Dec.{ltb}
 use lib.ListN.{length}
 use lib.Seq.{length-take-le}
 use Rattle.io.specs.Counts.{Counts}
-use Rattle.listing.specs.Placed.{Written, written, with-text, placed-all}
-use Rattle.listing.proofs.Putting.{is-placed}
-use Rattle.listing.proofs.Whole.{as-long, all-placed}
+use Rattle.put_text.specs.Placed.{Written, written, with-text, placed-all}
+use Rattle.put_text.proofs.Putting.{is-placed}
+use Rattle.put_text.proofs.Whole.{as-long, all-placed}
 use Rattle.printer.specs.Printed.{printed-lines, printed, most-printed, print}
 use Rattle.printer.proofs.Fits.{printed-short}
 

@@ -16,8 +16,9 @@ use Rattle.job.specs.Job.{fresh}
 use Rattle.turns.specs.Turns.{Said, finished, refused, running}
 use Rattle.job.specs.declared.Started.{Started}
 use Rattle.job.specs.declared.Started.the-variants as begun
-use Rattle.listing.specs.Listing.{refused-line, listing-lines, joined}
-use Rattle.listing.specs.Placed.{Written, written, with-text}
+use Rattle.put_text.specs.Placed.{joined, Written, written, with-text}
+use Rattle.listing_lines.specs.Line.{refused-line}
+use Rattle.listing.specs.Listing.{listing-lines}
 
 -- a refusal is one line
 abbrev pub refusal-lines : ℕ → List (List ℕ)
@@ -42,7 +43,10 @@ blank cells = take (2 * cells) (replicate (2 * most-cells) (ofBits binary32 0))
 -- 6 for too many cells
 unfoldable pub sized-lines : Camera → ℕ → ℕ → List (List ℕ)
 sized-lines camera width height =
-    cond (ltb most-cells (width * height)) (refusal-lines (number WrongSize)) (shown (whole-table camera width height (blank (width * height))))
+    cond
+    (ltb most-cells (width * height))
+    (refusal-lines (number WrongSize))
+    (shown (whole-table camera width height (blank (width * height))))
 
 -- before that 4, 5 and 6 for its sides
 abbrev pub started : Started → List (List ℕ) → List (List ℕ)
@@ -68,6 +72,7 @@ printed input = joined (printed-lines input)
 abbrev pub most-printed : ℕ
 most-printed = 139264
 
--- what `print` makes of a buffer, and how many bytes it writes: all at its start, or none where there is no room for the most
+-- what `print` makes of a buffer, and how many bytes it writes: all at its start, or none where there is no room for
+-- the most
 abbrev pub print : List ℕ → List ℕ → Written
 print input out = cond (ltb (length out) most-printed) (written out 0) (with-text (written out 0) (printed input))

@@ -1,4 +1,5 @@
-// What the table printer writes for an input, whatever the input: a camera file's table, or one line that says which refusal.
+// What the table printer writes for an input, whatever the input: a camera file's table, or one line that says which
+// refusal.
 ghost use mathlib.Core.Path.{_≡_};
 ghost use mathlib.Core.List.{[], _∷_};
 ghost use Prim.Native.Nat.{_*_, _≤_};
@@ -7,8 +8,8 @@ ghost use Rattle.lens.specs.Refusal.{number};
 ghost use Rattle.region.specs.Size.{Sized};
 ghost use Rattle.io.specs.Counts.{Counts};
 ghost use Rattle.distortion_table.specs.Answer.{told-turned, whole-table};
-ghost use Rattle.listing.specs.Listing.{refused-line};
-ghost use Rattle.listing.specs.Placed.{written, placed-all};
+ghost use Rattle.listing_lines.specs.Line.{refused-line};
+ghost use Rattle.put_text.specs.Placed.{written, placed-all};
 ghost use Rattle.printer.specs.Printed.{shown, sized-lines, table-lines, printed-lines, print};
 use camera::Camera;
 use camera_file::Parsed;
@@ -22,14 +23,15 @@ pub const CELLS: usize = 4096;
 
 const NUMBERS: usize = 8192;
 
-// Room for all that is printed, whatever the input: 34 bytes for each of so many cells. No cell's line is longer than 33, and what is over holds the two lines above them.
+// Room for all that is printed, whatever the input: 34 bytes for each of so many cells. No cell's line is longer than
+// 33, and what is over holds the two lines above them.
 pub const OUTPUT: usize = 139264;
 
 // The one line of a refusal.
 fn refuse(out: &mut [u8], refusal: Refusal) -> usize
     ensures { λ r. ⌜ written (now (out .exit)) r ≡ placed-all (written (now (out .entry)) 0) (refused-line (number refusal) ∷ []) ⌝ }
 {
-    listing::refused_line(out, 0, refusal)
+    listing_lines::refused_line(out, 0, refusal)
 }
 
 // The lines of a table that is done, or of the refusal that ended it.
@@ -116,8 +118,8 @@ fn print_lines(input: &[u8], out: &mut [u8]) -> usize
     }
 }
 
-// Writes all that is printed for the input to the start of out, and answers how many bytes that is. A buffer of fewer than OUTPUT bytes is left as it is, and 0 is answered:
-// half a listing is none.
+// Writes all that is printed for the input to the start of out, and answers how many bytes that is. A buffer of fewer
+// than OUTPUT bytes is left as it is, and 0 is answered: half a listing is none.
 pub fn print(input: &[u8], out: &mut [u8]) -> usize
     ensures { λ r. ⌜ written (now (out .exit)) r ≡ print (now (input .entry)) (now (out .entry)) ⌝ }
     ensures { λ r. ⌜ Counts r (now (out .exit)) ⌝ }

@@ -5,7 +5,7 @@ use Prim.Native.Nat.{_-_}
 use borrow.Author.Needs.{needs}
 use native.Mathlib.Omega.{arith}
 use lib.ListN.{length}
-use Rattle.listing.specs.Placed.{written}
+use Rattle.put_text.specs.Placed.{written}
 use Rattle.listing.proofs.Rows.{Passed, none-passed, all-passed, rows-passed, no-room, one-passed}
 use Rattle.listing.proofs.cells.Statement.{statement}
 use Rattle.listing.proofs.cells.Tie as tie

@@ -4,7 +4,7 @@ use native.Mathlib.Omega.{arith}
 use lib.Seq.{length-take-le}
 use lib.Ieee.{Float}
 use Rattle.distortion_table.specs.Answer.{Answer}
-use Rattle.listing.specs.Placed.{written, placed-all}
+use Rattle.put_text.specs.Placed.{written, placed-all}
 use Rattle.printer.specs.Printed.{shown}
 use borrow.Author.Needs.{needs}
 use Rattle.printer.proofs.build.Statement.{statement}

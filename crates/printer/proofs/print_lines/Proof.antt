@@ -3,7 +3,7 @@ use mathlib.Core.Path.{sym, ap, _∙_}
 use Rattle.camera_file.specs.Asked.{parsed}
 use Rattle.camera_file.specs.declared.Parsed.{Parsed}
 use Rattle.camera_file.proofs.Laws.{told-file-one-to-one}
-use Rattle.listing.specs.Placed.{written, placed-all}
+use Rattle.put_text.specs.Placed.{written, placed-all}
 use Rattle.printer.specs.Printed.{file-lines, printed-lines}
 use borrow.Author.Needs.{needs}
 use Rattle.printer.proofs.print_lines.Statement.{statement}

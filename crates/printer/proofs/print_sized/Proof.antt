@@ -11,7 +11,7 @@ use Rattle.lens.specs.declared.Refusal.the-variants.{WrongSize}
 use Rattle.region.proofs.Size.{bounded}
 use Rattle.camera.specs.declared.Camera.{Camera}
 use Rattle.distortion_table.specs.Answer.{whole-table}
-use Rattle.listing.specs.Placed.{Written, written, placed-all}
+use Rattle.put_text.specs.Placed.{Written, written, placed-all}
 use Rattle.printer.specs.Printed.{refusal-lines, shown, most-cells, blank, sized-lines}
 use borrow.Author.Needs.{needs}
 use Rattle.printer.proofs.print_sized.Statement.{statement}

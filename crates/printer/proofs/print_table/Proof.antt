@@ -6,7 +6,7 @@ use Rattle.job.specs.Job.{fresh}
 use Rattle.job.specs.declared.Started.{Started}
 use Rattle.distortion_table.proofs.Calls.{fresh-opens}
 use Rattle.job.proofs.Laws.{started-one-to-one}
-use Rattle.listing.specs.Placed.{written, placed-all}
+use Rattle.put_text.specs.Placed.{written, placed-all}
 use Rattle.printer.specs.Printed.{sized-lines, started, table-lines}
 use borrow.Author.Needs.{needs}
 use Rattle.printer.proofs.print_table.Statement.{statement}

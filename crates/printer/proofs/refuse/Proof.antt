@@ -1,8 +1,8 @@
 -- `printer::refuse` meets its contract. Assumes nothing.
 use mathlib.Core.Path.{_∙_}
 use Rattle.lens.specs.Refusal.{number}
-use Rattle.listing.specs.Listing.{refused-line}
-use Rattle.listing.specs.Placed.{written}
+use Rattle.listing_lines.specs.Line.{refused-line}
+use Rattle.put_text.specs.Placed.{written}
 use Rattle.printer.proofs.Lines.{one-line}
 use borrow.Author.Needs.{needs}
 use Rattle.printer.proofs.refuse.Statement.{statement}

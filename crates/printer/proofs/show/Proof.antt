@@ -4,7 +4,7 @@ use mathlib.Core.List.{List}
 use Prim.Native.Nat.{ℕ}
 use Rattle.distortion_table.specs.Answer.{told-status, told-turned}
 use Rattle.distortion_table.specs.declared.Status.{Status}
-use Rattle.listing.specs.Placed.{written, placed-all}
+use Rattle.put_text.specs.Placed.{written, placed-all}
 use Rattle.printer.specs.Printed.{shown-as}
 use borrow.Author.Needs.{needs}
 use Rattle.printer.proofs.show.Statement.{statement}
