@@ -1,5 +1,5 @@
--- What a camera file asks for: a camera and a size, or a refusal: 14, then 1, then 3. Whether the camera's numbers and the size are good (4, 5, 6) is
--- judged where they are used. Definitions only.
+-- What a camera file asks for: a camera and a size, or a refusal: 14, then 1, then 3. Whether the camera's numbers and
+-- the size are good (4, 5, 6) is judged where they are used. Definitions only.
 use mathlib.Core.Bool.{cond}
 use mathlib.Core.List.{List, [], _∷_}
 use mathlib.Core.Option.{Option, none, some}
@@ -39,7 +39,9 @@ bc-word = 98 ∷ 99 ∷ []
 unfoldable pub model : List ℕ → Named
 model name =
     cond (same name affine-word) (Known Affine)
-    (cond (same name eucm-word) (Known EnhancedUnified) (cond (same name kb-word) (Known KannalaBrandt) (cond (same name bc-word) (Known BrownConrady) Unknown)))
+    (cond (same name eucm-word) (Known EnhancedUnified)
+    (cond (same name kb-word) (Known KannalaBrandt)
+    (cond (same name bc-word) (Known BrownConrady) Unknown)))
 
 -- ---- 3: the model's count
 
@@ -58,11 +60,13 @@ abbrev pub affine : List ℕ → Camera
 affine p = cameras.Affine record { fx = at p 0; fy = at p 1; cx = at p 2; cy = at p 3 }
 
 abbrev pub enhanced-unified : List ℕ → Camera
-enhanced-unified p = cameras.EnhancedUnified record { fx = at p 0; fy = at p 1; cx = at p 2; cy = at p 3; alpha = at p 4; beta = at p 5 }
+enhanced-unified p =
+    cameras.EnhancedUnified record { fx = at p 0; fy = at p 1; cx = at p 2; cy = at p 3; alpha = at p 4; beta = at p 5 }
 
 abbrev pub kannala-brandt : List ℕ → Camera
 kannala-brandt p =
-    cameras.KannalaBrandt record { fx = at p 0; fy = at p 1; cx = at p 2; cy = at p 3; k0 = at p 4; k1 = at p 5; k2 = at p 6; k3 = at p 7 }
+    cameras.KannalaBrandt
+    record { fx = at p 0; fy = at p 1; cx = at p 2; cy = at p 3; k0 = at p 4; k1 = at p 5; k2 = at p 6; k3 = at p 7 }
 
 abbrev pub brown-conrady : List ℕ → Camera
 brown-conrady p =

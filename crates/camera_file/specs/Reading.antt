@@ -1,5 +1,5 @@
--- How a camera file's text is read: field by field, each up to its tab or newline. Where one of these is missing, the field after it is empty, and no
--- field may be empty. Definitions only.
+-- How a camera file's text is read: field by field, each up to its tab or newline. Where one of these is missing, the
+-- field after it is empty, and no field may be empty. Definitions only.
 use mathlib.Core.Bool.{Bool, cond, _&&_}
 use mathlib.Core.List.{List, [], _∷_}
 use mathlib.Core.Option.{Option, none, some}
@@ -52,7 +52,12 @@ file-of text =
     let named = past tab text in
     let wide = past tab named in
     let high = past tab wide in
-    record { name = before tab named; width = worth 0 (before tab wide); height = worth 0 (before newline high); params = params-of (past newline high) }
+    record {
+      name = before tab named;
+      width = worth 0 (before tab wide);
+      height = worth 0 (before newline high);
+      params = params-of (past newline high);
+    }
 
 unfoldable pub read : List ℕ → Option CameraFile
 read text = cond (is-file text) (some (file-of text)) none

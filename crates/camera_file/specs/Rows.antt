@@ -1,4 +1,5 @@
--- The rows of the refusal table (docs/RULES.md, 5.1) that a camera file can meet, in the order they are tried: each number, and when it is given. Definitions only.
+-- The rows of the refusal table (docs/RULES.md, 5.1) that a camera file can meet, in the order they are tried: each
+-- number, and when it is given. Definitions only.
 use mathlib.Core.Bool.{Bool, true, false, not}
 use mathlib.Core.List.{List, [], _∷_}
 use Prim.Native.Nat.{ℕ}

@@ -25,17 +25,31 @@ from-params m width height text = cond (is-params text) (asked-of m width height
 
 -- from the height on
 abbrev pub from-height : Named → ℕ → List ℕ → Parsed
-from-height m width text = cond (is-high text) (asked-of m width (worth 0 (before newline text)) (params-of (past newline text))) (Refused NotTheForm)
+from-height m width text =
+    cond
+    (is-high text)
+    (asked-of m width (worth 0 (before newline text)) (params-of (past newline text)))
+    (Refused NotTheForm)
 
 -- from the width on
 abbrev pub from-width : Named → List ℕ → Parsed
 from-width m text =
     let high = past tab text in
-    cond (is-wide text) (asked-of m (worth 0 (before tab text)) (worth 0 (before newline high)) (params-of (past newline high))) (Refused NotTheForm)
+    cond
+    (is-wide text)
+    (asked-of m (worth 0 (before tab text)) (worth 0 (before newline high)) (params-of (past newline high)))
+    (Refused NotTheForm)
 
 -- from the name on
 abbrev pub from-name : List ℕ → Parsed
 from-name text =
     let wide = past tab text in
     let high = past tab wide in
-    cond (is-named text) (asked-of (model (before tab text)) (worth 0 (before tab wide)) (worth 0 (before newline high)) (params-of (past newline high))) (Refused NotTheForm)
+    cond
+    (is-named text)
+    (asked-of
+    (model (before tab text))
+    (worth 0 (before tab wide))
+    (worth 0 (before newline high))
+    (params-of (past newline high)))
+    (Refused NotTheForm)

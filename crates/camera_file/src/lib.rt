@@ -1,5 +1,5 @@
-// The text of a camera file: a camera's name and size, and its parameters' bit patterns, as a program is handed them. The code goes through the text
-// once, a function for each field.
+// The text of a camera file: a camera's name and size, and its parameters' bit patterns, as a program is handed them.
+// The code goes through the text once, a function for each field.
 ghost use mathlib.Core.Path.{_≡_};
 ghost use Rattle.decimal.specs.Text.{all};
 ghost use Rattle.params_line.specs.Params.{params-of};
@@ -56,7 +56,8 @@ fn place(text: &[u8], b: u8) -> usize
     i
 }
 
-// Where the text after the first b starts. It is the length where there is no b: what is left is then empty, and refused as such.
+// Where the text after the first b starts. It is the length where there is no b: what is left is then empty, and
+// refused as such.
 fn rest(text: &[u8], b: u8) -> usize
     ensures { λ r. ⌜ Starts b (now (text .entry)) r ⌝ }
 {

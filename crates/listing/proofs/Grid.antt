@@ -80,10 +80,10 @@ patterns-back width height u v (a ∷ b ∷ rest) h e f =
 -- ---- where a cell's line stands
 
 pub count :
-    (width height u v : ℕ) (rest : List Float) →
+    (width height u v : ℕ) (rest : List ℕ) →
     u < width →
     length rest + 2 * (v * width + u) ≡ 2 * (width * height) →
-    2 * length (cell-lines width height u v rest) ≡ length rest
+    2 * length (cell-texts width height u v rest) ≡ length rest
 unfolding cell-texts
 count width height u v [] h e = refl
 count width height u v (a ∷ []) h e = absurd (omega arith)
@@ -91,7 +91,7 @@ count width height u v (a ∷ b ∷ rest) h e =
     let l : v < height = in-a-row width height u v (omega arith) in
     let n = next width u v h in
     let g : length rest + 2 * (down width u v * width + across width u) ≡ 2 * (width * height) = omega (arith, n .1) in
-    let more : 2 * length (cell-lines width height (across width u) (down width u v) rest) ≡ length rest =
+    let more : 2 * length (cell-texts width height (across width u) (down width u v) rest) ≡ length rest =
     count width height (across width u) (down width u v) rest (n .0) g in
     simp (lt-ltb v height l) (omega (arith, more))
 

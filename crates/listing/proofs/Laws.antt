@@ -1,15 +1,15 @@
 -- What a caller may rely on, of the definitions of specs/ and of the contracts of src/. Assumes nothing.
 use mathlib.Core.Path.{_≡_, refl, sym, ap, _∙_}
 use mathlib.Core.Bool.{true, _&&_}
-use mathlib.Core.List.{List, [], _∷_}
+use mathlib.Core.List.{List, [], _∷_, map}
 use mathlib.Core.Option.{some}
 use Prim.Native.Nat.{ℕ, _+_, _*_, _≤_, _<_}
 use native.Mathlib.Omega.{arith}
 use denote.Ref.{now}
 use borrow.Author.Tests.{leb-true, eqb-true}
 use lib.Dec.{eqb, leb}
-use lib.Ieee.{Float, nan}
-use lib.ListN.{length, getD}
+use lib.Ieee.{Float, nan, binary32, toBits}
+use lib.ListN.{length, length-map, getD}
 use Rattle.exact.specs.Determined.{DeterminedWith}
 use Rattle.region.specs.Size.{within, sized}
 use Rattle.region.specs.declared.Region.{Region}
@@ -53,8 +53,9 @@ module _ (width height : ℕ) (table : List Float) (long : length table ≡ 2 * 
   -- A table of w·h cells has w·h lines of cells.
   pub cells-counted : 0 < width → length (cell-lines width height 0 0 table) ≡ width * height
   cells-counted h =
-      let z : 0 * width + 0 ≡ 0 = omega arith in
-      let n : 2 * length (cell-lines width height 0 0 table) ≡ length table = count width height 0 0 table h (omega arith) in
+      let m : length (map (toBits binary32) table) ≡ length table = length-map table (toBits binary32) in
+      let n : 2 * length (cell-lines width height 0 0 table) ≡ length (map (toBits binary32) table) =
+      count width height 0 0 (map (toBits binary32) table) h (omega arith) in
       omega arith
 
   -- The line of the cell (u, v) is line v·w + u of them, and has the table's numbers 2(v·w + u) and the one after it.
@@ -76,6 +77,17 @@ pub listing-is :
 unfolding listing listing-lines listed-text
 listing-is width height updates region table = refl
 
+-- what of it counts the cells
+whole : (l : Listed) → fair l ≡ true → (2 ≤ l .header .width) × (length (l .cells) ≡ 2 * (l .header .width * l .header .height))
+whole l f =
+    let h = l .header in
+    let x = both-true (fair-header h && fair-edges (l .edges)) _ f in
+    let y = both-true (fair-header h) _ (x .0) in
+    let z = both-true (eqb (length (l .cells)) (2 * (h .width * h .height))) _ (x .1) in
+    let t = both-true (sized (h .width) (h .height) && leb (h .width * h .height) 4096) _ (y .0) .0 in
+    let w = both-true (within (h .width)) _ (both-true (sized (h .width) (h .height)) _ t .0) .0 in
+    (leb-true 2 (h .width) (both-true (leb 2 (h .width)) _ w .0), eqb-true (length (l .cells)) _ (z .0))
+
 listed-back : (l : Listed) → fair l ≡ true → listed-of (lines (listed-text l)) ≡ l
 unfolding listed-of
 listed-back l f =
@@ -83,11 +95,9 @@ listed-back l f =
     let x = both-true (fair-header h && fair-edges (l .edges)) _ f in
     let y = both-true (fair-header h) _ (x .0) in
     let z = both-true (eqb (length (l .cells)) (2 * (h .width * h .height))) _ (x .1) in
-    let w = both-true (within (h .width)) _ (both-true (sized (h .width) (h .height)) _ (both-true (sized (h .width) (h .height) && leb (h .width * h .height) 4096) _ (y .0) .0) .0) .0 in
-    let wide : 2 ≤ h .width = leb-true 2 (h .width) (both-true (leb 2 (h .width)) _ w .0) in
-    let long : length (l .cells) ≡ 2 * (h .width * h .height) = eqb-true (length (l .cells)) _ (z .0) in
+    let n = whole l f in
     let cells : patterns (cell-texts (h .width) (h .height) 0 0 (l .cells)) ≡ l .cells =
-    patterns-back (h .width) (h .height) 0 0 (l .cells) (omega arith) (omega arith) (z .1) in
+    patterns-back (h .width) (h .height) 0 0 (l .cells) (omega (arith, n .0)) (omega (arith, n .1)) (z .1) in
     ap listed-of (listed-cut l) ∙ simp (header-back (h .width) (h .height) (h .updates), edges-back (l .edges) (y .1), cells)
 
 -- From the bytes that are written of what a listing may tell, that comes back: w·h cells row by row, sides of 2 to 4,096, at most 4,096 cells, any bit pattern.
@@ -99,3 +109,13 @@ listing-read l f = read-again fair listed-text (listed-of (lines (listed-text l)
 pub only-listing : (text : List ℕ) (l : Listed) → read-listing text ≡ some l → (text ≡ listed-text l) × (fair l ≡ true)
 unfolding read-listing
 only-listing text l e = only-read fair listed-text (listed-of (lines text)) text l e
+
+-- So a text that is read has a line for each of its w·h cells behind the first two: one with a cell left out is not read.
+pub read-counted : (text : List ℕ) (l : Listed) → read-listing text ≡ some l → length (lines text) ≡ 2 + l .header .width * l .header .height
+read-counted text l e =
+    let o = only-listing text l e in
+    let h = l .header in
+    let n = whole l (o .1) in
+    let c : 2 * length (cell-texts (h .width) (h .height) 0 0 (l .cells)) ≡ length (l .cells) =
+    count (h .width) (h .height) 0 0 (l .cells) (omega (arith, n .0)) (omega (arith, n .1)) in
+    ap (λ (t : List ℕ). length (lines t)) (o .0) ∙ ap length (listed-cut l) ∙ omega (arith, c, n .1)

@@ -1,5 +1,5 @@
--- Reading a listing: what it tells, for the bytes that are the listing of a table of a size that is printed, and none for
--- any other bytes: not for one with a cell too few, too many or out of its place. Definitions only.
+-- Reading a listing: what it tells, for the bytes that are the listing of a table of a size that is printed, and none
+-- for any other bytes: not for one with a cell too few, too many or out of its place. Definitions only.
 use mathlib.Core.Bool.{Bool, true, cond, _&&_}
 use mathlib.Core.List.{List, [], _∷_, map}
 use mathlib.Core.Option.{Option}
@@ -38,7 +38,8 @@ listed width height updates region table = record {
 -- its bytes: the table's line, the region's, the cells' row by row
 unfoldable pub listed-text : Listed → List ℕ
 listed-text l =
-    joined (header-text (l .header) ∷ edges-text (l .edges) ∷ cell-texts (l .header .width) (l .header .height) 0 0 (l .cells))
+    let h = l .header in
+    joined (header-text h ∷ edges-text (l .edges) ∷ cell-texts (h .width) (h .height) 0 0 (l .cells))
 
 -- ---- what it may tell
 

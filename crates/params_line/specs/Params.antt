@@ -1,5 +1,5 @@
--- A params line, as it is written and as it is read (docs/RULES.md, 16.1): the word, then a tab and 16 digits for each parameter, then a newline and no more.
--- Definitions only.
+-- A params line, as it is written and as it is read (docs/RULES.md, 16.1): the word, then a tab and 16 digits for each
+-- parameter, then a newline and no more. Definitions only.
 use mathlib.Core.Bool.{Bool, _&&_}
 use mathlib.Core.List.{List, [], _∷_, _++_}
 use Prim.Native.Nat.{ℕ, zero, suc, _-_, _/_, _^_}

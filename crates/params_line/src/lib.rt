@@ -1,4 +1,5 @@
-// The second line of a camera file: a word, and the bit pattern of each parameter. No list of parameters is made: the k-th one stands at a fixed place.
+// The second line of a camera file: a word, and the bit pattern of each parameter. No list of parameters is made: the
+// k-th one stands at a fixed place.
 ghost use mathlib.Core.Path.{_≡_};
 ghost use Prim.Native.Nat.{_/_, _≤_, _<_};
 ghost use lib.ListN.{length};

@@ -26,7 +26,8 @@ refusal-lines n = refused-line n ∷ []
 
 -- a table that is finished is listed; one that a unit refused is that refusal. The table at once is one of the two.
 abbrev pub shown-as : Said → Answer Float → List (List ℕ)
-shown-as finished a = listing-lines (a .job .width) (a .job .height) (a .job .at .updates) (a .job .at .region) (a .cells)
+shown-as finished a =
+    listing-lines (a .job .width) (a .job .height) (a .job .at .updates) (a .job .at .region) (a .cells)
 shown-as (refused n) a = refusal-lines n
 shown-as running a = []
 

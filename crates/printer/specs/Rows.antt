@@ -1,5 +1,5 @@
--- The rows of the refusal table (docs/RULES.md, 5.1) that an input can meet before its table is built, in the order they
--- are tried: each number, and when it is given; and what is printed by them. Definitions only.
+-- The rows of the refusal table (docs/RULES.md, 5.1) that an input can meet before its table is built, in the order
+-- they are tried: each number, and when it is given; and what is printed by them. Definitions only.
 use mathlib.Core.Bool.{cond}
 use mathlib.Core.List.{List, [], _∷_, _++_}
 use Prim.Native.Nat.{ℕ, _*_}

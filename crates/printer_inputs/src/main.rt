@@ -1,7 +1,9 @@
-// Prints the table of one input after the other: every refusal that the printer can give, texts that are nearly of the form, and a table of each model. The gate runs
-// this on the file stdin, and holds what it writes to the file stdout; tools/make_printer_inputs.py makes both.
+// Prints the table of one input after the other: every refusal that the printer can give, texts that are nearly of the
+// form, and a table of each model. The gate runs this on the file stdin, and holds what it writes to the file stdout;
+// tools/make_printer_inputs.py makes both.
 //
-// A case is two parts: the line to write above its answer, and the input. A part is two bytes that tell its length, the lower first, and so many bytes.
+// A case is two parts: the line to write above its answer, and the input. A part is two bytes that tell its length, the
+// lower first, and so many bytes.
 use libc::STDIN_FILENO;
 use libc::STDOUT_FILENO;
 ghost use Rattle.io.specs.Counts.{Counts};
@@ -13,7 +15,8 @@ fn length_of(lower: u8, upper: u8) -> usize {
     lower as usize + 256 * (upper as usize)
 }
 
-// Reads the next part, and answers how many bytes it has: none where the input ends, or where it tells of more than there is room for.
+// Reads the next part, and answers how many bytes it has: none where the input ends, or where it tells of more than
+// there is room for.
 fn read_part(part: &mut [u8]) -> usize
     ensures { λ r. ⌜ Counts r (now (part .exit)) ⌝ }
 {
@@ -43,7 +46,8 @@ fn answer_next() -> bool {
     true
 }
 
-// Answers each case in turn, and gives how many there are. Nothing says that an input ends, so the count has an end of its own, which no run comes to.
+// Answers each case in turn, and gives how many there are. Nothing says that an input ends, so the count has an end of
+// its own, which no run comes to.
 fn answer_all() -> u64 {
     let mut cases: u64 = 0;
     while cases < u64::MAX && answer_next() {
