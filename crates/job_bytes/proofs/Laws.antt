@@ -77,7 +77,8 @@ fresh-writable model params width height s = record {
   done = omega arith;
 }
 
--- Where `fresh` returns 0, the buffer holds the record of the camera and size that were handed in with no unit done, one that bytes can hold, and that record is read back out of it.
+-- Where `fresh` returns 0, the buffer holds the record of the camera and size that were handed in with no unit done, one
+-- that bytes can hold, and that record is read back out of it.
 pub fresh-read :
     (model : ℕ) (params : List ℕ) (width height : ℕ) (lent : List ℕ) →
     fresh-bytes model params width height lent .code ≡ 0 →

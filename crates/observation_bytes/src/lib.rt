@@ -1,4 +1,5 @@
-// A list of observations as C has it: an array of records of 40 bytes. Any bytes are a list, if they are of whole records.
+// A list of observations as C has it: an array of records of 40 bytes. Any bytes are a list, if they are of whole
+// records.
 ghost use mathlib.Core.Path.{_≡_};
 ghost use Prim.Native.Nat.{_+_, _*_, _%_, _≤_};
 ghost use lib.Dec.{eqb};
@@ -31,7 +32,10 @@ fn put_found(list: &mut [u8], at: usize, found: Observation)
 // One record: its pixel is read, and what is found of it is put behind it.
 fn see(camera: Camera, list: &mut [u8], at: usize)
     requires { ⌜ at + 40 ≤ length (now list) ⌝ }
-    ensures { λ _. ⌜ now (list .exit) ≡ put (at + 16) (found-bytes (seen camera (blank-at (now (list .entry)) at))) (now (list .entry)) ⌝ }
+    ensures { λ _. ⌜
+        now (list .exit)
+        ≡ put (at + 16) (found-bytes (seen camera (blank-at (now (list .entry)) at))) (now (list .entry))
+        ⌝ }
 {
     let pixel = Pixel(
         little_endian::float(list, at),
@@ -70,7 +74,10 @@ fn rounds(code: u8, length: usize) -> usize
 
 // By a camera that was read: the lower of its own refusal and 7.
 fn observed_by(camera: Camera, list: &mut [u8]) -> u8
-    ensures { λ r. ⌜ (r ≡ code (refusal-of camera) (eqb (length (now (list .entry)) % 40) 0)) × (now (list .exit) ≡ each (seen-bytes camera) (rounds r (length (now (list .entry)))) (now (list .entry))) ⌝ }
+    ensures { λ r. ⌜
+        (r ≡ code (refusal-of camera) (eqb (length (now (list .entry)) % 40) 0))
+        × (now (list .exit) ≡ each (seen-bytes camera) (rounds r (length (now (list .entry)))) (now (list .entry)))
+        ⌝ }
 {
     let code = given::code(observations::refusal_of(camera), list.len() % LENGTH == 0);
     let count = rounds(code, list.len());
@@ -78,7 +85,8 @@ fn observed_by(camera: Camera, list: &mut [u8]) -> u8
     code
 }
 
-// Undistorts the pixel of every record by the camera of a model's number and its parameters' bytes. With another number than 0 no record is written.
+// Undistorts the pixel of every record by the camera of a model's number and its parameters' bytes. With another number
+// than 0 no record is written.
 pub fn observe(model: u8, params: &[u8], list: &mut [u8]) -> u8
     ensures { λ r. ⌜ given r (now (list .exit)) ≡ observe-bytes model (now (params .entry)) (now (list .entry)) ⌝ }
 {

@@ -40,7 +40,8 @@ pub all-handed :
     (r ≡ r') × (_≡_ {A = List ℕ × List Float × List ℕ} (j, c, a) (j', c', a'))
 all-handed e = (ap (λ (h : Handed). h .code) e, ap (λ (h : Handed). (h .job, h .cells, h .answer)) e)
 
--- Any two numbers that the contract of `turn` permits to one call are equal, and so are any two records, tables and answers at the return.
+-- Any two numbers that the contract of `turn` permits to one call are equal, and so are any two records, tables and
+-- answers at the return.
 pub turn-determined : DeterminedWith {L = List ℕ × List Float × List ℕ} turn-contract.Post (λ κ s. (now (s .0), now (s .1 .0), now (s .1 .1 .1 .0)))
 turn-determined κ a s s' r r' p q = all-handed (p ∙ sym q)
 
@@ -58,7 +59,8 @@ module _ (bs : List ℕ) (cells : List Float) (allowance : ℕ) (lent : List ℕ
   unfolding turn-bytes
   refused-untouched n = not-taken bs cells lent (turn-of (job-at bs) cells allowance) before n
 
-  -- Any other writes all that its turn answers, also if a unit refuses: record, table and answer are as they are after the units before that one.
+  -- Any other writes all that its turn answers, also if a unit refuses: record, table and answer are as they are after
+  -- the units before that one.
   pub taken-written : before ≡ 0 → after ≡ written (turn-of (job-at bs) cells allowance)
   unfolding turn-bytes
   taken-written z = taken bs cells lent (turn-of (job-at bs) cells allowance) before z
@@ -79,7 +81,8 @@ module _ (bs : List ℕ) (cells : List Float) (allowance : ℕ) (lent : List ℕ
           subst Told (sym (ap (λ (h : Handed). h .code) (refused-untouched (eqb-false before 0 e))))
           (by-each Told (0 ∷ call-numbers) before (before-so bs cells lent) (refl, (refl, (refl, (refl, (refl, (refl, (refl, tt))))))))
 
-  -- The number alone says whether anything was written: with 1, 4, 5, 6, 7 or 13 record, table and answer are as they were.
+  -- The number alone says whether anything was written: with 1, 4, 5, 6, 7 or 13 record, table and answer are as they
+  -- were.
   pub untouched-by-number : one-of (after .code) call-numbers ≡ true → (after .job ≡ bs) × (after .cells ≡ cells) × (after .answer ≡ lent)
   untouched-by-number h = go (eqb before 0) refl
     where

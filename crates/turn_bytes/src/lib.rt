@@ -1,4 +1,5 @@
-// One turn of a table over bytes: the record, the table and the answer are lent by the caller. A call that is refused before any unit writes nothing.
+// One turn of a table over bytes: the record, the table and the answer are lent by the caller. A call that is refused
+// before any unit writes nothing.
 ghost use mathlib.Core.Path.{_≡_};
 ghost use lib.ListN.{length};
 ghost use Rattle.lens.specs.Judgement.{verdict};
@@ -71,7 +72,12 @@ fn put_four(out: &mut [u8], a: u64, b: u64, c: u64, d: u64)
 // Writes what a turn hands back, all being the units in all.
 fn give(turned: Turned, all: u64, job: &mut [u8], answer: &mut [u8]) -> u8
     requires { ⌜ (length (now job) ≡ record-length) × (length (now answer) ≡ answer-length) ⌝ }
-    ensures { λ r. ⌜ (r ≡ said-number (told-status (turned .status))) × (now (job .exit) ≡ record-bytes (turned .job)) × (now (answer .exit) ≡ four-words (status-number (told-status (turned .status))) (turned .job .at .done) all (turned .job .at .updates)) ⌝ }
+    ensures { λ r. ⌜
+        (r ≡ said-number (told-status (turned .status)))
+        × (now (job .exit) ≡ record-bytes (turned .job))
+        × (now (answer .exit)
+        ≡ four-words (status-number (told-status (turned .status))) (turned .job .at .done) all (turned .job .at .updates))
+        ⌝ }
 {
     let said = turned.status;
     let held = turned.job;
@@ -90,7 +96,10 @@ fn give(turned: Turned, all: u64, job: &mut [u8], answer: &mut [u8]) -> u8
 // A turn of the record that the bytes hold: 4, 5, 6, 7, 13 before any unit.
 fn turn_held(held: Job, job: &mut [u8], table: &mut [f32], allowance: u64, answer: &mut [u8]) -> u8
     requires { ⌜ length (now job) ≡ record-length ⌝ }
-    ensures { λ r. ⌜ handed r (now (job .exit)) (now (table .exit)) (now (answer .exit)) ≡ turn-held held (now (job .entry)) (now (table .entry)) allowance (now (answer .entry)) ⌝ }
+    ensures { λ r. ⌜
+        handed r (now (job .exit)) (now (table .exit)) (now (answer .exit))
+        ≡ turn-held held (now (job .entry)) (now (table .entry)) allowance (now (answer .entry))
+        ⌝ }
 {
     let number = verdict(job::admitted(held, table.len()));
     let code = given::code(number, answer.len() == ANSWER);
@@ -102,9 +111,13 @@ fn turn_held(held: Job, job: &mut [u8], table: &mut [f32], allowance: u64, answe
     give(turned, all as u64, job, answer)
 }
 
-// One turn: as many units as the allowance says, or fewer if one refuses or none is left. Record, table and answer are written up to there.
+// One turn: as many units as the allowance says, or fewer if one refuses or none is left. Record, table and answer are
+// written up to there.
 pub fn turn(job: &mut [u8], table: &mut [f32], allowance: u64, answer: &mut [u8]) -> u8
-    ensures { λ r. ⌜ handed r (now (job .exit)) (now (table .exit)) (now (answer .exit)) ≡ turn-bytes (now (job .entry)) (now (table .entry)) allowance (now (answer .entry)) ⌝ }
+    ensures { λ r. ⌜
+        handed r (now (job .exit)) (now (table .exit)) (now (answer .exit))
+        ≡ turn-bytes (now (job .entry)) (now (table .entry)) allowance (now (answer .entry))
+        ⌝ }
 {
     match job_bytes::read(job) {
         Found::Refused(refusal) => given::code(lens::number(refusal), answer.len() == ANSWER),
