@@ -1,5 +1,5 @@
 #!/usr/bin/env python3
-"""Makes crates/angle_vectors/stdin and stdout: questions to `arctangent` and `tangent`, and what is owed.
+"""Makes crates/test_angle_vectors/stdin and stdout: questions to `arctangent` and `tangent`, and what is owed.
 
     python3 tools/make_angle_vectors.py
 
@@ -323,7 +323,7 @@ def main():
     asked += bad
     answers += ["bad"] * len(bad) + [f"lines\t{len(asked)}"]
     print(f"{len(bad)} bad lines; {len(asked)} lines in all")
-    folder = pathlib.Path(__file__).resolve().parent.parent / "crates" / "angle_vectors"
+    folder = pathlib.Path(__file__).resolve().parent.parent / "crates" / "test_angle_vectors"
     for name, lines in (("stdin", asked), ("stdout", answers)):
         text = "".join(line + "\n" for line in lines).encode("ascii")
         assert name != "stdin" or len(text) <= BUFFER, len(text)

@@ -1,5 +1,5 @@
 #!/usr/bin/env python3
-"""Makes crates/head_calls/stdin and stdout: calls of the four functions that a head calls, and what is owed for each.
+"""Makes crates/test_head_calls/stdin and stdout: calls of the four functions that a head calls, and what is owed for each.
 
     python3 tools/make_head_calls.py              writes both files, and says on stderr what they cover
     python3 tools/make_head_calls.py --self-test  tests this script, and writes nothing
@@ -26,7 +26,7 @@ from make_table_lookups import BOX, lookup
 from make_table_lookups import LISTED as LISTED_CELLS
 from make_table_vectors import BRINK, HALF_EUCM, LISTED, LISTING
 
-FOLDER = pathlib.Path(__file__).resolve().parent.parent / "crates" / "head_calls"
+FOLDER = pathlib.Path(__file__).resolve().parent.parent / "crates" / "test_head_calls"
 FIELDS, LINE = 12, 204
 BYTES, NUMBERS = 512, 64  # of a buffer, of the table
 FILL, BEFORE = 0xA5, struct.unpack("<I", struct.pack("<f", 12345.0))[0]

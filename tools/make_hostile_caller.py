@@ -1,5 +1,5 @@
 #!/usr/bin/env python3
-"""Makes crates/hostile_caller/stdout: what the functions that C calls owe a hostile caller.
+"""Makes crates/test_hostile_caller/stdout: what the functions that C calls owe a hostile caller.
 
     python3 tools/make_hostile_caller.py              writes the file, and says on stderr what it covers
     python3 tools/make_hostile_caller.py --self-test  tests this script, and writes nothing
@@ -207,7 +207,7 @@ def self_test():
 def main():
     lines, said = written()
     cover(said)
-    (CRATES / "hostile_caller" / "stdout").write_bytes("".join(line + "\n" for line in lines).encode("ascii"))
+    (CRATES / "test_hostile_caller" / "stdout").write_bytes("".join(line + "\n" for line in lines).encode("ascii"))
 
 
 if __name__ == "__main__":

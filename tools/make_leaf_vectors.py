@@ -1,5 +1,5 @@
 #!/usr/bin/env python3
-"""Makes crates/leaf_vectors/stdin and stdout: questions to `root` and `narrow`, and the answers.
+"""Makes crates/test_leaf_vectors/stdin and stdout: questions to `root` and `narrow`, and the answers.
 
     python3 tools/make_leaf_vectors.py
 
@@ -379,7 +379,7 @@ def main():
     asked = roots[0] + bad + narrows[0]
     answers = roots[1] + ["bad"] * len(bad) + narrows[1] + [f"lines\t{len(asked)}"]
     print(f"{len(bad)} bad lines; {len(asked)} lines in all")
-    folder = pathlib.Path(__file__).resolve().parent.parent / "crates" / "leaf_vectors"
+    folder = pathlib.Path(__file__).resolve().parent.parent / "crates" / "test_leaf_vectors"
     for name, lines in (("stdin", asked), ("stdout", answers)):
         text = "".join(line + "\n" for line in lines).encode("ascii")
         assert name != "stdin" or len(text) <= BUFFER

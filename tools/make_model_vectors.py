@@ -1,5 +1,5 @@
 #!/usr/bin/env python3
-"""Makes crates/model_vectors/stdin and stdout: questions to the four lens models, and the answers.
+"""Makes crates/test_model_vectors/stdin and stdout: questions to the four lens models, and the answers.
 
     python3 tools/make_model_vectors.py              writes both files, and says on stderr what they cover
     python3 tools/make_model_vectors.py --self-test  tests this script, and writes nothing
@@ -537,8 +537,8 @@ def summary(said, count, bad):
 
 
 def test_angles():
-    """The copied arctangent and tangent against the stored ends of angle_vectors, whose makers know no f64."""
-    folder = CRATES / "angle_vectors"
+    """The copied arctangent and tangent against the stored ends of test_angle_vectors, whose makers know no f64."""
+    folder = CRATES / "test_angle_vectors"
     asked = (folder / "stdin").read_text().split("\n")
     owed = (folder / "stdout").read_text().split("\n")
     tried = Counter()
@@ -666,8 +666,8 @@ def main():
     answers += ["bad"] * len(bad) + [f"lines\t{len(asked)}"]
     stdin, stdout = ("".join(line + "\n" for line in lines) for lines in (asked, answers))
     # the last line is a good one, but its end is cut off
-    (CRATES / "model_vectors" / "stdin").write_bytes(stdin[:-1].encode("ascii"))
-    (CRATES / "model_vectors" / "stdout").write_bytes(stdout.encode("ascii"))
+    (CRATES / "test_model_vectors" / "stdin").write_bytes(stdin[:-1].encode("ascii"))
+    (CRATES / "test_model_vectors" / "stdout").write_bytes(stdout.encode("ascii"))
     summary(said, len(asked) - len(bad), len(bad))
 
 

@@ -1,5 +1,5 @@
 #!/usr/bin/env python3
-"""Makes crates/observation_lists/stdout: what lists of observations are to be after the list call.
+"""Makes crates/test_observation_lists/stdout: what lists of observations are to be after the list call.
 
     python3 tools/make_observation_lists.py              writes the file, and says on stderr what it covers
     python3 tools/make_observation_lists.py --self-test  tests this script, and writes nothing
@@ -170,7 +170,7 @@ def self_test():
 def main():
     lines, said = written()
     cover(said)
-    (CRATES / "observation_lists" / "stdout").write_bytes("".join(line + "\n" for line in lines).encode("ascii"))
+    (CRATES / "test_observation_lists" / "stdout").write_bytes("".join(line + "\n" for line in lines).encode("ascii"))
 
 
 if __name__ == "__main__":

@@ -1,7 +1,7 @@
 #!/usr/bin/env python3
 """Makes what the printer's programs are run on, and what they have to write:
 
-    crates/printer_inputs/stdin, stdout    many inputs, one after the other
+    crates/test_printer_inputs/stdin, stdout    many inputs, one after the other
     crates/table_printer/stdin, stdout     the rules' example
     examples/NAME.camera                   a camera file for each model
 
@@ -224,8 +224,8 @@ def part(text):
 
 def files():
     found = list(cases())
-    yield "crates/printer_inputs/stdin", b"".join(part(words) + part(text) for words, text, _ in found)
-    yield "crates/printer_inputs/stdout", b"".join(words + answer for words, _, answer in found) + b"cases\t%d\n" % len(found)
+    yield "crates/test_printer_inputs/stdin", b"".join(part(words) + part(text) for words, text, _ in found)
+    yield "crates/test_printer_inputs/stdout", b"".join(words + answer for words, _, answer in found) + b"cases\t%d\n" % len(found)
     yield "crates/table_printer/stdin", EXAMPLE
     yield "crates/table_printer/stdout", printed(EXAMPLE)
     for name, text in EXAMPLES.items():

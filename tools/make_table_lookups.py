@@ -1,5 +1,5 @@
 #!/usr/bin/env python3
-"""Makes crates/table_lookups/stdin and stdout: points looked up in lens tables, and what comes of each.
+"""Makes crates/test_table_lookups/stdin and stdout: points looked up in lens tables, and what comes of each.
 
     python3 tools/make_table_lookups.py              writes both files, and says on stderr what they cover
     python3 tools/make_table_lookups.py --listing    lists the questions made by hand for a person to read, a line each:
@@ -30,7 +30,7 @@ from fractions import Fraction
 from make_leaf_vectors import INF, LARGEST, NAN, SIGN, Splitmix, nearest, parts, value
 from make_model_vectors import pattern
 
-FOLDER = pathlib.Path(__file__).resolve().parent.parent / "crates" / "table_lookups"
+FOLDER = pathlib.Path(__file__).resolve().parent.parent / "crates" / "test_table_lookups"
 PLACES = 24  # of a table at most
 FIELDS = 9 + PLACES
 LEAST, MOST = 2, 4096

@@ -1,5 +1,5 @@
 #!/usr/bin/env python3
-"""Makes crates/table_vectors/stdin and stdout: jobs for the table builder, and what each of its turns gives.
+"""Makes crates/test_table_vectors/stdin and stdout: jobs for the table builder, and what each of its turns gives.
 
     python3 tools/make_table_vectors.py              writes both files, and says on stderr what they cover
     python3 tools/make_table_vectors.py --self-test  tests this script and lens_tables.py, and writes nothing
@@ -67,7 +67,7 @@ from make_leaf_vectors import narrow as exact_narrow
 from make_model_vectors import BC_EXAMPLE, misspelled, number_of, pattern, sized, spelled, uniform
 from make_model_vectors import unit as plain
 
-FOLDER = pathlib.Path(__file__).resolve().parent.parent / "crates" / "table_vectors"
+FOLDER = pathlib.Path(__file__).resolve().parent.parent / "crates" / "test_table_vectors"
 ROOM = 3072  # cells that the program's table has room for
 BEFORE = 0x3F000000  # what every place of the table holds before the first turn: 0.5
 LARGE = 10**6  # an allowance that no job of this size uses up
@@ -804,7 +804,7 @@ def test_carried():
 
 
 def test_narrow():
-    """The platform's conversion to an f32 against the one by whole numbers that leaf_vectors has."""
+    """The platform's conversion to an f32 against the one by whole numbers that test_leaf_vectors has."""
     rng, tried = Splitmix(91), 0
     some = [rng.bits(64) for _ in range(2000)]
     some += [(rng.bits(1) << 63) + (rng.below(280) + 1023 - 152 << 52) + rng.bits(52) for _ in range(4000)]
