@@ -1,7 +1,8 @@
 #!/usr/bin/env python3
 """Prints the table of docs/CONTRACTS.md that says which definitions a reader of demand 3's law has to believe, with their lines.
 
-Run from the project's root. `--check` compares it with the document and says where they differ (exit status 1)."""
+Run from the project's root. `--check` compares it with the document and says where they differ (exit status 1);
+`--write` puts it there."""
 import re
 import sys
 
@@ -56,9 +57,15 @@ def table():
 
 
 if __name__ == "__main__":
-    made = table()
-    if "--check" in sys.argv:
-        if made not in open("docs/CONTRACTS.md", encoding="utf-8").read():
-            sys.exit("docs/CONTRACTS.md has another table: run tools/believed.py and put it there")
+    made, page = table(), "docs/CONTRACTS.md"
+    text = open(page, encoding="utf-8").read()
+    if "--write" in sys.argv:
+        start = text.index(made.split("\n")[0])
+        end = text.index("\n\n", start)
+        open(page, "w", encoding="utf-8").write(text[:start] + made + text[end:])
+    elif "--check" in sys.argv:
+        missing = [line for line in made.split("\n") if line not in text]
+        print("\n".join(missing) if missing else "as in the document")
+        sys.exit(1 if missing else 0)
     else:
         print(made)

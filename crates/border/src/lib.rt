@@ -1,5 +1,5 @@
-// The border of an image, half a pixel outside it: its pixels in the order they are swept, the edges of the points found
-// there, and twice the box of the edges, which is a table's region.
+// The border of an image, half a pixel outside it: its pixels in the order they are swept, the edges of the points
+// found there, and twice the box of the edges, which is a table's region.
 ghost use mathlib.Core.Path.{_≡_};
 ghost use Rattle.border.specs.Border.{before, across, along, samples, border-at};
 ghost use Rattle.border.specs.Edges.{lowered, raised, widened, edges-after, doubled};

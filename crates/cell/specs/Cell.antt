@@ -36,7 +36,8 @@ of-pixel kind (pixels.Refused r) = none (number r)
 of-pixel kind (pixels.At pixel) = kind pixel
 
 -- 11 for a point that isn't finite, then the refusals of its pixel, then those of the kind
-unfoldable pub cell-by : {X : Type 0} → (Point → Distorted) → (Pixel → Content X) → Region → Increments → ℕ → ℕ → Content X
+unfoldable pub cell-by :
+    {X : Type 0} → (Point → Distorted) → (Pixel → Content X) → Region → Increments → ℕ → ℕ → Content X
 cell-by distort kind region by u v =
     let point = cell-point region by u v in
     cond (finite (point .0) && finite (point .1)) (of-pixel kind (distort point)) (none 11)

@@ -57,16 +57,16 @@ turn-serves = record { answers = answers; plan-kept = plan-kept; ready-kept = λ
     plan-kept h a said k t (called κ args r s post) = ap (λ (x : Answer Float). plan-of (x .job)) post
 
 -- camera and size are kept all along a build
-pub record Kept (h k : Held Float) : Type 0 where
+pub record SameTable (h k : Held Float) : Type 0 where
   pub camera : k .job .camera ≡ h .job .camera
   pub width : k .job .width ≡ h .job .width
   pub height : k .job .height ≡ h .job .height
 
-call-keeps : (h : Held Float) (a : ℕ) (said : Said) (k : Held Float) → Called h a said k → Kept h k
+call-keeps : (h : Held Float) (a : ℕ) (said : Said) (k : Held Float) → Called h a said k → SameTable h k
 call-keeps h a said k (called κ args r s post) =
     record { camera = ap (λ (x : Answer Float). x .job .camera) post; width = ap (λ (x : Answer Float). x .job .width) post; height = ap (λ (x : Answer Float). x .job .height) post }
 
-pub build-keeps : (ls : List ℕ) (h k : Held Float) → Build (Held Float) Called ls h k → Kept h k
+pub build-keeps : (ls : List ℕ) (h k : Held Float) → Build (Held Float) Called ls h k → SameTable h k
 build-keeps [] h k (done same) = record { camera = refl; width = refl; height = refl }
 build-keeps (x ∷ ls) h k (call from a said m post rest last more) =
     let c = call-keeps from a said m post in

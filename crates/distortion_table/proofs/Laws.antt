@@ -29,7 +29,7 @@ use Rattle.job.specs.Job as job
 use Rattle.job.specs.declared.Job.{Job}
 use Rattle.job.specs.declared.Started.the-variants as begun
 use Rattle.distortion_table.specs.Answer.{Answer, answer, enough, whole-table, told-status, told-turned}
-use Rattle.distortion_table.specs.Held.{Held, kept, held-plan, held-state, BuiltJob}
+use Rattle.distortion_table.specs.Held.{Held, handed-back, held-plan, held-state, BuiltJob}
 use Rattle.distortion_table.specs.declared.Status.{Status}
 use Rattle.distortion_table.specs.declared.Status.the-variants.{Finished, Refused, Running}
 use Rattle.distortion_table.specs.declared.Turned.{Turned}
@@ -143,7 +143,7 @@ module _
     -- The table at once is that of any build that is allowed T units or more: the same record, the same cells;
     pub at-once :
         (allowances : List ℕ) (last : Held Float) → Build (Held Float) Called allowances (first camera width height table) last
-        → all-units width height ≤ total allowances → last ≡ kept (whole-table camera width height table)
+        → all-units width height ≤ total allowances → last ≡ handed-back (whole-table camera width height table)
     at-once allowances last calls h =
         let p = f32-table camera width height in
         let e = ends.enough-for p (fresh table) (omega arith) (total allowances) h in
@@ -152,9 +152,9 @@ module _
         let whole = subst (Built p table (total allowances)) (e ∙ sym f) (c (total allowances)) in
         let b = built-in-turns camera width height table allowances last calls in
         let mine = subst (λ (A : ℕ). Built p table A (held-state last)) (build-allowed allowances last calls) (b .built) in
-        same-held last (kept (answer (fresh-job camera width height) (turn (next p) enough (fresh table)))) (b .same-camera) (b .same-width) (b .same-height)
+        same-held last (handed-back (answer (fresh-job camera width height) (turn (next p) enough (fresh table)))) (b .same-camera) (b .same-width) (b .same-height)
         (built-same p table (total allowances) (total allowances) (held-state last) once mine whole refl)
-        ∙ sym (ap kept at-once-is)
+        ∙ sym (ap handed-back at-once-is)
 
     -- and it is finished, or refused at a unit: it never says running.
     pub at-once-ends : whole-table camera width height table .said ≡ running → ⊥

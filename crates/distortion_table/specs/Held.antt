@@ -15,8 +15,8 @@ pub record Held (X : Type 0) : Type 0 where
   pub cells : List X
 
 -- what an answer hands back
-abbrev pub kept : {X : Type 0} → Answer X → Held X
-kept answer = record { job = answer .job; cells = answer .cells }
+abbrev pub handed-back : {X : Type 0} → Answer X → Held X
+handed-back answer = record { job = answer .job; cells = answer .cells }
 
 -- the plan of its table, and the state of the build
 abbrev pub held-plan : Held Float → Plan Float

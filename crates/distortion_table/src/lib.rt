@@ -61,13 +61,6 @@ pub struct Turned {
     pub job: Job,
 }
 
-// The smaller of two.
-fn least(a: usize, b: usize) -> usize
-    ensures { λ r. ⌜ r ≡ min a b ⌝ }
-{
-    if a < b { a } else { b }
-}
-
 // Which cells are a turn's, once the border is behind it.
 fn cells_due(width: usize, height: usize, all: usize, done: usize, left: usize) -> Run
     requires { ⌜ Sized width height × (all ≤ done) × (done ≤ all + width * height) ⌝ }
@@ -76,7 +69,7 @@ fn cells_due(width: usize, height: usize, all: usize, done: usize, left: usize) 
     let first = done - all;
     Run {
         first,
-        count: least(left, width * height - first),
+        count: job::least(left, width * height - first),
     }
 }
 

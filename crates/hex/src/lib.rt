@@ -117,7 +117,8 @@ fn still(all: bool, bits: Bits) -> bool
     }
 }
 
-// Reads as many fields of a line as there are places, the first into the first: 0 where there is none. Answers whether all are there.
+// Reads as many fields of a line as there are places, the first into the first: 0 where there is none. Answers whether
+// all are there.
 pub fn fields(line: &[u8], numbers: &mut [u64]) -> bool
     ensures is { λ r. ⌜ r ≡ every-field (now (line .entry)) 0 (length (now (numbers .entry))) ⌝ }
     ensures puts { λ _. ⌜ now (numbers .exit) ≡ fields (now (line .entry)) 0 (length (now (numbers .entry))) ⌝ }

@@ -90,7 +90,7 @@ pub fn fresh(camera: Camera, width: usize, height: usize) -> Started
 }
 
 // The smaller of two.
-fn least(a: usize, b: usize) -> usize
+pub fn least(a: usize, b: usize) -> usize
     ensures { λ r. ⌜ r ≡ min a b ⌝ }
 {
     if a < b { a } else { b }

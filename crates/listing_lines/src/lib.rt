@@ -59,7 +59,9 @@ fn grow_double(line: &mut [u8; LINE], at: usize, x: f64) -> usize
 
 // Puts the line `table`, width, height, updates.
 pub fn table_line(out: &mut [u8], at: usize, width: usize, height: usize, updates: u32) -> usize
-    ensures { λ r. ⌜ written (now (out .exit)) r ≡ placed (written (now (out .entry)) at) (table-line width height updates) ⌝ }
+    ensures { λ r. ⌜
+        written (now (out .exit)) r ≡ placed (written (now (out .entry)) at) (table-line width height updates)
+        ⌝ }
 {
     let mut line = [0u8; LINE];
     let word = grow(&mut line, 0, b"table");
@@ -100,7 +102,9 @@ pub fn cell_line(out: &mut [u8], at: usize, u: usize, v: usize, a: f32, b: f32) 
 
 // Puts the line `refused` and the refusal's number.
 pub fn refused_line(out: &mut [u8], at: usize, refusal: Refusal) -> usize
-    ensures { λ r. ⌜ written (now (out .exit)) r ≡ placed (written (now (out .entry)) at) (refused-line (number refusal)) ⌝ }
+    ensures { λ r. ⌜
+        written (now (out .exit)) r ≡ placed (written (now (out .entry)) at) (refused-line (number refusal))
+        ⌝ }
 {
     let mut line = [0u8; LINE];
     let word = grow(&mut line, 0, b"refused");

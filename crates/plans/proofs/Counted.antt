@@ -18,7 +18,7 @@ use Rattle.region.specs.declared.Region.{Region}
 use Rattle.turns.specs.Turns.{Next, over, refuses, does, Said, finished, refused, running, ended, turn, counted, units}
 use Rattle.turns.proofs.Laws as any
 use Rattle.border.specs.Edges.{doubled}
-use Rattle.plans.specs.Plan.{Content, numbers, none, Plan, State, sampled, with-region, all-units, cells-done, found, too-strict, closed, after-sample, swept, beside, put-in, cell-unit, next}
+use Rattle.plans.specs.Plan.{Content, numbers, none, Plan, State, sampled, with-region, all-units, cells-done, found, too-strict, closed, after-sample, swept, table-alone, put-in, cell-unit, next}
 use Rattle.plans.specs.declared.Progress.{Progress}
 use Rattle.plans.specs.Built.{before-refused, region-of, progress-of, sample-number, border-number, content-number, content-at, unit-number, doable, says-at}
 use Rattle.plans.proofs.Along.{Along, last-edges, region-is, along-on, turn-along}
@@ -38,10 +38,10 @@ judged-so : {S : Type 0} (j : Judgement) (t : S) → Numbered (decided j (λ r. 
 judged-so judged.Taken t = refl
 judged-so (judged.Refused r) t = (refl, number-within r .0)
 
-beside-so : {X : Type 0} (l : _) (n : Next Progress) (k : ℕ) → Numbered n k → Numbered (beside {X = X} l n) k
-beside-so l over k h = h
-beside-so l (refuses r) k h = h
-beside-so l (does t) k h = h
+table-alone-so : {X : Type 0} (l : _) (n : Next Progress) (k : ℕ) → Numbered n k → Numbered (table-alone {X = X} l n) k
+table-alone-so l over k h = h
+table-alone-so l (refuses r) k h = h
+table-alone-so l (does t) k h = h
 
 module _ {X : Type 0} (p : Plan X) where
   abbrev told-number : Undistorted → ℕ → ℕ
@@ -85,9 +85,9 @@ module _ {X : Type 0} (p : Plan X) where
 
         go :
             (b : Bool) → ltb (s .at .done) (p .sweep .samples) ≡ b
-            → Numbered (cond b (beside (s .cells) (after-sample (p .sweep) (s .at) (found (p .sweep) (s .at .done)))) (cond (ltb (s .at .done) (all-units (p .sweep))) (cell-unit p s) over))
+            → Numbered (cond b (table-alone (s .cells) (after-sample (p .sweep) (s .at) (found (p .sweep) (s .at .done)))) (cond (ltb (s .at .done) (all-units (p .sweep))) (cell-unit p s) over))
             (cond b (told-number (found (p .sweep) (s .at .done)) (s .at .done)) (content-number (content-at p (s .at .done - p .sweep .samples))))
-        go true f = beside-so (s .cells) (after-sample (p .sweep) (s .at) (found (p .sweep) (s .at .done))) _ (at-sample (s .at) (ltb-true (s .at .done) (p .sweep .samples) f) h (found (p .sweep) (s .at .done)) refl)
+        go true f = table-alone-so (s .cells) (after-sample (p .sweep) (s .at) (found (p .sweep) (s .at .done))) _ (at-sample (s .at) (ltb-true (s .at .done) (p .sweep .samples) f) h (found (p .sweep) (s .at .done)) refl)
         go false f =
             let r : s .at .region ≡ region-of (p .sweep) = ap (λ (x : Progress). x .region) h ∙ region-is p (s .at .done) (ltb-false (s .at .done) (p .sweep .samples) f) in
             subst (λ (d : Bool). Numbered (cond d (cell-unit p s) over) (content-number (content-at p (cells-done (p .sweep) s)))) (sym (lt-ltb (s .at .done) (all-units (p .sweep)) under))

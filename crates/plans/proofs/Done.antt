@@ -17,7 +17,7 @@ use Rattle.lens.specs.declared.Undistorted.the-variants.{At, Refused}
 use Rattle.region.specs.Region.{increments, wrong}
 use Rattle.turns.specs.Turns.{Next, over, refuses, does}
 use Rattle.border.specs.Edges.{doubled}
-use Rattle.plans.specs.Plan.{Content, numbers, none, Plan, State, sampled, with-region, with-done, all-units, cells-done, found, too-strict, closed, after-sample, swept, beside, put-in, cell-unit, next}
+use Rattle.plans.specs.Plan.{Content, numbers, none, Plan, State, sampled, with-region, with-done, all-units, cells-done, found, too-strict, closed, after-sample, swept, table-alone, put-in, cell-unit, next}
 use Rattle.plans.specs.declared.Progress.{Progress}
 
 module _ {X : Type 0} (p : Plan X) where
@@ -51,14 +51,14 @@ module _ {X : Type 0} (p : Plan X) where
 
   -- ---- from the definition
 
-  sample-done : (s t : State X) → s .at .done < p .sweep .samples → (u : Undistorted) → found (p .sweep) (s .at .done) ≡ u → beside (s .cells) (after-sample (p .sweep) (s .at) u) ≡ does t → Done s t
+  sample-done : (s t : State X) → s .at .done < p .sweep .samples → (u : Undistorted) → found (p .sweep) (s .at .done) ≡ u → table-alone (s .cells) (after-sample (p .sweep) (s .at) u) ≡ does t → Done s t
   sample-done s t under (Refused r) e h = let z : _≡_ {A = ℕ} 0 1 = cc in absurd (omega arith)
   sample-done s t under (At settled) e h =
       go (too-strict (p .sweep) settled) refl (ltb (s .at .done + 1) (p .sweep .samples)) refl (wrong (increments (doubled (sampled (s .at) settled .edges)) (p .sweep .width) (p .sweep .height))) refl h
     where
       go :
           (x : Bool) → too-strict (p .sweep) settled ≡ x → (b : Bool) → ltb (s .at .done + 1) (p .sweep .samples) ≡ b → (j : Judgement) → wrong (increments (doubled (sampled (s .at) settled .edges)) (p .sweep .width) (p .sweep .height)) ≡ j
-          → beside (s .cells) (cond x (refuses 18) (cond b (does (sampled (s .at) settled)) (decided j (λ r. refuses (number r)) (does (with-region (sampled (s .at) settled) (doubled (sampled (s .at) settled .edges))))))) ≡ does t → Done s t
+          → table-alone (s .cells) (cond x (refuses 18) (cond b (does (sampled (s .at) settled)) (decided j (λ r. refuses (number r)) (does (with-region (sampled (s .at) settled) (doubled (sampled (s .at) settled .edges))))))) ≡ does t → Done s t
       go true f b g j w h = let z : _≡_ {A = ℕ} 0 1 = cc in absurd (omega arith)
       go false f true g j w h = a-sample settled (ltb-true (s .at .done + 1) (p .sweep .samples) g) e f (cc)
       go false f false g (judged.Refused r) w h = let z : _≡_ {A = ℕ} 0 1 = cc in absurd (omega arith)
@@ -76,7 +76,7 @@ module _ {X : Type 0} (p : Plan X) where
     where
       go :
           (b : Bool) → ltb (s .at .done) (p .sweep .samples) ≡ b → (d : Bool) → ltb (s .at .done) (all-units (p .sweep)) ≡ d
-          → cond b (beside (s .cells) (after-sample (p .sweep) (s .at) (found (p .sweep) (s .at .done)))) (cond d (cell-unit p s) over) ≡ does t → Done s t
+          → cond b (table-alone (s .cells) (after-sample (p .sweep) (s .at) (found (p .sweep) (s .at .done)))) (cond d (cell-unit p s) over) ≡ does t → Done s t
       go true e d f h = sample-done s t (ltb-true (s .at .done) (p .sweep .samples) e) (found (p .sweep) (s .at .done)) refl h
       go false e true f h = cell-done s t (ltb-false (s .at .done) (p .sweep .samples) e) (ltb-true (s .at .done) (all-units (p .sweep)) f) _ refl h
       go false e false f h = let z : _≡_ {A = ℕ} 0 1 = cc in absurd (omega arith)

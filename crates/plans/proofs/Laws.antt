@@ -74,14 +74,14 @@ module _ {X : Type 0} (p : Plan X) (sound : Sound p) where
     pub as-defined : length cells ≡ 2 * (p .sweep .width * p .sweep .height) → (n : ℕ) → Built p cells n (end n)
     as-defined long n =
         let a = turn-along p n (fresh cells) start-along in
-        let h = written.done-hold p n (fresh cells) long in
+        let h = written.done-filled p n (fresh cells) long in
         let k = written.untouched p n (fresh cells) in
         record {
           progress = a ∙ ap (progress-of (p .sweep)) (counted.units-done p (sound .refusals) n (fresh cells) refl start-along);
           as-long = k .as-long;
           cells-hold = λ c d m.
               let r = ap (λ (x : Progress). x .region) a ∙ region-is p (end n .at .done) (omega (arith, m)) in
-              let k = subst (λ (r : Region). written.Holding p r (end n .cells) c) r (h .each c (omega arith) m) in
+              let k = subst (λ (r : Region). written.Filled p r (end n .cells) c) r (h .each c (omega arith) m) in
               k .its ∙ ap₂ numbers (sym (k .there d .0)) (sym (k .there d .1));
           untouched = λ j d m. k .behind j d m;
         }

@@ -19,7 +19,7 @@ use Rattle.region.specs.declared.Region.{Region}
 use Rattle.turns.specs.Turns.{Next, over, refuses, does, Said, finished, refused, running, ended, turn, units}
 use Rattle.turns.proofs.Laws as any
 use Rattle.border.specs.Edges.{doubled}
-use Rattle.plans.specs.Plan.{Content, numbers, none, Plan, State, sampled, with-region, all-units, cells-done, found, too-strict, closed, after-sample, swept, beside, put-in, cell-in, cell-unit, next}
+use Rattle.plans.specs.Plan.{Content, numbers, none, Plan, State, sampled, with-region, all-units, cells-done, found, too-strict, closed, after-sample, swept, table-alone, put-in, cell-in, cell-unit, next}
 use Rattle.plans.specs.declared.Progress.{Progress}
 
 -- it holds of the number that is said, if one is
@@ -63,10 +63,10 @@ module _ {X : Type 0} (p : Plan X) (P : ℕ → Type 0) (so : Refusing p P) wher
           let by = increments (doubled (last .edges)) (p .sweep .width) (p .sweep .height) in
           judged-known (wrong by) (with-region last (doubled (last .edges))) (so .increments by)
 
-  beside-known : (l : List X) (n : Next Progress) → Known n → Known (beside l n)
-  beside-known l over k = tt
-  beside-known l (refuses r) k = k
-  beside-known l (does at) k = tt
+  table-alone-known : (l : List X) (n : Next Progress) → Known n → Known (table-alone l n)
+  table-alone-known l over k = tt
+  table-alone-known l (refuses r) k = k
+  table-alone-known l (does at) k = tt
 
   put-known : (region : Region) (u v : ℕ) (x : Content X) → p .cell region u v ≡ x → (c : ℕ) (s : State X) → Known (put-in x c s)
   put-known region u v (none n) e c s = so .cells region u v n e
@@ -76,8 +76,8 @@ module _ {X : Type 0} (p : Plan X) (P : ℕ → Type 0) (so : Refusing p P) wher
   unfolding next swept
   next-known s = go (ltb (s .at .done) (p .sweep .samples)) (ltb (s .at .done) (all-units (p .sweep)))
     where
-      go : (b d : Bool) → Known (cond b (beside (s .cells) (after-sample (p .sweep) (s .at) (found (p .sweep) (s .at .done)))) (cond d (cell-unit p s) over))
-      go true d = beside-known (s .cells) (after-sample (p .sweep) (s .at) (found (p .sweep) (s .at .done))) (sample-known (s .at) (p .sweep .pixel-at (s .at .done)) (found (p .sweep) (s .at .done)) refl)
+      go : (b d : Bool) → Known (cond b (table-alone (s .cells) (after-sample (p .sweep) (s .at) (found (p .sweep) (s .at .done)))) (cond d (cell-unit p s) over))
+      go true d = table-alone-known (s .cells) (after-sample (p .sweep) (s .at) (found (p .sweep) (s .at .done))) (sample-known (s .at) (p .sweep .pixel-at (s .at .done)) (found (p .sweep) (s .at .done)) refl)
       go false true = put-known (s .at .region) _ _ (cell-in p (s .at .region) (cells-done (p .sweep) s)) refl (cells-done (p .sweep) s) s
       go false false = tt
 

@@ -12,7 +12,7 @@ use lib.Seq.{length-take-le}
 use Rattle.turns.specs.Turns.{Next, over, refuses, does, Said, finished, refused, running, Turn, halted, ended, turn, met}
 use Rattle.turns.proofs.Laws.{first-refused, first-running, over-turn, all-done, most-done}
 use Rattle.turns.proofs.Lifted.{lifted, lift-next, lift-run}
-use Rattle.plans.specs.Plan.{Content, numbers, none, Plan, State, with-done, all-units, cells-done, swept, beside, put-in, cell-unit, next}
+use Rattle.plans.specs.Plan.{Content, numbers, none, Plan, State, with-done, all-units, cells-done, swept, table-alone, put-in, cell-unit, next}
 use Rattle.plans.specs.Loops.{Filling, put, filled, Lent, reached, after-run}
 use Rattle.plans.specs.declared.Progress.{Progress}
 use Rattle.plans.proofs.AtBorder.{swept-counts, swept-there}
@@ -27,14 +27,14 @@ module _ {X : Type 0} (p : Plan X) (cells : List X) where
   abbrev with-table : Progress → State X
   with-table at = record { at = at; cells = cells }
 
-  beside-is : (n : Next Progress) → beside cells n ≡ lift-next with-table n
-  beside-is over = refl
-  beside-is (refuses r) = refl
-  beside-is (does t) = refl
+  table-alone-is : (n : Next Progress) → table-alone cells n ≡ lift-next with-table n
+  table-alone-is over = refl
+  table-alone-is (refuses r) = refl
+  table-alone-is (does t) = refl
 
   at-border : (at : Progress) → at .done < p .sweep .samples → next p (with-table at) ≡ lift-next with-table (swept (p .sweep) at)
   unfolding next
-  at-border at h = ap (λ (b : Bool). cond b (beside cells (swept (p .sweep) at)) (cond (ltb (at .done) (all-units (p .sweep))) (cell-unit p (with-table at)) over)) (lt-ltb (at .done) (p .sweep .samples) h) ∙ beside-is (swept (p .sweep) at)
+  at-border at h = ap (λ (b : Bool). cond b (table-alone cells (swept (p .sweep) at)) (cond (ltb (at .done) (all-units (p .sweep))) (cell-unit p (with-table at)) over)) (lt-ltb (at .done) (p .sweep .samples) h) ∙ table-alone-is (swept (p .sweep) at)
 
   pub sweep-is : (n : ℕ) (at : Progress) → n ≤ p .sweep .samples - at .done → met (turn (next p) n (with-table at)) ≡ lifted with-table (met (turn (swept (p .sweep)) n at))
   sweep-is n at h = lift-run with-table (swept (p .sweep)) (next p) (λ (a : Progress). p .sweep .samples - a .done) (λ a r. at-border a (omega arith)) (λ a t e. omega (arith, swept-counts (p .sweep) a t e .units)) n at h
@@ -113,7 +113,7 @@ module _ {X : Type 0} (p : Plan X) (first : ℕ) (at : Progress) (ahead : List X
   at-cells f h =
       let d = p .sweep .samples + (first + f .done) in
       let e : d - p .sweep .samples ≡ first + f .done = omega arith in
-      ap (λ (b : Bool). cond b (beside (ahead ++ f .cells) (swept (p .sweep) (in-table f .at))) (cond (ltb d (all-units (p .sweep))) (cell-unit p (in-table f)) over)) (le-ltb d (p .sweep .samples) (omega arith))
+      ap (λ (b : Bool). cond b (table-alone (ahead ++ f .cells) (swept (p .sweep) (in-table f .at))) (cond (ltb d (all-units (p .sweep))) (cell-unit p (in-table f)) over)) (le-ltb d (p .sweep .samples) (omega arith))
       ∙ ap (λ (b : Bool). cond b (cell-unit p (in-table f)) over) (lt-ltb d (all-units (p .sweep)) (omega arith))
       ∙ ap (λ (c : ℕ). put-in (p .cell (at .region) (c % p .sweep .width) (c / p .sweep .width)) c (in-table f)) e
       ∙ put-is (p .cell (at .region) ((first + f .done) % p .sweep .width) ((first + f .done) / p .sweep .width)) f
@@ -149,11 +149,11 @@ module _ {X : Type 0} (p : Plan X) (s : State X) where
 
   past-border : p .sweep .samples ≤ s .at .done → next p s ≡ cond (ltb (s .at .done) (all-units (p .sweep))) (cell-unit p s) over
   unfolding next
-  past-border h = ap (λ (b : Bool). cond b (beside (s .cells) (swept (p .sweep) (s .at))) (cond (ltb (s .at .done) (all-units (p .sweep))) (cell-unit p s) over)) (le-ltb (s .at .done) (p .sweep .samples) h)
+  past-border h = ap (λ (b : Bool). cond b (table-alone (s .cells) (swept (p .sweep) (s .at))) (cond (ltb (s .at .done) (all-units (p .sweep))) (cell-unit p s) over)) (le-ltb (s .at .done) (p .sweep .samples) h)
 
-  before-border : s .at .done < p .sweep .samples → next p s ≡ beside (s .cells) (swept (p .sweep) (s .at))
+  before-border : s .at .done < p .sweep .samples → next p s ≡ table-alone (s .cells) (swept (p .sweep) (s .at))
   unfolding next
-  before-border h = ap (λ (b : Bool). cond b (beside (s .cells) (swept (p .sweep) (s .at))) (cond (ltb (s .at .done) (all-units (p .sweep))) (cell-unit p s) over)) (lt-ltb (s .at .done) (p .sweep .samples) h)
+  before-border h = ap (λ (b : Bool). cond b (table-alone (s .cells) (swept (p .sweep) (s .at))) (cond (ltb (s .at .done) (all-units (p .sweep))) (cell-unit p s) over)) (lt-ltb (s .at .done) (p .sweep .samples) h)
 
   none-spent : turn (next p) 0 s ≡ says (ended (next p s) false)
   unfolding turn
@@ -175,7 +175,7 @@ module _ {X : Type 0} (p : Plan X) (s : State X) where
   pub at-border-spent : s .at .done < p .sweep .samples → turn (next p) 0 s ≡ says running
   at-border-spent h = none-spent ∙ ap (λ (n : Next (State X)). says (ended n false)) (before-border h) ∙ ap says (go (swept (p .sweep) (s .at)) refl)
     where
-      go : (n : Next Progress) → swept (p .sweep) (s .at) ≡ n → ended (beside (s .cells) n) false ≡ running
+      go : (n : Next Progress) → swept (p .sweep) (s .at) ≡ n → ended (table-alone (s .cells) n) false ≡ running
       go over e = absurd (swept-there (p .sweep) (s .at) e)
       go (refuses r) e = refl
       go (does t) e = refl

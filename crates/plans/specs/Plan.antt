@@ -109,10 +109,10 @@ module _ (sweep : Sweep) where
 -- ---- a cell, and the next unit
 
 -- a border unit leaves the table alone
-abbrev pub beside : {X : Type 0} → List X → Next Progress → Next (State X)
-beside cells over = over
-beside cells (refuses r) = refuses r
-beside cells (does at) = does record { at = at; cells = cells }
+abbrev pub table-alone : {X : Type 0} → List X → Next Progress → Next (State X)
+table-alone cells over = over
+table-alone cells (refuses r) = refuses r
+table-alone cells (does at) = does record { at = at; cells = cells }
 
 -- a cell's unit writes its two numbers and leaves all else
 abbrev pub put-in : {X : Type 0} → Content X → ℕ → State X → Next (State X)
@@ -136,5 +136,5 @@ module _ {X : Type 0} (p : Plan X) where
   -- the next unit: the border's first, then the cells'
   unfoldable pub next : State X → Next (State X)
   next s =
-      cond (ltb (s .at .done) (p .sweep .samples)) (beside (s .cells) (swept (p .sweep) (s .at)))
+      cond (ltb (s .at .done) (p .sweep .samples)) (table-alone (s .cells) (swept (p .sweep) (s .at)))
       (cond (ltb (s .at .done) (all-units (p .sweep))) (cell-unit s) over)
