@@ -8,8 +8,8 @@
  * one writes.
  *
  * What the caller owes. No function can check any of this; if it isn't kept, nothing is promised:
- *   - A buffer crosses as a pointer and its length, two arguments in a row: of bytes for a
- *     uint8_t *, of floats for a float *. The pointer is not null, even with length 0, and so much memory is there.
+ *   - A buffer crosses as a pointer and its length, two arguments in a row; the length counts bytes for a uint8_t *,
+ *     floats for a float *. The pointer is not null, even with length 0, and so much memory is there.
  *   - A buffer that the function may write (those without const) overlaps no other buffer of the same call. So the
  *     parameters inside a job can't begin that same job anew: copy them out first. Two that are only read may overlap.
  *   - A float * is aligned as a float is (4 bytes), a lens_observation * as that struct is (8). A uint8_t * may have
@@ -39,8 +39,8 @@ extern "C" {
 
 /* ---- the number returned
  *
- * A function that returns a uint8_t returns LENS_OK, and has written every byte of its answer; or it returns a
- * refusal's number, and has written nothing. The one exception is lens_turn, where it says so.
+ * A function that returns a uint8_t returns LENS_OK, and has written all of its answer; or it returns a refusal's
+ * number, and has written nothing. The one exception is lens_turn, which says where.
  *
  * Where several apply, the lowest number is returned, but for these:
  *   - lens_lookup judges the region's increments, 8 and then 11, before 9. So 11 may be told of a point that is also
@@ -182,7 +182,8 @@ uint8_t lens_dx_distort_params(uint8_t model, const uint8_t *params, size_t para
 #define LENS_JOB_BYTES 192
 #define LENS_JOB_CHECK_START UINT64_C(0x31424f4a534e454c)
 
-/* Which jobs are refused. 13 is returned if none of 1, 4, 5, 6 and 7 is and one of these holds:
+/* Which jobs are refused. 1, 4, 5 and 6 are for a job's model, parameters, region (whatever is done) and size. 13 is
+ * returned if none of these nor 7 is, and one of the following holds:
  *   - the check word is wrong;
  *   - more units are done than there are;
  *   - there are more updates than the samples done can have (none, none, 20 or 50 each, by the model);
@@ -192,8 +193,8 @@ uint8_t lens_dx_distort_params(uint8_t model, const uint8_t *params, size_t para
  * Caught for certain: of a job as it was written here, some or all of the 8 bytes of one word (at 0 to 7, 8 to 15,
  * and so on, the check word among them) became others. So in particular any change within one byte. A turn then
  * returns 1, 4, 5, 6, 7 or 13, never another number, and writes nothing.
- * Not caught for certain: changes in two words or more, which may cancel out in the sum (two words before the check
- * word exchanged: always); bytes whose check word was worked out anew; a sound job of another build or an earlier turn.
+ * Not caught for certain: changes in two words or more, which may cancel out in the sum, as two exchanged words of the
+ * 23 do; bytes whose check word was worked out anew; a sound job of another build or of an earlier turn.
  * Not checked at all: the table's floats, which no turn reads; the region handed to lens_lookup; observations. */
 
 /* What a turn answers: four uint64_t. */
