@@ -1,47 +1,70 @@
-/* A head's frame loop, as firmware would have it: a lens table grows between frames; then points are looked up in it and a
- * list of observations is undistorted. examples/run-head builds and runs it. */
+/* A head's frame loop, as firmware would have it: a lens table grows between frames; then points are looked up in it
+ * and a list of observations is undistorted. examples/run-head builds and runs it; --measure times units instead. */
 #include "lens.h"
 
 #include <inttypes.h>
 #include <stdio.h>
 #include <string.h>
+#include <time.h>
 
 #define WIDTH 640
 #define HEIGHT 480
-#define FLOATS (2 * WIDTH * HEIGHT)
+#define FLOATS LENS_TABLE_FLOATS(WIDTH, HEIGHT)
 
 /* All the memory there is; nothing is allocated. The second table is only there to compare the first with. */
 static float table[FLOATS], at_once[FLOATS];
-static uint8_t job[LENS_JOB_BYTES];
+static uint8_t job[LENS_JOB_BYTES], saved[LENS_JOB_BYTES];
 
-/* The camera of the Rust's own test: model 2, kb. */
-#define KB 2
-static const double kb[8] = {1000, 1000, 320, 280, 0.1, 0.01, 0.001, 0.0001};
+/* The camera of the Rust's own test. */
+static const double kb[LENS_KB_COUNT] = {1000, 1000, 320, 280, 0.1, 0.01, 0.001, 0.0001};
 
-/* What a turn says. The bytes stand as they do in this machine's memory. */
+/* What a turn says: zeros, if it was refused before any unit. */
 struct turned {
-    uint64_t status, done, all, updates;
+    uint64_t status, done, units, updates;
 };
 
-static uint8_t turn(uint8_t *job, float *table, uint64_t allowance, struct turned *says) {
-    return lens_turn(job, LENS_JOB_BYTES, table, FLOATS, allowance, (uint8_t *)says, sizeof *says);
+static uint64_t word_at(const uint8_t *bytes, size_t place) {
+    uint64_t word;
+    memcpy(&word, bytes + place, sizeof word);
+    return word;
 }
+
+static uint8_t turn(uint8_t *of, float *cells, uint64_t allowance, struct turned *says) {
+    uint8_t answer[LENS_TURN_BYTES] = {0};
+    uint8_t no = lens_turn(of, LENS_JOB_BYTES, cells, FLOATS, allowance, answer, sizeof answer);
+    says->status = word_at(answer, LENS_TURN_STATUS);
+    says->done = word_at(answer, LENS_TURN_DONE);
+    says->units = word_at(answer, LENS_TURN_UNITS);
+    says->updates = word_at(answer, LENS_TURN_UPDATES);
+    return no;
+}
+
+/* ---- the table */
 
 /* How many units this frame has time for. A head works this out once (docs/HEAD.md); here some frames are busy. */
 static uint64_t allowance(unsigned frame) {
     return frame % 7 == 6 ? 0 : 1500 + 97 * (frame % 5);
 }
 
+/* Between two frames the head is switched off: the job goes to flash and comes back. (So do the cells done.) */
+static void switch_off_and_on(void) {
+    memcpy(saved, job, sizeof job);
+    memset(job, 0xff, sizeof job);
+    memcpy(job, saved, sizeof job);
+}
+
 static int build(void) {
-    struct turned says = {0};
-    uint8_t no = lens_job_new(KB, (const uint8_t *)kb, sizeof kb, WIDTH, HEIGHT, job, sizeof job);
-    for (unsigned frame = 0; no == 0; frame++) {
+    struct turned says = {0, 0, 0, 0};
+    uint8_t no = lens_job_new(LENS_KB, LENS_PARAMS(kb), WIDTH, HEIGHT, job, sizeof job);
+    for (unsigned frame = 0; no == LENS_OK; frame++) {
         no = turn(job, table, allowance(frame), &says);
-        if (no == 0 && (frame % 50 == 0 || says.status == 1))
-            printf("frame %3u: %6" PRIu64 " of %" PRIu64 " units, %" PRIu64 " updates%s\n", frame, says.done, says.all,
-                   says.updates, says.status == 1 ? ", finished" : "");
-        if (says.status == 1)
+        if (no == LENS_OK && (frame % 50 == 0 || says.status == LENS_STATUS_FINISHED))
+            printf("frame %3u: %6" PRIu64 " of %" PRIu64 " units, %" PRIu64 " updates%s\n", frame, says.done,
+                   says.units, says.updates, says.status == LENS_STATUS_FINISHED ? ", finished" : "");
+        if (says.status == LENS_STATUS_FINISHED)
             return 0;
+        if (frame == 120)
+            switch_off_and_on();
     }
     printf("no table: refused %u after %" PRIu64 " units\n", no, says.done);
     return 1;
@@ -49,49 +72,120 @@ static int build(void) {
 
 /* The same table in a single turn: it must be the same in every cell, and so must the job. */
 static int compare(void) {
-    uint8_t whole[LENS_JOB_BYTES];
-    struct turned says = {0};
-    if (lens_job_new(KB, (const uint8_t *)kb, sizeof kb, WIDTH, HEIGHT, whole, sizeof whole) != 0 ||
-        turn(whole, at_once, UINT64_MAX, &says) != 0 || says.status != 1)
+    struct turned says;
+    if (lens_job_new(LENS_KB, LENS_PARAMS(kb), WIDTH, HEIGHT, saved, sizeof saved) != LENS_OK ||
+        turn(saved, at_once, UINT64_MAX, &says) != LENS_OK || says.status != LENS_STATUS_FINISHED)
         return 1;
-    int same = memcmp(table, at_once, sizeof table) == 0 && memcmp(job, whole, sizeof job) == 0;
+    int same = memcmp(table, at_once, sizeof table) == 0 && memcmp(job, saved, sizeof job) == 0;
     printf("in one turn: %s\n", same ? "every cell and the job are the same" : "NOT THE SAME");
     return same ? 0 : 1;
 }
 
+/* A saved job with one bit lost is refused, and nothing is written: begin again. */
+static int damage(void) {
+    struct turned says;
+    memcpy(saved, job, sizeof job);
+    saved[LENS_JOB_EDGES] ^= 1;
+    uint8_t no = turn(saved, at_once, 1000, &says);
+    printf("one bit of the job is lost: refused %u\n", no);
+    if (no != LENS_REFUSED_IMPOSSIBLE_JOB ||
+        lens_job_new(LENS_KB, LENS_PARAMS(kb), WIDTH, HEIGHT, saved, sizeof saved) != LENS_OK ||
+        turn(saved, at_once, 1000, &says) != LENS_OK)
+        return 1;
+    printf("begun again: %" PRIu64 " of %" PRIu64 " units\n", says.done, says.units);
+    return 0;
+}
+
+/* ---- points and pixels */
+
 static void look_up(double x, double y) {
-    double pixel[2];
+    double pixel[LENS_PIXEL_BYTES / sizeof(double)];
     uint8_t no = lens_lookup(table, FLOATS, job + LENS_JOB_REGION, LENS_REGION_BYTES, WIDTH, HEIGHT, x, y,
                              (uint8_t *)pixel, sizeof pixel);
-    if (no == 0)
+    if (no == LENS_OK)
         printf("point %g %g: pixel %.3f %.3f\n", x, y, pixel[0], pixel[1]);
     else
         printf("point %g %g: refused %u\n", x, y, no);
 }
 
 static int observe(void) {
-    lens_observation list[] = {
-        {.pixel_u = 320, .pixel_v = 280},
-        {.pixel_u = 12.5, .pixel_v = 470},
-        {.pixel_u = 1e9, .pixel_v = 0},
-    };
-    uint8_t no = lens_observe(KB, (const uint8_t *)kb, sizeof kb, (uint8_t *)list, sizeof list);
-    if (no != 0) {
+    static const double pixels[3][2] = {{320, 280}, {12.5, 470}, {1e9, 0}};
+    lens_observation list[3];
+    for (size_t i = 0; i < 3; i++) {
+        list[i].pixel_u = pixels[i][0];
+        list[i].pixel_v = pixels[i][1];
+    }
+    uint8_t no = lens_observe_list(LENS_KB, LENS_PARAMS(kb), list, 3);
+    if (no != LENS_OK) {
         printf("no list: refused %u\n", no);
         return 1;
     }
-    for (size_t i = 0; i < sizeof list / sizeof *list; i++)
-        if (list[i].number == 0)
-            printf("pixel %g %g: point %.9f %.9f%s\n", list[i].pixel_u, list[i].pixel_v, list[i].point_x, list[i].point_y,
-                   list[i].settled ? "" : ", not settled");
+    for (size_t i = 0; i < 3; i++)
+        if (list[i].number == LENS_OK)
+            printf("pixel %g %g: point %.9f %.9f%s\n", list[i].pixel_u, list[i].pixel_v, list[i].point_x,
+                   list[i].point_y, list[i].settled ? "" : ", not settled");
         else
             printf("pixel %g %g: refused %u\n", list[i].pixel_u, list[i].pixel_v, list[i].number);
     return 0;
 }
 
-int main(void) {
-    _Static_assert(sizeof(lens_observation) == 40, "the list's records have 40 bytes");
-    if (build() != 0 || compare() != 0)
+/* ---- time, for --measure: samples and cells apart (docs/HEAD.md, "How to measure") */
+
+/* A head reads its own timer here. */
+static double nanoseconds_since(clock_t start) {
+    return (double)(clock() - start) * (1e9 / CLOCKS_PER_SEC);
+}
+
+/* One turn of a job, done many times from the same saved bytes. */
+static double of_a_turn(const uint8_t *from, uint64_t units) {
+    const int times = 50000;
+    struct turned says;
+    clock_t start = clock();
+    for (int i = 0; i < times; i++) {
+        memcpy(job, from, sizeof job);
+        turn(job, table, units, &says);
+    }
+    return nanoseconds_since(start) / times;
+}
+
+static int measure(const char *name, const double lens[LENS_KB_COUNT]) {
+    static uint8_t before[LENS_JOB_BYTES];
+    struct turned says;
+    uint64_t updates = 0, most = 0;
+    size_t length = LENS_KB_COUNT * sizeof(double);
+    uint8_t no = lens_job_new(LENS_KB, lens_bytes_of(lens), length, WIDTH, HEIGHT, job, sizeof job);
+    /* The border, sample by sample: the job is saved as it was before the sample with the most updates. */
+    for (uint64_t i = 0; no == LENS_OK && i < LENS_SAMPLES(WIDTH, HEIGHT); i++) {
+        memcpy(before, job, sizeof job);
+        no = turn(job, table, 1, &says);
+        if (says.updates - updates >= most) {
+            most = says.updates - updates;
+            memcpy(saved, before, sizeof saved);
+        }
+        updates = says.updates;
+    }
+    if (no != LENS_OK)
+        return 1;
+    /* Then all cells, in one turn. */
+    clock_t start = clock();
+    no = turn(job, table, UINT64_MAX, &says);
+    double cell = nanoseconds_since(start) / (double)LENS_CELLS(WIDTH, HEIGHT);
+    double none = of_a_turn(saved, 0), one = of_a_turn(saved, 1);
+    printf("%s: a turn's own %.0f ns, a sample of %" PRIu64 " updates %.0f ns, a cell %.0f ns\n", name, none, most,
+           one - none, cell);
+    return no == LENS_OK ? 0 : 1;
+}
+
+int main(int count, char **words) {
+    /* Of this lens some samples take all the updates that there can be. */
+    static const double stretched[LENS_KB_COUNT] = {500, 500, 320, 240, -1.6, 0, 0, 0.2};
+    if (count == 2 && strcmp(words[1], "--measure") == 0)
+        return measure("this lens", kb) != 0 || measure("a stretched lens", stretched) != 0;
+    if (count != 1) {
+        fprintf(stderr, "usage: %s [--measure]\n", words[0]);
+        return 2;
+    }
+    if (build() != 0 || compare() != 0 || damage() != 0)
         return 1;
     look_up(0, 0);
     look_up(0.1, -0.05);

@@ -1,42 +1,31 @@
 /* Four lens models, the table of a lens built between frames, lookup in it, lists of observations; root, arctangent and
- * tangent. Link target/staticlib/liblens_c.a (x86-64 Linux; made by `rt staticlib lens_c`). docs/HEAD.md says how a head
- * budgets its time and memory with these functions, docs/C.md has the layouts once more with an example.
+ * tangent. Link target/staticlib/liblens_c.a, made by `rt staticlib lens_c`: archives are made for x86-64 Linux only.
+ * docs/HEAD.md says how a head budgets its time and memory, docs/C.md how to build and what is proved.
+ * This header is the one place where refusals and layouts are told.
  *
- * Every function takes every input and returns. None keeps memory of a call or allocates any: all that lasts is in buffers
- * of the caller's, and calls from several threads do not meet unless they are lent the same buffer.
- * A buffer crosses as a pointer and its length, two arguments in a row: bytes for a uint8_t *, floats for a float *. The
- * pointer must not be null, even with length 0; so much memory must be there; a buffer that a call may write must not
- * overlap another of the same call. All else is checked.
+ * Every function takes every value and returns. None keeps anything of a call or allocates: all that lasts is in
+ * buffers of the caller's, so calls of several threads at once are fine as long as none is lent a buffer that another
+ * one writes.
  *
- * A function that returns a uint8_t returns 0, and has written all that it says; or it returns a refusal's number, and has
- * written nothing (the one exception stands at lens_turn):
+ * What the caller owes. No function can check any of this; if it isn't kept, nothing is promised:
+ *   - A buffer crosses as a pointer and its length, two arguments in a row; the length counts bytes for a uint8_t *,
+ *     floats for a float *. The pointer is not null, even with length 0, and so much memory is there.
+ *   - A buffer that the function may write (those without const) overlaps no other buffer of the same call. So the
+ *     parameters inside a job can't begin that same job anew: copy them out first. Two that are only read may overlap.
+ *   - A float * is aligned as a float is (4 bytes), a lens_observation * as that struct is (8). A uint8_t * may have
+ *     any address.
+ *   - While the call runs, nobody else (a thread, an interrupt, a device) writes to any of its buffers, nor reads those
+ *     that the function may write.
+ *   - Arithmetic is as a program finds it when it starts: doubles are rounded to nearest, subnormal numbers are
+ *     neither flushed to zero nor taken as zero, no exception traps (the control bits of MXCSR are 0x1f80).
+ *     -ffast-math switches that off for a whole program when gcc links with it. A call may raise the exception flags.
  *
- *    1  the model is none of 0 to 3
- *    2  lens_dx_distort_params with model 3 (bc has no parameter Jacobian)
- *    3  params_length is not 8 times the model's count of parameters
- *    4  a parameter, a coordinate or an edge of a region is NaN or infinite
- *    5  fx or fy is zero, of either sign
- *    6  width or height is below 2 or above 4096
- *    7  a length is not the one that the function asks for
- *    8  the region has no extent: its cells would lie on one another
- *    9  the point lies outside the table
- *   10  an angle past 3/2: of lens_tangent, or met where a pixel is undistorted with model 2
- *   11  a number of the answer would be NaN or infinite
- *   12  a cell would not fit a float
- *   13  the record is one that no build can have come to
+ * Numbers in buffers stand with the least byte first, a double as IEEE 754 has it in 8 bytes. On x86-64 that is how
+ * they lie in memory: arrays may be cast to bytes, and answers copied out with memcpy. "At" a place is so many bytes
+ * from the start.
  *
- * Where several apply, the lowest number is returned.
- *
- * Models and parameters. A parameter is an IEEE 754 double of 8 bytes, the least byte first; they stand one after
- * the other in this order:
- *
- *    0  affine   4   32 bytes  fx fy cx cy
- *    1  eucm     6   48 bytes  fx fy cx cy alpha beta
- *    2  kb       8   64 bytes  fx fy cx cy k0 k1 k2 k3
- *    3  bc      12   96 bytes  fx fy cx cy k1 k2 p1 p2 k3 k4 k5 k6
- *
- * That each function answers and refuses as said here is proved of its Rattle source; what the caller owes (pointers,
- * lengths that are true) cannot be.
+ * That each function answers and refuses as said here is proved of its Rattle source. This header with its two inline
+ * functions isn't proved, nor is the compiler.
  */
 #ifndef LENS_H
 #define LENS_H
@@ -48,99 +37,267 @@
 extern "C" {
 #endif
 
+/* ---- the number returned
+ *
+ * A function that returns a uint8_t returns LENS_OK, and has written all of its answer; or it returns a refusal's
+ * number, and has written nothing. The one exception is lens_turn, which says where.
+ *
+ * Where several apply, the lowest number is returned, but for these:
+ *   - lens_lookup judges the region's increments, 8 and then 11, before 9. So 11 may be told of a point that is also
+ *     outside; of a pixel that isn't finite 11 is told only after 9.
+ *   - lens_turn judges the call before any unit: 13 comes before the 8, 10, 11 or 12 of a unit. Of a job that is not
+ *     LENS_JOB_BYTES long nothing is read: 7, before all others. */
+#define LENS_OK 0
+
+#define LENS_REFUSED_UNKNOWN_MODEL 1          /* the model is none of 0 to 3 */
+#define LENS_REFUSED_NO_PARAMETER_JACOBIAN 2  /* lens_dx_distort_params of LENS_BC, whatever else is handed in */
+#define LENS_REFUSED_WRONG_COUNT 3            /* params_length is not 8 times the model's count of parameters */
+#define LENS_REFUSED_NOT_FINITE 4             /* a parameter, a coordinate or an edge of a region is NaN or infinite */
+#define LENS_REFUSED_ZERO_FOCAL_LENGTH 5      /* fx or fy is zero, of either sign */
+#define LENS_REFUSED_WRONG_SIZE 6             /* width or height is below LENS_SIZE_LEAST or above LENS_SIZE_MOST */
+#define LENS_REFUSED_WRONG_LENGTH 7           /* a length, not that of params, is not the one the function asks for */
+#define LENS_REFUSED_INCREMENT_NOT_POSITIVE 8 /* from cell to cell the region goes on by 0 or less: an upper edge is the
+                                                 lower one, or below it, or above it by so little that it is lost */
+#define LENS_REFUSED_OUTSIDE_TABLE 9          /* the point lies outside the table */
+#define LENS_REFUSED_ANGLE_TOO_LARGE 10       /* an angle past LENS_ANGLE_LIMIT, of either sign: lens_tangent's, or one
+                                                 that is met where LENS_KB undistorts a pixel */
+#define LENS_REFUSED_ANSWER_NOT_FINITE 11     /* NaN or an infinity would have to be answered, or built on: the point
+                                                 of a sample or a cell, its pixel, an increment */
+#define LENS_REFUSED_CELL_INFINITE 12         /* a cell's pixel is finite, but too large for a float */
+#define LENS_REFUSED_IMPOSSIBLE_JOB 13        /* the job's check word is wrong, or no build can have come to this job */
+
+#define LENS_ANGLE_LIMIT 1.5
+
+/* ---- models and parameters
+ *
+ * params is the model's parameters, 8 bytes each, one after the other in this order:
+ *
+ *    LENS_AFFINE  fx fy cx cy
+ *    LENS_EUCM    fx fy cx cy alpha beta
+ *    LENS_KB      fx fy cx cy k0 k1 k2 k3
+ *    LENS_BC      fx fy cx cy k1 k2 p1 p2 k3 k4 k5 k6 */
+#define LENS_AFFINE 0
+#define LENS_EUCM 1
+#define LENS_KB 2
+#define LENS_BC 3
+
+#define LENS_AFFINE_COUNT 4
+#define LENS_EUCM_COUNT 6
+#define LENS_KB_COUNT 8
+#define LENS_BC_COUNT 12
+
+/* The most Newton updates of one lens_undistort, or of one border sample; the other two models have none. */
+#define LENS_KB_UPDATES_MOST 20
+#define LENS_BC_UPDATES_MOST 50
+
+/* Parameters out of an array of doubles, as the two arguments params and params_length:
+ *
+ *    static const double lens[LENS_KB_COUNT] = {...};
+ *    number = lens_distort(LENS_KB, LENS_PARAMS(lens), x, y, answer, sizeof answer);
+ *
+ * Of an array, not of a pointer to one: that has a size of its own, which is no model's, and 3 is returned. */
+#define LENS_PARAMS(array) lens_bytes_of(array), sizeof(array)
+
+static inline const uint8_t *lens_bytes_of(const double *doubles) {
+    return (const uint8_t *)doubles;
+}
+
 /* ---- one point or pixel */
 
-/* The pixel of the point (x, y) on the plane z = 1. answer_length: 16.
- * answer: u at 0, v at 8, doubles. Returns 0, 1, 3, 4, 5, 7 or 11. */
+/* A pixel, the answer of lens_distort and lens_lookup: two doubles. */
+#define LENS_PIXEL_U 0
+#define LENS_PIXEL_V 8
+#define LENS_PIXEL_BYTES 16
+
+/* A point, the answer of lens_undistort: two doubles; how many Newton updates it took, a uint32_t; one byte, 1 if the
+ * search settled and 0 if not; three zero bytes. */
+#define LENS_POINT_X 0
+#define LENS_POINT_Y 8
+#define LENS_POINT_UPDATES 16
+#define LENS_POINT_SETTLED 20
+#define LENS_POINT_BYTES 24
+
+/* A Jacobian: 24 doubles, of which row u is the first n and row v the next n, and the rest zeros; then n, the count of
+ * columns, a uint64_t. */
+#define LENS_JACOBIAN_ROW_U 0
+#define LENS_JACOBIAN_ROW_V(n) (8 * (n))
+#define LENS_JACOBIAN_COLUMNS 192
+#define LENS_JACOBIAN_BYTES 200
+
+/* The pixel of the point (x, y) on the plane z = 1. answer_length: LENS_PIXEL_BYTES.
+ * Returns 0, 1, 3, 4, 5, 7 or 11. */
 uint8_t lens_distort(uint8_t model, const uint8_t *params, size_t params_length, double x, double y,
                      uint8_t *answer, size_t answer_length);
 
-/* The point of the pixel (u, v). answer_length: 24.
- * answer: x at 0, y at 8, doubles; the count of Newton updates at 16, a uint32_t; at 20 one byte, 1 if the search
- * settled and 0 if not; three zero bytes. Returns 0, 1, 3, 4, 5, 7, 10 or 11. */
+/* The point of the pixel (u, v). answer_length: LENS_POINT_BYTES.
+ * Returns 0, 1, 3, 4, 5, 7, 10 (LENS_KB alone) or 11. A search that didn't settle is answered all the same. */
 uint8_t lens_undistort(uint8_t model, const uint8_t *params, size_t params_length, double u, double v,
                        uint8_t *answer, size_t answer_length);
 
-/* The derivative of the pixel by the point. answer_length: 200.
- * answer: 24 doubles, then the count n of columns at 192, a uint64_t, which is 2 here. Row u has its n numbers at
- * 0, 8, ..; row v follows at 8n; the doubles after these are 0. Returns 0, 1, 3, 4, 5, 7 or 11. */
+/* The derivative of the pixel by the point; n is 2. answer_length: LENS_JACOBIAN_BYTES.
+ * Returns 0, 1, 3, 4, 5, 7 or 11. */
 uint8_t lens_dx_distort_x(uint8_t model, const uint8_t *params, size_t params_length, double x, double y,
                           uint8_t *answer, size_t answer_length);
 
-/* The derivative of the pixel by the parameters, in the same form; n is the model's count of parameters.
- * Model 3 returns 2, whatever else is handed in. Returns 0, 1, 2, 3, 4, 5, 7 or 11. */
+/* The derivative of the pixel by the parameters; n is the model's count of them. answer_length: LENS_JACOBIAN_BYTES.
+ * Returns 0, 1, 3, 4, 5, 7 or 11; of LENS_BC always 2. */
 uint8_t lens_dx_distort_params(uint8_t model, const uint8_t *params, size_t params_length, double x, double y,
                                uint8_t *answer, size_t answer_length);
 
 /* ---- a table, built between frames
  *
- * A job is LENS_JOB_BYTES bytes that the caller keeps. lens_job_new writes a fresh one; each lens_turn reads it, does units
- * of work and writes it back. Hand the same job and the same table to the next turn, unaltered. A unit is a border sample
- * or a cell: 2 * width + 2 * height + 4 samples come first, then width * height cells, row by row.
- *
- *    0  model, uint32_t                      104  width, uint32_t
- *    4  Newton updates so far, uint32_t      108  height, uint32_t
- *    8  twelve doubles: the model's          112  units done, uint64_t
- *       parameters, then zeros, which        120  edges so far: left, top, right, bottom, doubles
- *       are not read                         152  region: left, top, right, bottom, doubles; zeros until the border is done
- *
- * The bytes may come from anywhere (flash, a link): a record that no build can have come to is refused, never believed. */
-#define LENS_JOB_BYTES 184
-#define LENS_JOB_REGION 152
+ * lens_job_new writes a fresh job into bytes that the caller keeps; each lens_turn reads the job, does units of work
+ * and writes it back. Hand the same job and the same table to the next turn, unaltered; both may be moved meanwhile.
+ * A unit is a border sample or a cell: all samples come first, then the cells, row by row. However the units are
+ * split over turns, cells and job come out the same. */
+#define LENS_SIZE_LEAST 2
+#define LENS_SIZE_MOST 4096
+
+#define LENS_SAMPLES(width, height) (2 * ((uint64_t)(width) + (uint64_t)(height)) + 4)
+#define LENS_CELLS(width, height) ((uint64_t)(width) * (uint64_t)(height))
+#define LENS_UNITS(width, height) (LENS_SAMPLES(width, height) + LENS_CELLS(width, height))
+
+/* A table's length in floats, and where in it the pixel of cell (u, v) stands: two floats from there on. */
+#define LENS_TABLE_FLOATS(width, height) (2 * (size_t)(width) * (size_t)(height))
+#define LENS_TABLE_CELL(width, u, v) (2 * ((size_t)(v) * (size_t)(width) + (size_t)(u)))
+
+/* A region, the box of points that a table covers: four doubles. Left and right are its lower and upper x, top and
+ * bottom its lower and upper y. */
+#define LENS_REGION_LEFT 0
+#define LENS_REGION_TOP 8
+#define LENS_REGION_RIGHT 16
+#define LENS_REGION_BOTTOM 24
 #define LENS_REGION_BYTES 32
+
+/* A job. */
+#define LENS_JOB_MODEL 0     /* uint32_t */
+#define LENS_JOB_UPDATES 4   /* uint32_t: the Newton updates of all samples done */
+#define LENS_JOB_PARAMS 8    /* twelve doubles: the model's parameters, then zeros, which are not read but summed */
+#define LENS_JOB_WIDTH 104   /* uint32_t */
+#define LENS_JOB_HEIGHT 108  /* uint32_t */
+#define LENS_JOB_DONE 112    /* uint64_t: units done */
+#define LENS_JOB_EDGES 120   /* the box of the points found so far, in a region's form; zeros until the first sample */
+#define LENS_JOB_REGION 152  /* the table's region; zeros until the border is done */
+#define LENS_JOB_CHECK 184   /* uint64_t: LENS_JOB_CHECK_START + the 23 words of 8 bytes before it, modulo 2^64 */
+#define LENS_JOB_BYTES 192
+#define LENS_JOB_CHECK_START UINT64_C(0x31424f4a534e454c)
+
+/* Which jobs are refused. 1, 4, 5 and 6 are for a job's model, parameters, region (whatever is done) and size. 13 is
+ * returned if none of these nor 7 is, and one of the following holds:
+ *   - the check word is wrong;
+ *   - more units are done than there are;
+ *   - there are more updates than the samples done can have (none, none, 20 or 50 each, by the model);
+ *   - one of the four edges so far is NaN or infinite;
+ *   - the border is done, and an increment of the region is NaN, infinite or not above 0.
+ *
+ * Caught for certain: of a job as it was written here, some or all of the 8 bytes of one word (at 0 to 7, 8 to 15,
+ * and so on, the check word among them) became others. So in particular any change within one byte. A turn then
+ * returns 1, 4, 5, 6, 7 or 13, never another number, and writes nothing.
+ * Not caught for certain: changes in two words or more, which may cancel out in the sum, as two exchanged words of the
+ * 23 do; bytes whose check word was worked out anew; a sound job of another build or of an earlier turn.
+ * Not checked at all: the table's floats, which no turn reads; the region handed to lens_lookup; observations. */
+
+/* What a turn answers: four uint64_t. */
+#define LENS_TURN_STATUS 0
+#define LENS_TURN_DONE 8     /* units done, of all turns */
+#define LENS_TURN_UNITS 16   /* units in all: LENS_UNITS */
+#define LENS_TURN_UPDATES 24 /* updates, of all samples done */
 #define LENS_TURN_BYTES 32
 
-/* A fresh job for a table of width by height cells. job_length: LENS_JOB_BYTES; all of them are written.
+#define LENS_STATUS_RUNNING 0
+#define LENS_STATUS_FINISHED 1
+#define LENS_STATUS_REFUSED 2 /* at a unit */
+
+/* A fresh job for a table of width by height cells. job_length: LENS_JOB_BYTES.
  * Returns 0, 1, 3, 4, 5, 6 or 7. */
 uint8_t lens_job_new(uint8_t model, const uint8_t *params, size_t params_length, uint32_t width, uint32_t height,
                      uint8_t *job, size_t job_length);
 
-/* Does `allowance` units of the job, or fewer if none is left. job_length: LENS_JOB_BYTES. table_length: 2 * width * height
- * floats, of which only those of the cells done are written: cell (u, v) has its pixel's two numbers from
- * 2 * (v * width + u) on. answer_length: LENS_TURN_BYTES.
- * answer: at 0 the status (0 running, 1 finished, 2 refused at a unit), at 8 the units done, at 16 the units in all, at 24
- * the updates, each a uint64_t.
- * Returns 0: running or finished. Returns 1, 4, 5, 6, 7 or 13: the call is refused, and nothing was written. (Of a job that
- * is not LENS_JOB_BYTES long nothing is read: 7.)
+/* Does `allowance` units of the job, or fewer if no more are left or one is refused; 0 is fine, and does none.
+ * job_length: LENS_JOB_BYTES. table_length: LENS_TABLE_FLOATS of the job's size. answer_length: LENS_TURN_BYTES.
+ * Returns 0: running or finished. Job and answer are written, and of the table the cells done in this turn.
+ * Returns 1, 4, 5, 6, 7 or 13: the call is refused, and nothing was written. 1, 4, 5 and 6 are the job's.
  * Returns 8, 10, 11 or 12: the unit after those done cannot be done, ever. Job, table and answer are written, with all
- * units before it; each further turn with an allowance above 0 returns the same number and does no unit. */
+ * units before it and status LENS_STATUS_REFUSED; each further turn of this job with an allowance above 0 returns the
+ * same number and does no unit. With allowance 0 no unit is tried: that turn returns 0, its status running. */
 uint8_t lens_turn(uint8_t *job, size_t job_length, float *table, size_t table_length, uint64_t allowance,
                   uint8_t *answer, size_t answer_length);
 
-/* The pixel at the point (x, y), between the four cells around it. region: the LENS_REGION_BYTES bytes at LENS_JOB_REGION
- * of a finished job; width and height are that job's. answer_length: 16.
- * answer: u at 0, v at 8, doubles. Returns 0, 4, 6, 7, 8, 9 or 11. */
+/* The pixel at the point (x, y), between the four cells around it. region: the LENS_REGION_BYTES bytes at
+ * LENS_JOB_REGION of the finished job; width and height are that job's; table_length: LENS_TABLE_FLOATS of them.
+ * answer_length: LENS_PIXEL_BYTES. That the table is finished, and table and region of one job, isn't seen here.
+ * Returns 0, 4, 6, 7, 8, 9 or 11; the order is 4, 6, 7; 8 and 11 of the increments; 9; 11 of the pixel. */
 uint8_t lens_lookup(const float *table, size_t table_length, const uint8_t *region, size_t region_length,
                     uint32_t width, uint32_t height, double x, double y, uint8_t *answer, size_t answer_length);
 
 /* ---- a list of observations */
 
-/* 40 bytes, the same on every machine with the least byte first. Only the pixel is read. */
+/* LENS_OBSERVATION_BYTES bytes. Only the pixel is read. */
 typedef struct {
     double pixel_u, pixel_v; /* read, and left as they are */
     double point_x, point_y; /* written: the point, or zeros */
-    uint8_t settled;         /* written: 1 if the search settled, else 0 */
-    uint8_t number;          /* written: 0, or why this pixel has no point: 4, 10 or 11 */
+    uint8_t settled;         /* written: 1 if the search settled; 0 if not, or if there is no point */
+    uint8_t number;          /* written: 0, or why this pixel has no point: 4, 10 (LENS_KB alone) or 11 */
     uint8_t unused[6];       /* left as they are */
 } lens_observation;
 
-/* The point of every pixel of a list, each record by itself: one that is refused does not stop the next. list is an array
- * of lens_observation, cast to bytes; list_length is its size in bytes, a multiple of 40.
- * Returns 0: every record is written. Returns 1, 3, 4, 5 (for the camera) or 7: none is. */
+#define LENS_OBSERVATION_PIXEL_U 0
+#define LENS_OBSERVATION_PIXEL_V 8
+#define LENS_OBSERVATION_POINT_X 16
+#define LENS_OBSERVATION_POINT_Y 24
+#define LENS_OBSERVATION_SETTLED 32
+#define LENS_OBSERVATION_NUMBER 33
+#define LENS_OBSERVATION_UNUSED 34
+#define LENS_OBSERVATION_BYTES 40
+
+/* The point of every pixel of a list, each record by itself: one that is refused does not stop the next. list_length:
+ * LENS_OBSERVATION_BYTES times how many records there are, none being fine.
+ * Returns 0: every record is written, as the struct says. Returns 1, 3, 4, 5 (of the camera) or 7: none is. */
 uint8_t lens_observe(uint8_t model, const uint8_t *params, size_t params_length, uint8_t *list, size_t list_length);
+
+/* The same of an array of `count` records. A count whose bytes size_t can't tell, for which there can't be memory, is
+ * never multiplied out: 7 is returned, or a lower number, and nothing is written. */
+static inline uint8_t lens_observe_list(uint8_t model, const uint8_t *params, size_t params_length,
+                                        lens_observation *list, size_t count) {
+    /* 1 byte is no whole record, which is 7 */
+    size_t list_length = count <= SIZE_MAX / LENS_OBSERVATION_BYTES ? count * LENS_OBSERVATION_BYTES : 1;
+    return lens_observe(model, params, params_length, (uint8_t *)list, list_length);
+}
 
 /* ---- functions of one number */
 
-/* The double nearest to the square root of x. A zero gives itself, a negative number or NaN gives NaN. */
+/* The double nearest to the square root of x. A zero and +infinity give themselves, a number below 0 or NaN gives
+ * NaN; which NaN isn't said. */
 double lens_root(double x);
 
-/* The arctangent of x, within 2^-40 of the published series. A zero gives itself, NaN gives NaN. */
+/* The arctangent of x, within 2^-40 of the published series (docs/RULES.md, 6). A zero gives itself, NaN gives NaN;
+ * which NaN isn't said. */
 double lens_arctangent(double x);
 
-/* The tangent of theta, for abs(theta) <= 3/2. answer_length: 8.
- * answer: a double. A NaN or infinite theta is answered with NaN, written as 7ff8000000000000.
+/* The tangent of theta, for a theta of size LENS_ANGLE_LIMIT or less: a double, whose arctangent by the same series is
+ * within 2^-38 of theta. answer_length: LENS_TANGENT_BYTES.
+ * A theta that is NaN or infinite is answered with NaN, written as 7ff8000000000000.
  * Returns 0, 7 or 10. */
+#define LENS_TANGENT_BYTES 8
 uint8_t lens_tangent(double theta, uint8_t *answer, size_t answer_length);
+
+/* ---- what a compiler has to agree with: where it doesn't, an array here has a size below 0, which is an error */
+
+#if defined(__BYTE_ORDER__) && defined(__ORDER_LITTLE_ENDIAN__) && __BYTE_ORDER__ != __ORDER_LITTLE_ENDIAN__
+#error "lens.h: the library's numbers have the least byte first"
+#endif
+
+typedef char lens_needs_bytes_of_8_bits[(unsigned char)-1 == 255 ? 1 : -1];
+typedef char lens_needs_floats_of_4_bytes[sizeof(float) == 4 ? 1 : -1];
+typedef char lens_needs_doubles_of_8_bytes[sizeof(double) == 8 ? 1 : -1];
+typedef char lens_needs_observations_of_40_bytes[sizeof(lens_observation) == LENS_OBSERVATION_BYTES ? 1 : -1];
+typedef char lens_needs_pixel_u_at_0[offsetof(lens_observation, pixel_u) == LENS_OBSERVATION_PIXEL_U ? 1 : -1];
+typedef char lens_needs_pixel_v_at_8[offsetof(lens_observation, pixel_v) == LENS_OBSERVATION_PIXEL_V ? 1 : -1];
+typedef char lens_needs_point_x_at_16[offsetof(lens_observation, point_x) == LENS_OBSERVATION_POINT_X ? 1 : -1];
+typedef char lens_needs_point_y_at_24[offsetof(lens_observation, point_y) == LENS_OBSERVATION_POINT_Y ? 1 : -1];
+typedef char lens_needs_settled_at_32[offsetof(lens_observation, settled) == LENS_OBSERVATION_SETTLED ? 1 : -1];
+typedef char lens_needs_number_at_33[offsetof(lens_observation, number) == LENS_OBSERVATION_NUMBER ? 1 : -1];
+typedef char lens_needs_unused_at_34[offsetof(lens_observation, unused) == LENS_OBSERVATION_UNUSED ? 1 : -1];
 
 #ifdef __cplusplus
 }
