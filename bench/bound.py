@@ -38,9 +38,9 @@ OUTSIDE = {"memcpy"}
 
 @dataclass
 class Limit:
-    """A loop of `function` that has an instruction like each of `has`. It is passed at most `passes` times at each entry. `first`: its
-    head tests before a pass, so that the head is run once more, to leave. With a `unit` it has a price and no number: each call of
-    `by`, or without one each pass, is one unit."""
+    """A loop of `function` that has an instruction like each of `has`, outside of loops within it. It is passed at most `passes` times at
+    each entry. `first`: its head tests before a pass, so that the head is run once more, to leave. With a `unit` it has a price and no
+    number: each call of `by`, or without one each pass, is one unit."""
     function: str
     has: list
     why: str
@@ -54,7 +54,7 @@ class Limit:
 # another limit, or another loop in its place, is noticed.
 LOOPS = [
     Limit("arctan::tangent", [r"call arctan::forward"], passes=53,
-          why="arctan::found halves the width from 2^53 while it is above 1, an arctangent in each pass (specs: found digits, digits = 53)"),
+          why="arctan::found halves the width from 2^53 while it is above 1, an arctangent a pass (specs: found digits, digits = 53)"),
     Limit("camera::undistort_judged", [r"cmp \$0x15,", r"divsd"], passes=20, first=True,
           why="kannala_brandt::newton, LIMIT = 20 (specs: newton, limit); the updates are counted from 1, and 21 ends it"),
     Limit("camera::undistort_judged", [r"cmp \$0x32,", r"divpd|divsd"], passes=50,
@@ -102,7 +102,8 @@ class Bounds:
         for function in self.functions.values():
             limits = [limit for limit in LOOPS if limit.function == function.name]
             for loop in every_loop(function.loops):
-                text = [line.text() for at in sorted(loop.body) for line in function.blocks[at].lines]
+                own = loop.body.difference(*(inner.body for inner in loop.inside))
+                text = [line.text() for at in sorted(own) for line in function.blocks[at].lines]
                 fits = [limit for limit in limits if all(any(re.search(p, re.sub(r"\s+", " ", t)) for t in text) for p in limit.has)]
                 if len(fits) != 1:
                     fail(f"{function.name}+{loop.head:x}: a loop of {len(text)} instructions fits {len(fits)} lines of LOOPS:\n"
@@ -110,8 +111,7 @@ class Bounds:
                 if fits[0] in [other.entry for other in every_loop(function.loops)]:
                     fail(f"LOOPS: two loops of {function.name} fit {fits[0].has}")
                 loop.entry = fits[0]
-                inner_head_leaves = [way for way in function.blocks[loop.head].after if way not in loop.body]
-                if loop.entry.first and not inner_head_leaves:
+                if loop.entry.first and loop.body.issuperset(function.blocks[loop.head].after):
                     fail(f"{function.name}+{loop.head:x}: LOOPS says that its head tests, but it doesn't leave there")
             for limit in limits:
                 if limit not in [loop.entry for loop in every_loop(function.loops)]:
@@ -142,7 +142,7 @@ class Bounds:
         for name, by in MODEL_TABLES.items():
             tables = [b for b in self.functions[name].blocks.values() if b.table] if name in self.functions else []
             if [len(b.after) for b in tables] != [len(MODELS)]:
-                fail(f"MODEL_TABLES: {name} hasn't one jump table of {len(MODELS)} entries any more; take it out, or say what is in its place")
+                fail(f"MODEL_TABLES: {name} hasn't one jump table of {len(MODELS)} entries any more; take it out")
             takes = [self.instructions(name, model)[0] for model in range(len(MODELS))]
             if by == PARAMETERS:
                 right = takes == sorted(set(takes))
@@ -218,7 +218,8 @@ class Bounds:
             ends[loop.head] = max(ends[loop.head], (more + 1) * one + within[loop.head])
         return ends
 
-    def weights(self, function, model, prices, what):
+    def weights(self, function, prices, what):
+        """What each block takes: `what` of its lines, less the price of each unit that it makes."""
         heads = {loop.head: loop.entry for loop in every_loop(function.loops)}
 
         def weight(at):
@@ -240,7 +241,8 @@ class Bounds:
         """The longest path from the function's start to its end, and what a pass of each loop takes at most."""
         passes = {}
         entry = function.lines[0].at
-        total = self.paths(function, model, self.weights(function, model, prices, what), function.loops, entry, set(function.blocks), passes)
+        weight = self.weights(function, prices, what)
+        total = self.paths(function, model, weight, function.loops, entry, set(function.blocks), passes)
         return max(v for at, v in total.items() if not function.blocks[at].after), passes
 
     def reckon(self, name, model, what):

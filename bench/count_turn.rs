@@ -17,13 +17,34 @@ extern "C" {
     fn lens_turn(job: *mut u8, job_length: usize, table: *mut f32, places: usize, allowance: u64, answer: *mut u8, lent: usize) -> u8;
 }
 
-/// LENS_JOB_BYTES of include/lens.h.
-const JOB: usize = 184;
+const JOB: usize = header_number(b"#define LENS_JOB_BYTES ");
 const SIDE: usize = 16;
 const SAMPLES: usize = 4 * SIDE + 4;
 const MOST: [u64; 4] = [0, 0, 20, 50];
 const CASES: usize = 16;
 const LAST: usize = 4;
+
+/// A number that include/lens.h defines.
+const fn header_number(line: &[u8]) -> usize {
+    let header = include_bytes!("../include/lens.h");
+    let mut at = 0;
+    while at + line.len() < header.len() {
+        let mut k = 0;
+        while k < line.len() && header[at + k] == line[k] {
+            k += 1;
+        }
+        if k == line.len() {
+            let mut number = 0;
+            while header[at + k].is_ascii_digit() {
+                number = 10 * number + (header[at + k] - b'0') as usize;
+                k += 1;
+            }
+            return number;
+        }
+        at += 1;
+    }
+    panic!("include/lens.h has no such number")
+}
 
 struct Head {
     job: [u8; JOB],
@@ -59,7 +80,7 @@ fn wanted(model: usize, cell: bool, last: bool, params: &[f64; 12], r: &mut Rand
     let started = unsafe {
         lens_job_new(model as u8, bytes.as_ptr(), bytes.len(), SIDE as u32, SIDE as u32, head.job.as_mut_ptr(), head.job.len())
     };
-    assert_ne!(started, 7, "LENS_JOB_BYTES of include/lens.h isn't {JOB}, which stands above");
+    assert_ne!(started, 7, "the archive doesn't take LENS_JOB_BYTES of include/lens.h");
     let mut found = vec![];
     if started != 0 {
         return found;

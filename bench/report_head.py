@@ -11,7 +11,7 @@ TITLE = "\n## The worst unit of each model\n\n"
 LIMITS = {"affine": "none", "eucm": "none", "kb": 20, "bc": 50}
 WORST = """In x86-64 instructions, through `lens_turn`. Counted on the same machine, DATE.
 
-- *Met*: what a turn of two units takes more than a turn of one, as far as a turn of none doesn't take that more, too; the most of 16 records. Samples are ones that take the most updates that there can be, of stretched lenses, four of them the last sample, which closes the region; cells are of lenses that somebody might have. A turn's own is there a turn of none: reading, judging and writing the record.
+- *Met*: a turn of two units less a turn of one, the most of 16 records. (What a turn of none takes more behind the last sample than before it is taken off that sample.) Samples are ones that take the most updates that there can be, of stretched lenses, four of them the last sample, which closes the region; cells are of lenses that somebody might have. A turn's own is there a turn of none: reading, judging and writing the record, and the loop that counts.
 - *At most*: the longest path through the archive's instructions, each loop as often as it can be passed (bench/bound.py; the loops stand below). No input need take that path. A turn of s samples and c cells takes at most a turn's own + s · a border sample + c · a cell, whatever the record and the camera are.
 
 docs/HEAD.md budgets with what is *at most*.
