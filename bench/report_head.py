@@ -81,7 +81,7 @@ def left(bounds):
     for limit in LOOPS:
         costs = [bounds.pass_of(limit, model) for model in range(len(MODELS))]
         cost = f"{max(costs)}" if limit.passes else "by model"
-        yield f"| `{limit.function}` | {limit.passes or 'one for each ' + limit.unit} | {cost} | {limit.why} |\n"
+        yield f"| {', '.join(f'`{name}`' for name in limit.places())} | {limit.passes or 'one for each ' + limit.unit} | {cost} | {limit.why} |\n"
 
 
 def functions(bounds):
