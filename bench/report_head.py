@@ -119,6 +119,7 @@ through_c(bounds, text)
 text += TITLE + WORST.replace("DATE", datetime.date.today().isoformat()) + "".join(worst(bounds, model) for model in MODELS)
 text += LEFT + "".join(left(bounds)) + EACH + "".join(functions(bounds))
 if faults:
-    sys.exit("A bound that doesn't hold:\n" + "\n".join(faults))
+    sys.exit("A bound that doesn't hold (lines with a caller come from the page: after a change to the archive run bench/run whole):\n"
+             + "\n".join(faults))
 with open(page, "w") as out:
     out.write(text)
