@@ -1,7 +1,7 @@
 // What a unit and a turn cost through C, for bench/run to count.
-//   cases MODEL KIND: writes records that stand before a unit of that kind, `sample` or `cell`, one a line in hexadecimal.
-//     A sample of kb or bc is one of the most updates that there can be, 20 or 50
-//   count ALLOWANCE N FILE CASE: N turns of that allowance, each from the record on that line
+//   cases MODEL KIND: writes records, one a line in hexadecimal, whose unit but one is of that kind, `sample` or `cell`, and the next one
+//     too. A sample of kb or bc is one of the most updates that there can be, 20 or 50
+//   count ALLOWANCE N FILE CASE AHEAD: N turns of that allowance, each from the record on that line after so many units ahead
 #[path = "../oracle/compare/cases.rs"]
 #[allow(dead_code)]
 mod cases;
@@ -17,14 +17,37 @@ extern "C" {
     fn lens_turn(job: *mut u8, job_length: usize, table: *mut f32, places: usize, allowance: u64, answer: *mut u8, lent: usize) -> u8;
 }
 
+const JOB: usize = header_number(b"#define LENS_JOB_BYTES ");
 const SIDE: usize = 16;
 const SAMPLES: usize = 4 * SIDE + 4;
 const MOST: [u64; 4] = [0, 0, 20, 50];
 const CASES: usize = 16;
 const LAST: usize = 4;
 
+/// A number that include/lens.h defines.
+const fn header_number(line: &[u8]) -> usize {
+    let header = include_bytes!("../include/lens.h");
+    let mut at = 0;
+    while at + line.len() < header.len() {
+        let mut k = 0;
+        while k < line.len() && header[at + k] == line[k] {
+            k += 1;
+        }
+        if k == line.len() {
+            let mut number = 0;
+            while header[at + k].is_ascii_digit() {
+                number = 10 * number + (header[at + k] - b'0') as usize;
+                k += 1;
+            }
+            return number;
+        }
+        at += 1;
+    }
+    panic!("include/lens.h has no such number")
+}
+
 struct Head {
-    job: [u8; 184],
+    job: [u8; JOB],
     table: [f32; 2 * SIDE * SIDE],
     answer: [u8; 32],
 }
@@ -42,34 +65,38 @@ impl Head {
 }
 
 fn blank() -> Head {
-    Head { job: [0; 184], table: [0.0; 2 * SIDE * SIDE], answer: [0; 32] }
+    Head { job: [0; JOB], table: [0.0; 2 * SIDE * SIDE], answer: [0; 32] }
 }
 
-fn print(job: &[u8; 184]) {
+fn print(job: &[u8; JOB]) {
     println!("{}", job.iter().map(|b| format!("{:02x}", b)).collect::<String>());
 }
 
-/// The records of one camera that are looked for, at most four. `last`: only the one before the last sample, which closes the region as well.
-fn wanted(model: usize, cell: bool, last: bool, params: &[f64; 12], r: &mut Random) -> Vec<[u8; 184]> {
+/// The records of one camera that are looked for, at most four, each one unit ahead of the unit that is meant. `last`: only the one for the
+/// last sample, which closes the region as well.
+fn wanted(model: usize, cell: bool, last: bool, params: &[f64; 12], r: &mut Random) -> Vec<[u8; JOB]> {
     let mut head = blank();
     let bytes: Vec<u8> = params[..rust_text::COUNTS[model]].iter().flat_map(|x| x.to_le_bytes()).collect();
     let started = unsafe {
         lens_job_new(model as u8, bytes.as_ptr(), bytes.len(), SIDE as u32, SIDE as u32, head.job.as_mut_ptr(), head.job.len())
     };
+    assert_ne!(started, 7, "the archive doesn't take LENS_JOB_BYTES of include/lens.h");
     let mut found = vec![];
     if started != 0 {
         return found;
     }
+    let mut ahead = head.job;
     for unit in 0..SAMPLES + SIDE * SIDE {
         let (before, updates) = (head.job, head.updates());
         if head.turn(1) != 0 || found.len() == 4 {
             break;
         }
         let most = head.updates() - updates == MOST[model];
-        let sampled = unit < SAMPLES && most && if last { unit == SAMPLES - 1 } else { r.one_in(4) };
-        if if cell { unit >= SAMPLES && r.one_in(64) } else { sampled } {
-            found.push(before);
+        let sampled = 0 < unit && unit < SAMPLES && most && if last { unit == SAMPLES - 1 } else { r.one_in(4) };
+        if if cell { unit > SAMPLES && r.one_in(64) } else { sampled } {
+            found.push(ahead);
         }
+        ahead = before;
     }
     found
 }
@@ -91,11 +118,14 @@ fn write_cases(model: usize, cell: bool) {
     }
 }
 
-fn count(allowance: u64, n: usize, record: &str) {
+fn count(allowance: u64, n: usize, record: &str, ahead: u64) {
     let byte = |i: usize| u8::from_str_radix(&record[2 * i..2 * i + 2], 16).expect("a byte");
-    let mut job = [0; 184];
-    (0..184).for_each(|i| job[i] = byte(i));
+    let mut job = [0; JOB];
+    (0..JOB).for_each(|i| job[i] = byte(i));
     let mut head = blank();
+    head.job = job;
+    head.turn(ahead);
+    job = head.job;
     for _ in 0..n {
         head.job = job;
         black_box(head.turn(black_box(allowance)));
@@ -109,7 +139,7 @@ fn main() {
         "cases" => write_cases(place(&MODELS, &args[1]), args[2] == "cell"),
         "count" => {
             let file = std::fs::read_to_string(&args[3]).expect("the cases");
-            count(number(1) as u64, number(2), file.lines().nth(number(4)).expect("a case"))
+            count(number(1) as u64, number(2), file.lines().nth(number(4)).expect("a case"), number(5) as u64)
         }
         _ => panic!("cases or count"),
     }

@@ -1,5 +1,5 @@
-"""What both reports share: COUNTER FOLDER COST.md [RUNNER...] on the command line, and one call's instructions."""
-import re, subprocess, sys
+"""What both reports share: COUNTER FOLDER COST.md [RUNNER...] on the command line, one call's instructions, and the machine."""
+import os, platform, re, subprocess, sys
 
 counter, folder, page, runner = sys.argv[1], sys.argv[2], sys.argv[3], sys.argv[4:]
 MODELS = ["affine", "eucm", "kb", "bc"]
@@ -18,3 +18,9 @@ def each(n, *words):
     at = words.index(None)
     once, twice = (insns(*words[:at], k * n, *words[at + 1:]) for k in (1, 2))
     return (twice - once) / n
+
+
+def machine():
+    """The machine and the compiler of the Rust's text, which both decide what is counted."""
+    compiler = [os.path.join(os.path.dirname(counter), "cross-rust"), "--version"]
+    return f"{platform.machine()}, {subprocess.run(compiler, capture_output=True, text=True).stdout.strip()}"

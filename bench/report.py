@@ -1,9 +1,9 @@
 #!/usr/bin/env python3
 """report.py COUNTER FOLDER COST.md [RUNNER...]: counts with COUNTER the loops of FOLDER/count and count_c, takes off the empty loop, and
 writes the page up to the part that report_head.py writes. RUNNER starts an x86-64 program on this machine."""
-import datetime, os, platform, subprocess
+import datetime, subprocess
 
-from counting import MODELS, counter, each, folder, page, runner
+from counting import MODELS, each, folder, machine, page, runner
 
 OPERATIONS = ["distort", "undistort", "dx_distort_x", "dx_distort_params"]
 UPDATES = {"kb": [2, 3, 4, 5, 20], "bc": [1, 2, 3, 4, 50]}
@@ -101,9 +101,7 @@ rows += list(operations())
 rows += [r for m in MODELS for r in table_rows(m)]
 with open(__file__.replace("report.py", "COST.head.md")) as head:
     text = head.read()
-compiler = [os.path.join(os.path.dirname(counter), "cross-rust"), "--version"]
-machine = f"{platform.machine()}, {subprocess.run(compiler, capture_output=True, text=True).stdout.strip()}"
-text = text.replace("MACHINE", machine).replace("DATE", datetime.date.today().isoformat())
+text = text.replace("MACHINE", machine()).replace("DATE", datetime.date.today().isoformat())
 with open(page, "w") as out:
     out.write(text)
     out.write("| | the Rust | ours, the model | ratio | of the rest | ours, the camera | ratio | ours, through C |\n")

@@ -1,25 +1,43 @@
 #!/usr/bin/env python3
-"""report_head.py COUNTER FOLDER COST.md [RUNNER...]: counts with COUNTER the loops of FOLDER/count_turn, asks FOLDER/stack, and writes the
-page's last part, what a head budgets with. It needs no count of the Rust's."""
-import subprocess
+"""report_head.py COUNTER FOLDER COST.md [RUNNER...]: counts with COUNTER the loops of FOLDER/count_turn, asks FOLDER/stack, reckons the
+bounds of the archive that BOUND_ARCHIVE names (bound.py), and writes the page's last part, what a head budgets with. It needs no count of
+the Rust's. Whatever was counted above its bound ends it, and the page stays."""
+import datetime, os, re, subprocess, sys
 
-from counting import MODELS, each, folder, page, runner
+from bound import FUNCTIONS, LOOPS, Bounds
+from counting import MODELS, each, folder, machine, page, runner
 
 TITLE = "\n## The worst unit of each model\n\n"
 LIMITS = {"affine": "none", "eucm": "none", "kb": 20, "bc": 50}
-WORST = """Through `lens_turn`: a turn of one unit, less a turn of none. Each figure is the most of 16 records: samples that take the most updates that there can be, of stretched lenses, four of them the last sample, which closes the region; and cells of lenses that somebody might have. A turn's own is what a turn costs beside its units: reading, judging and writing the record. docs/HEAD.md budgets with these.
+WORST = """In x86-64 instructions, through `lens_turn`. Counted on the same machine, DATE.
 
-| | updates | border sample | cell | the worst | a turn's own |
-|---|---|---|---|---|---|
+- *Met*: a turn of two units less a turn of one, the most of 16 records. (What a turn of none takes more behind the last sample than before it is taken off that sample.) Samples are ones that take the most updates that there can be, of stretched lenses, four of them the last sample, which closes the region; cells are of lenses that somebody might have. A turn's own is there a turn of none: reading, judging and writing the record, and the loop that counts.
+- *At most*: the longest path through the archive's instructions, each loop as often as it can be passed (bench/bound.py; the loops stand below). No input need take that path. A turn of s samples and c cells takes at most a turn's own + s · a border sample + c · a cell, whatever the record and the camera are.
+
+docs/HEAD.md budgets with what is *at most*.
+
+| | updates | border sample, met | at most | cell, met | at most | a turn's own, met | at most |
+|---|---|---|---|---|---|---|---|
 """
-STACK = """
-## Stack
+LEFT = """
+The loops that the compiler has left in the archive. It has laid out the others (the root's digits, the arctangent's series, the bytes of a number) pass by pass, so that they stand in the paths as they are.
 
-The most that a call took on x86-64, of all models: each ran on a stack of its own that was painted before (bench/stack.c).
-
-| | bytes |
-|---|---|
+| in | passes at most | instructions a pass | from |
+|---|---|---|---|
 """
+EACH = """
+## Each C function at most
+
+Reckoned in the same way, in instructions, for every input; `lens_lookup` and the functions of one number have no model. For `lens_dx_distort_params` all models' ways are followed, bc's too, which is refused at once. memcpy is the one function from outside: its own instructions and stack are not in it, and how often it can be called stands beside.
+
+The stack is in bytes, over all paths, with the 8 of the return address and without what the caller passes on the stack. *Met* is what a call took on a stack that was painted before, of one camera a model (bench/stack.c).
+
+| | affine | eucm | kb | bc | calls of memcpy | stack, met | stack, at most |
+|---|---|---|---|---|---|---|---|
+"""
+# Counted through C and not in the bounds: the caller's loop, and a memcpy of at most 208 bytes.
+CALLER, COPY = 40, 40
+faults = []
 
 
 def made(program, *words):
@@ -27,23 +45,81 @@ def made(program, *words):
     return subprocess.run([*runner, f"{folder}/{program}", *words], capture_output=True, text=True, check=True).stdout.splitlines()
 
 
-def units(model, kind):
+def hold(what, met, most):
+    """What was met, which must not be above the most."""
+    if met > most:
+        faults.append(f"{what}: {met:.0f} were counted, and the bound is {most}")
+    print(f"{what}: met {met:.0f}, at most {most}, {most / met:.2f} of it")
+
+
+def units(model, kind, own, price):
     """What a unit of that kind costs at most, and the turn around it."""
     name, jobs = f"{folder}/{model}_{kind}.jobs", made("count_turn", "cases", model, kind)
     with open(name, "w") as out:
         out.write("\n".join(jobs))
-    none, one = ([each(50, "count_turn", "count", allowance, None, name, i) for i in range(len(jobs))] for allowance in (0, 1))
-    return max(b - a for a, b in zip(none, one)), max(none)
+
+    def turn(allowance, ahead):
+        return [each(50, "count_turn", "count", allowance, None, name, i, ahead) for i in range(len(jobs))]
+
+    one, two, before, after = turn(1, 0), turn(2, 0), turn(0, 1), turn(0, 2)
+    # What a turn of none takes changes with the last sample, which is not that unit's.
+    unit = max(b - a - (d - c) for a, b, c, d in zip(one, two, before, after))
+    hold(f"{model}: a {kind}", unit, price)
+    for n, counted in enumerate((before + after, one, two)):
+        hold(f"{model}: a turn of {n}, the last a {kind}", max(counted), own + n * price)
+    return unit, max(before + after)
 
 
-def worst(model):
-    (sample, around), (cell, also) = units(model, "sample"), units(model, "cell")
-    return f"| {model} | {LIMITS[model]} | {sample:.0f} | {cell:.0f} | {max(sample, cell):.0f} | {max(around, also):.0f} |\n"
+def worst(bounds, model):
+    own, prices = bounds.instructions("lens_turn", MODELS.index(model))
+    (sample, around), (cell, also) = (units(model, kind, own, prices[kind]) for kind in ("sample", "cell"))
+    return (f"| {model} | {LIMITS[model]} | {sample:.0f} | {prices['sample']} | {cell:.0f} | {prices['cell']} "
+            f"| {max(around, also):.0f} | {own} |\n")
+
+
+def left(bounds):
+    for limit in LOOPS:
+        costs = [bounds.pass_of(limit, model) for model in range(len(MODELS))]
+        cost = f"{max(costs)}" if limit.passes else "by model"
+        yield f"| {', '.join(f'`{name}`' for name in limit.places())} | {limit.passes or 'one for each ' + limit.unit} | {cost} | {limit.why} |\n"
+
+
+def functions(bounds):
+    stack = dict(line.split() for line in made("stack"))
+    for name, by_model in FUNCTIONS.items():
+        cells = []
+        for model in range(len(MODELS)):
+            own, prices = bounds.instructions(name, model)
+            more = {"lens_turn": " and its units", "lens_observe": " and {} a record"}.get(name, "")
+            cells.append(f"{own}{more.format(*prices.values())}")
+        cells = cells if by_model else [cells[0], "", "", ""]
+        most = bounds.stack(name)[0]
+        hold(f"{name}: stack", int(stack[name]), most)
+        copies = max(bounds.copies(name, model) for model in range(len(MODELS)))
+        yield f"| `{name}` | {' | '.join(cells)} | {copies or 'none'} | {stack[name]} | {most} |\n"
+
+
+def through_c(bounds, text):
+    """The page's column of calls through C, which report.py has counted, against the bounds."""
+    found = re.findall(r"^\| (\w+) (distort|undistort|dx_distort_x|dx_distort_params)(?:, \d+ updates)? \|.* (\d+) \|$", text, re.M)
+    if not found:
+        sys.exit(f"{page} has no calls through C: run bench/run whole")
+    for model, operation, counted in found:
+        at, name = MODELS.index(model), f"lens_{operation}"
+        allowed = CALLER + COPY * bounds.copies(name, at)
+        hold(f"{name} of {model}, with its caller", int(counted), bounds.instructions(name, at)[0] + allowed)
 
 
 with open(page) as before:
     text = before.read().split(TITLE)[0]
-text += TITLE + WORST + "".join(worst(model) for model in MODELS) + STACK
-text += "".join("| {} | {} |\n".format(*line.split()) for line in made("stack"))
+if f"Counted on {machine()}," not in text:
+    sys.exit(f"{page} was not counted on this machine ({machine()}): run bench/run whole, so that it has one")
+bounds = Bounds(os.environ["BOUND_ARCHIVE"])
+through_c(bounds, text)
+text += TITLE + WORST.replace("DATE", datetime.date.today().isoformat()) + "".join(worst(bounds, model) for model in MODELS)
+text += LEFT + "".join(left(bounds)) + EACH + "".join(functions(bounds))
+if faults:
+    sys.exit("A bound that doesn't hold (lines with a caller come from the page: after a change to the archive run bench/run whole):\n"
+             + "\n".join(faults))
 with open(page, "w") as out:
     out.write(text)

@@ -1,0 +1,117 @@
+#!/usr/bin/env python3
+"""try_bound.py [ARCHIVE]: bound.py against a small program whose figures were worked out by hand, and against changes of it, and of what is
+said of the archive, that it must refuse. Prints a line each and returns 1 if one is wrong. It needs gcc for x86-64."""
+import os, subprocess, sys, tempfile
+
+import bound
+from bound import CALLS, PARAMETERS, Bounds, Limit
+
+PROGRAM = """
+.section .text.leaf,"ax"
+.globl leaf
+leaf:
+  mov %rax,-0x40(%rsp)
+  test %edi,%edi
+  je 1f
+  xor %eax,%eax
+  xor %edx,%edx
+1: ret
+.section .text.nest,"ax"
+.globl nest
+nest:
+  push %rbx
+  sub $0x20,%rsp
+  mov $3,%ecx
+2: mov $5,%ebx
+3: call leaf
+  dec %ebx
+  jne 3b
+  cmp $0x77,%ecx
+  je 4f
+  dec %ecx
+  jne 2b
+4: add $0x20,%rsp
+  pop %rbx
+  ret
+"""
+OUTER, INNER = Limit("nest", [r"cmp \$0x77,"], passes=3, why="3 down to 1"), Limit("nest", ["call leaf"], passes=5, why="5 down to 1")
+# leaf: 6. A pass within: 1 + 6 + 2 = 9, five of them 45. A pass around: 1 + 45 + 4 = 50, three of them 150. Before it 3, behind it 3.
+# Stack: 8 of the return address, 8 and 32; and leaf's 8 and the 64 that it writes below.
+RIGHT = 6, 156, 120
+REFUSED = [  # what is changed, and what the refusal must say
+    ("mov $3,%ecx", "call *%rax\n  mov $3,%ecx", "isn't named"),
+    ("mov $3,%ecx", "jmp *%rax\n  mov $3,%ecx", "no jump table"),
+    ("mov $3,%ecx", "mov $3,%ecx\n  js 3f", "more than one way in"),
+    ("xor %eax,%eax", "call nest", "recursion"),
+    ("xor %eax,%eax", "call strlen", "isn't in the archive"),
+    ("xor %eax,%eax", "rep stosb", "how often it repeats"),
+    ("xor %eax,%eax", "sub %rax,%rsp", "in a way that isn't known"),
+    ("xor %eax,%eax", "push %rax", "depends on the way"),
+    ('.section .text.nest,"ax"', "", "doesn't stand alone"),
+]
+wrong = 0
+
+
+def told(what, right):
+    global wrong
+    wrong += not right
+    print(f"{'right' if right else 'WRONG'}: {what}")
+
+
+def refusal(make):
+    try:
+        make()
+    except SystemExit as end:
+        return str(end)
+    return "not refused"
+
+
+def archive(folder, text):
+    with open(f"{folder}/a.s", "w") as out:
+        out.write(text)
+    compiler = "gcc" if os.uname().machine == "x86_64" else "x86_64-linux-gnu-gcc"
+    subprocess.run([compiler, "-c", "-o", f"{folder}/a.o", f"{folder}/a.s"], check=True)
+    return f"{folder}/a.o"
+
+
+def small(folder):
+    def all_of(text):
+        bounds = Bounds(archive(folder, text))
+        return bounds.instructions("leaf")[0], bounds.instructions("nest")[0], bounds.stack("nest")[0]
+
+    bound.LOOPS[:] = [OUTER, INNER]
+    found = all_of(PROGRAM)
+    told(f"leaf, nest and its stack: {found}", found == RIGHT)
+    for old, new, says in REFUSED:
+        found = refusal(lambda: all_of(PROGRAM.replace(old, new)))
+        told(found.splitlines()[0], says in found)
+    for loops, says in (([OUTER], "fits 0 lines"), ([OUTER, INNER, Limit("nest", ["bsf"], passes=1, why="gone")], "any more"),
+                        ([OUTER, INNER, Limit("gone", ["bsf"], passes=1, why="gone")], "no function gone")):
+        bound.LOOPS[:] = loops
+        found = refusal(lambda: all_of(PROGRAM))
+        told(found.splitlines()[0], says in found)
+
+
+def lens(path, tables):
+    for name, by in (("camera::distort_judged", PARAMETERS), ("camera::finite_parameters", CALLS), ("lens_lookup", CALLS)):
+        bound.MODEL_TABLES.update({**tables, name: by})
+        found = refusal(lambda: Bounds(path))
+        told(found, "MODEL_TABLES" in found)
+        bound.MODEL_TABLES.clear()
+    bound.MODEL_TABLES.update(tables)
+    cut = [Bounds(path).instructions("lens_turn", model) for model in range(4)]
+    bound.MODEL_TABLES.clear()
+    whole = Bounds(path).instructions("lens_turn", 0)
+    least = all(own <= whole[0] and all(price <= whole[1][unit] for unit, price in prices.items()) for own, prices in cut)
+    told(f"without a word on models lens_turn takes {whole}, and no model more", least)
+
+
+kept = dict(bound.FUNCTIONS), dict(bound.MODEL_TABLES), list(bound.LOOPS), dict(bound.UNITS)
+bound.FUNCTIONS.clear(), bound.MODEL_TABLES.clear(), bound.UNITS.clear()
+with tempfile.TemporaryDirectory() as folder:
+    small(folder)
+bound.FUNCTIONS.update(kept[0]), bound.UNITS.update(kept[3])
+bound.LOOPS[:] = kept[2]
+if len(sys.argv) == 2:
+    lens(sys.argv[1], kept[1])
+sys.exit(wrong > 0)
