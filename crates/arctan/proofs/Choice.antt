@@ -1,12 +1,12 @@
--- Which way a definition goes, by its tests: the tests of `close`, `halved`, `steep` and `tangent`. Assumes nothing.
+-- Which way a definition goes, by its tests: the tests of `close`, `lower`, `solved`, `steep` and `tangent`. Assumes nothing.
 use mathlib.Core.Path.{_≡_, refl, sym, ap, _∙_}
 use mathlib.Core.Bool.{Bool, true, false, cond, _&&_}
-use Prim.Native.Nat.{ℕ, _+_}
+use Prim.Native.Nat.{_+_, _-_}
 use lib.Ieee.{Float, nan, lt, le, neg}
 use lib.Ieee.Scale.{finite}
 use Rattle.exact.specs.F64.{f64, magnitude, _⊕_, _⊖_, _⊘_}
-use Rattle.arctan.specs.Arctangent.{arctangent, tiny}
-use Rattle.arctan.specs.Tangent.{near, close, sine, cosine, grid, digits, halved, found, steep, limitEnd, tangent}
+use Rattle.arctan.specs.Arctangent.{one, counted, arctangent, tiny}
+use Rattle.arctan.specs.Tangent.{near, close, sine, cosine, solution, ratio, seam, quarterEnd, halfEnd, unity, two-fifths-cut, three-sevenths-cut, lower, solved, steep, limitEnd, tangent}
 use Rattle.arctan.specs.declared.Slope.{Slope}
 use Rattle.arctan.specs.declared.Slope.the-variants.{Is, TooSteep}
 
@@ -22,23 +22,31 @@ pub close-so : (t theta : Float) {n z l : Bool} {r : Float}
 unfolding close
 close-so t theta n z r l = rw (l, n, z, r) refl
 
--- ---- halved
-pub halved-up : (low width : ℕ) (theta : Float) → le (arctangent (grid (low + width))) theta ≡ true → low + width ≡ halved low width theta
-unfolding halved
-halved-up low width theta h = sym (yes-way (low + width) low h)
+-- ---- lower and solved
+pub lower-first : (x : Float) → lt x seam ≡ true → ratio (solution two-fifths-cut (counted x)) unity ≡ lower x
+unfolding lower
+lower-first x h = let w = solution three-sevenths-cut (counted (quarterEnd ⊖ x)) in sym (yes-way (ratio (solution two-fifths-cut (counted x)) unity) (ratio (unity - w) (unity + w)) h)
 
-pub halved-stays : (low width : ℕ) (theta : Float) → le (arctangent (grid (low + width))) theta ≡ false → low ≡ halved low width theta
-unfolding halved
-halved-stays low width theta h = sym (no-way (low + width) low h)
+pub lower-second : (x : Float) → lt x seam ≡ false → let w = solution three-sevenths-cut (counted (quarterEnd ⊖ x)) in ratio (unity - w) (unity + w) ≡ lower x
+unfolding lower
+lower-second x h = let w = solution three-sevenths-cut (counted (quarterEnd ⊖ x)) in sym (no-way (ratio (solution two-fifths-cut (counted x)) unity) (ratio (unity - w) (unity + w)) h)
+
+pub solved-first : (theta : Float) → le theta quarterEnd ≡ true → lower theta ≡ solved theta
+unfolding solved
+solved-first theta h = sym (yes-way (lower theta) (one ⊘ lower (halfEnd ⊖ theta)) h)
+
+pub solved-second : (theta : Float) → le theta quarterEnd ≡ false → one ⊘ lower (halfEnd ⊖ theta) ≡ solved theta
+unfolding solved
+solved-second theta h = sym (no-way (lower theta) (one ⊘ lower (halfEnd ⊖ theta)) h)
 
 -- ---- steep
 pub steep-guess : (theta : Float) → close (sine theta ⊘ cosine theta) theta ≡ true → sine theta ⊘ cosine theta ≡ steep theta
 unfolding steep
-steep-guess theta h = sym (yes-way (sine theta ⊘ cosine theta) (grid (found digits 0 theta)) h)
+steep-guess theta h = sym (yes-way (sine theta ⊘ cosine theta) (solved theta) h)
 
-pub steep-search : (theta : Float) → close (sine theta ⊘ cosine theta) theta ≡ false → grid (found digits 0 theta) ≡ steep theta
+pub steep-solved : (theta : Float) → close (sine theta ⊘ cosine theta) theta ≡ false → solved theta ≡ steep theta
 unfolding steep
-steep-search theta h = sym (no-way (sine theta ⊘ cosine theta) (grid (found digits 0 theta)) h)
+steep-solved theta h = sym (no-way (sine theta ⊘ cosine theta) (solved theta) h)
 
 -- ---- tangent
 module _ (theta : Float) where

@@ -75,7 +75,7 @@ module _ {a b : Fraction} (pa : Proper a) (pb : Proper b) (l : whole 1 ≼ a) (h
 
 -- ---- q(x) = (1 - x) / (1 + x), for x from 0 on
 
-abbrev q : Fraction → Fraction
+abbrev pub q : Fraction → Fraction
 q x = (whole 1 ⊟ x) ⧄ (whole 1 ⊞ x)
 
 one-on : {x : Fraction} → whole 0 ≼ x → whole 1 ≼ whole 1 ⊞ x
@@ -104,10 +104,10 @@ module _ {a b : Fraction} (pa : Proper a) (pb : Proper b) (l : whole 0 ≼ a) (h
 
 -- ---- how far apart what A gives at a and at b may be: 4 (b - a), and n units of 2 ^ -60
 
-abbrev reach : ℕ → Fraction → Fraction → Fraction
+abbrev pub reach : ℕ → Fraction → Fraction → Fraction
 reach n a b = whole 4 ⊠ (b ⊟ a) ⊞ over n (2 ^ 60)
 
-reach-proper : (n : ℕ) {a b : Fraction} → Proper a → Proper b → Proper (reach n a b)
+pub reach-proper : (n : ℕ) {a b : Fraction} → Proper a → Proper b → Proper (reach n a b)
 reach-proper n pa pb = ⊞-proper (⊠-proper (whole-proper 4) (⊟-proper pb pa)) (over-proper n (2 ^ 60) (pow-pos 60))
 
 -- through a point between, the gaps add up and so do the units (`joined`)
@@ -162,7 +162,7 @@ low-growth pa pb l h k = G-growth pa pb pa pb l h (≼-trans (over-proper 2 5 (l
 
 -- ---- P - G(q(x)), from 2/5 to 1: q is at most twice as far apart, and lies in 0..1/2
 
-abbrev middle : Fraction → Fraction
+abbrev pub middle : Fraction → Fraction
 middle x = P ⊟ G (q x)
 
 thirds : {x : Fraction} → over 2 5 ≼ x → over 1 3 ≼ x
@@ -171,7 +171,7 @@ thirds h = ≼-trans (over-proper 2 5 (lit≤ tt)) (over-≼ 1 3 2 5 .1 (lit≤ 
 fifths-low : {x : Fraction} → over 2 5 ≼ x → whole 0 ≼ x
 fifths-low h = ≼-trans (over-proper 2 5 (lit≤ tt)) (over-≼ 0 1 2 5 .1 (lit≤ tt)) h
 
-middle-proper : {x : Fraction} → Proper x → over 2 5 ≼ x → Proper (middle x)
+pub middle-proper : {x : Fraction} → Proper x → over 2 5 ≼ x → Proper (middle x)
 middle-proper px l = ⊟-proper P-proper (G-proper (quotient-proper px (thirds l)))
 
 middle-growth : {a b : Fraction} → Proper a → Proper b → over 2 5 ≼ a → a ≼ b → b ≼ whole 1 → Within (reach 0 a b) (middle a) (middle b)
@@ -186,7 +186,7 @@ two-fifths : Within (over 1 (2 ^ 60)) (G (over 2 5)) (middle (over 2 5))
 unfolding P G sum term power over _⊞_ _⊠_ _⧄_ opposite
 two-fifths = record { left = G-proper (over-proper 2 5 (lit≤ tt)); right = middle-proper (over-proper 2 5 (lit≤ tt)) (≼-refl (over 2 5)); not-above = record { holds = lit≤ tt }; not-below = record { holds = lit≤ tt } }
 
-past-fifths : {a b : Fraction} → Proper a → Proper b → whole 0 ≼ a → a ≼ over 2 5 → over 2 5 ≼ b → b ≼ whole 1 → Within (reach 1 a b) (G a) (middle b)
+pub past-fifths : {a b : Fraction} → Proper a → Proper b → whole 0 ≼ a → a ≼ over 2 5 → over 2 5 ≼ b → b ≼ whole 1 → Within (reach 1 a b) (G a) (middle b)
 past-fifths pa pb l h k m =
     let c = over-proper 2 5 (lit≤ tt) in
     joined 0 1 pa c pb (low-growth pa c l h (≼-refl (over 2 5)))
@@ -203,7 +203,7 @@ up-growth {a} {b} pa pb l h k = of (≼-or-≺ a (over 2 5)) (≼-or-≺ b (over
 
 -- ---- A from 1 on: 2P - A(1/x)
 
-abbrev mirror : Fraction → Fraction
+abbrev pub mirror : Fraction → Fraction
 mirror x = P ⊞ P ⊟ upToOne (whole 1 ⧄ x)
 
 high-growth : {a b : Fraction} → Proper a → Proper b → whole 1 ≼ a → a ≼ b → Within (reach 1 a b) (mirror a) (mirror b)
@@ -214,7 +214,7 @@ high-growth {a} {b} pa pb l h =
     within-sym (within-rest (⊞-proper P-proper P-proper) (wider a b ib ia (inverse-near pa pb l h) (lit≤ tt) (up-growth ib ia (inverse-low pb m) (inverse-falls pa pb l h) (inverse-one pa l))))
 
 -- A is proper: its denominator is above 0
-up-proper : {x : Fraction} → Proper x → x ≼ whole 1 → Proper (upToOne x)
+pub up-proper : {x : Fraction} → Proper x → x ≼ whole 1 → Proper (upToOne x)
 up-proper {x} px h = elim (≼-or-≺ x (over 2 5)) [ inl k ↦ rw (up-low k) (G-proper px) | inr k ↦ rw (up-mid k) (middle-proper px (≺→≼ k)) ]
 
 pub A-proper : {x : Fraction} → Proper x → Proper (A x)
@@ -229,7 +229,7 @@ at-one : Within (over 0 (2 ^ 60)) (upToOne (whole 1)) (mirror (whole 1))
 unfolding upToOne P G sum term power over _⊞_ _⊠_ _⧄_ opposite
 at-one = record { left = record { above = lit≤ tt }; right = record { above = lit≤ tt }; not-above = record { holds = lit≤ tt }; not-below = record { holds = lit≤ tt } }
 
-past-one : {a b : Fraction} → Proper a → Proper b → whole 0 ≼ a → a ≼ whole 1 → whole 1 ≼ b → Within (reach 2 a b) (upToOne a) (mirror b)
+pub past-one : {a b : Fraction} → Proper a → Proper b → whole 0 ≼ a → a ≼ whole 1 → whole 1 ≼ b → Within (reach 2 a b) (upToOne a) (mirror b)
 past-one pa pb l h k =
     let o = whole-proper 1 in
     let e = ≼-refl (whole 1) in

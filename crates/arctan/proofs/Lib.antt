@@ -1,5 +1,6 @@
 pub mod Horner
 pub mod Rise
+pub mod Bent
 pub mod Table
 pub mod Bounds
 pub mod Whole
@@ -14,6 +15,7 @@ pub mod Ways
 pub mod Growth
 pub mod Choice
 pub mod Tested
-pub mod Searched
+pub mod Newton
+pub mod Solving
 pub mod Answers
 pub mod Laws

@@ -57,7 +57,7 @@ half-near = record { left = unit-proper half; right = ⊞-proper P-proper P-prop
 sum-of : (a b : ℕ) → u (a + b) ≈ u a ⊞ u b
 sum-of a b = ≈-sym (over-⊞ a b (2 ^ 60))
 
-difference : (a b c : ℕ) → a ≤ b → over (b - a) c ≈ over b c ⊟ over a c
+pub difference : (a b c : ℕ) → a ≤ b → over (b - a) c ≈ over b c ⊟ over a c
 unfolding over _⊞_ opposite
 difference a b c h =
     let e : (b - a + a) * (c * c) ≡ (b - a) * (c * c) + a * (c * c) = add-mul (b - a) a (c * c) in

@@ -107,7 +107,7 @@ divided x y v k s c p q N e C h m nx ny =
 ratio-crossed : (a b c s t o z k : ℕ) → o ≡ 0 → z ≡ 0 → t ≡ s → b + k ≡ a → (a + o) * c * s + 0 * (c * t) ≡ k * (c * t) + (z + b) * c * s
 ratio-crossed a b c s t o z k o0 z0 e h = rw (o0, z0, e) (omega (arith, ap (λ (x : ℕ). x * (c * s)) h))
 
-ratio : (a c b d k : ℕ) → b * c + k ≡ a * d → (over a c ⊟ over b d) ⧄ (over a c ⊞ over b d) ≈ over k (a * d + b * c)
+pub ratio : (a c b d k : ℕ) → b * c + k ≡ a * d → (over a c ⊟ over b d) ⧄ (over a c ⊞ over b d) ≈ over k (a * d + b * c)
 unfolding over _⊞_ opposite _⧄_
 ratio a c b d k e =
     record { holds = ratio-crossed (a * d) (b * c) (c * d) (a * d + b * c) (a * d + b * c - (0 * d + 0 * c)) (0 * c) (0 * d) k (omega arith) (omega arith) (omega arith) e }
@@ -175,7 +175,7 @@ past-one-near x f lo hi =
 
 -- ---- 1 / x
 
-over-inverse : (n d : ℕ) → whole 1 ⧄ over n d ≡ over d n
+pub over-inverse : (n d : ℕ) → whole 1 ⧄ over n d ≡ over d n
 unfolding over _⧄_
 over-inverse n d = path (omega arith) (omega arith) (omega arith)
   where

@@ -17,7 +17,7 @@ pub ⊠-zero : (a : Fraction) → a ⊠ whole 0 ≈ whole 0
 unfolding _⊠_ over
 ⊠-zero a = omega arith
 
-take-nothing : (a b : Fraction) → a ⊟ b ⊠ whole 0 ≈ a
+pub take-nothing : (a b : Fraction) → a ⊟ b ⊠ whole 0 ≈ a
 unfolding _⊞_ opposite _⊠_ over
 take-nothing a b = omega arith
 
@@ -66,26 +66,26 @@ within-rest C h = rw zero-⊞ at (within-⊞ (within-refl C (≼-refl (whole 0))
 -- ---- numbers in 0..m
 
 -- x is a number in 0..m. What other files use has the three apart.
-record In (m x : Fraction) : Type 0 where
-  proper : Proper x
-  low : whole 0 ≼ x
-  high : x ≼ m
+pub record In (m x : Fraction) : Type 0 where
+  pub proper : Proper x
+  pub low : whole 0 ≼ x
+  pub high : x ≼ m
 
-abbrev 1/2 : Fraction
+abbrev pub 1/2 : Fraction
 1/2 = over 1 2
 
-wider : {m n x : Fraction} → Proper m → m ≼ n → In m x → In n x
+pub wider : {m n x : Fraction} → Proper m → m ≼ n → In m x → In n x
 wider M h X = record { proper = X .proper; low = X .low; high = ≼-trans M (X .high) h }
 
 -- a factor of at most m
-within-scale : {ε m a b c : Fraction} → Proper ε → In m c → Within ε a b → Within (ε ⊠ m) (a ⊠ c) (b ⊠ c)
+pub within-scale : {ε m a b c : Fraction} → Proper ε → In m c → Within ε a b → Within (ε ⊠ m) (a ⊠ c) (b ⊠ c)
 within-scale {ε} {m} {c = c} E C h = within-wider (⊠-proper E (C .proper)) (rw (⊠-comm ε c, ⊠-comm ε m) (⊠-mono (within-low h) (C .high))) (within-⊠ (C .proper) (C .low) h)
 
 -- a c - b d is (a - b) c + b (c - d)
 within-products : {ε m a b c d : Fraction} → Proper ε → In m b → In m c → Within ε a b → Within ε c d → Within (ε ⊠ m ⊞ ε ⊠ m) (a ⊠ c) (b ⊠ d)
 within-products {b = b} {c} {d} E B C h k = within-trans (within-scale E C h) (rw (⊠-comm b c, ⊠-comm b d) (within-scale E B k))
 
-two-halves : (a : Fraction) → a ⊠ 1/2 ⊞ a ⊠ 1/2 ≈ a
+pub two-halves : (a : Fraction) → a ⊠ 1/2 ⊞ a ⊠ 1/2 ≈ a
 unfolding over _⊠_ _⊞_
 two-halves a = omega arith
 
@@ -148,14 +148,14 @@ G-proper X = sum-proper terms X
 
 -- ---- where G lies
 
-square : {x : Fraction} → In 1/2 x → In 1/2 (x ⊠ x)
+pub square : {x : Fraction} → In 1/2 x → In 1/2 (x ⊠ x)
 square X = record { proper = ⊠-proper (X .proper) (X .proper); low = ⊠-not-negative (X .low) (X .low); high = ≼-trans (X .proper) (part (X .low) (half-one (X .high))) (X .high) }
 
-level : (n k : ℕ) {y : Fraction} → In 1/2 y → In (odd k) (H n k y)
+pub level : (n k : ℕ) {y : Fraction} → In 1/2 y → In (odd k) (H n k y)
 level n k Y = record { proper = H-proper n k (Y .proper); low = H-low (Y .proper) (Y .low) (Y .high) n k; high = H-high (Y .proper) (Y .low) (Y .high) n k }
 
 -- the levels below the k-th: c_(k+1) is at most 1/3
-below : (n k : ℕ) {y : Fraction} → In 1/2 y → In 1/2 (H n (suc k) y)
+pub below : (n k : ℕ) {y : Fraction} → In 1/2 y → In 1/2 (H n (suc k) y)
 below n k Y = wider (odd-proper (suc k)) (over-≼ 1 (2 * suc k + 1) 1 2 .1 (omega arith)) (level n (suc k) Y)
 
 -- of 1 at most y is taken off
@@ -164,6 +164,14 @@ unfolding H
 near-one n {y} Y =
     let h = below n 0 Y in
     within-wider (⊠-proper (Y .proper) (h .proper)) (rw (⊠-comm y (H n 1 y)) (part (Y .low) (half-one (h .high))))
+    (off (whole-proper 1) (⊠-proper (Y .proper) (h .proper)) (⊠-not-negative (Y .low) (h .low)))
+
+-- and at most y / 3
+near-third : (n : ℕ) {y : Fraction} → In 1/2 y → Within (y ⊠ over 1 3) (H (suc n) 0 y) (whole 1)
+unfolding H
+near-third n {y} Y =
+    let h = level n 1 Y in
+    within-wider (⊠-proper (Y .proper) (h .proper)) (rw (⊠-comm y (H n 1 y), ⊠-comm y (over 1 3)) (⊠-mono (Y .low) (h .high)))
     (off (whole-proper 1) (⊠-proper (Y .proper) (h .proper)) (⊠-not-negative (Y .low) (h .low)))
 
 module _ {x : Fraction} (X : Proper x) (low : whole 0 ≼ x) (high : x ≼ over 1 2) where
@@ -185,6 +193,11 @@ module _ {x : Fraction} (X : Proper x) (low : whole 0 ≼ x) (high : x ≼ over 
       let y = x ⊠ x in
       let h = H terms 0 y in
       within-same (G-proper X) (nested x X) (rw (⊠-comm y x, ⊠-comm h x, one-⊠) at (within-⊠ X low (near-one 23 (square here))))
+
+  pub third : Within (x ⊠ x ⊠ over 1 3 ⊠ x) (G x) x
+  third =
+      let h = H terms 0 (x ⊠ x) in
+      within-same (G-proper X) (nested x X) (rw (⊠-comm h x, one-⊠) at (within-⊠ X low (near-third 23 (square here))))
 
 pub G-zero : G (whole 0) ≈ whole 0
 G-zero =

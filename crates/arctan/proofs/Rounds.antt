@@ -148,11 +148,11 @@ pub over-difference : (a c b d k : ℕ) → b * c + k ≡ a * d → over a c ⊟
 unfolding over _⊞_ opposite
 over-difference a c b d k e = record { holds = omega (arith, ap (λ (x : ℕ). x * (c * d)) e) }
 
-in-order : (x y : Float) → T (plain x) → T (plain y) → exactly y ≼ exactly x → num y * den x ≤ num x * den y
+pub in-order : (x y : Float) → T (plain x) → T (plain y) → exactly y ≼ exactly x → num y * den x ≤ num x * den y
 unfolding over
 in-order x y p q h = over-≼ (num y) (den y) (num x) (den x) .0 (rw (plain-exactly x p, plain-exactly y q) at h)
 
-difference-is : (x y : Float) → T (plain x) → T (plain y) → num y * den x ≤ num x * den y → x ⊖ y ≡ round binary64 false (num x * den y - num y * den x) (den x * den y)
+pub difference-is : (x y : Float) → T (plain x) → T (plain y) → num y * den x ≤ num x * den y → x ⊖ y ≡ round binary64 false (num x * den y - num y * den x) (den x * den y)
 unfolding sub
 difference-is (fin false m e) (fin false n d) p q h =
     let a = m * up e * down d in

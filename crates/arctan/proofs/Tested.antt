@@ -12,7 +12,7 @@ use Rattle.exact.proofs.Tests.{below-zero, plus-not-below, zero-not-below}
 use Rattle.arctan.specs.Series.{A, tangentBound, limit}
 use Rattle.arctan.specs.Owed.{Leads}
 use Rattle.arctan.specs.Arctangent.{arctangent}
-use Rattle.arctan.specs.Tangent.{near, close}
+use Rattle.arctan.specs.Tangent.{near, close, Between}
 use Rattle.arctan.proofs.Rounds.{plain, plain-finite, plain-low, above-plain, over-≺, PlainNear, sum-near, difference-near}
 use Rattle.arctan.proofs.Pieces.{u, unit-proper}
 use Rattle.arctan.proofs.Near.{Good, at-zero, finite-zero, forward-finite, when-not-below, same-itself, not-below}
@@ -70,12 +70,6 @@ limit-proper = record { above = lit≤ tt }
 pub bound : u 1129 ≼ tangentBound
 unfolding over
 bound = record { holds = lit≤ tt }
-
--- an angle from 2 ^ -20 to the limit
-pub record Between (theta : Float) : Type 0 where
-  pub number : T (finite theta)
-  pub low : over 1 (2 ^ 20) ≼ exactly theta
-  pub high : exactly theta ≼ limit
 
 -- what lies between a rounded sum and a rounded difference
 around : {a s d : Fraction} (theta n e : Fraction) → Proper a → Proper theta → Proper e → a ≼ s → d ≼ a → Within e s (theta ⊞ n) → Within e d (theta ⊟ n) → Within (n ⊞ e) a theta

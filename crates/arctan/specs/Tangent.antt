@@ -1,12 +1,16 @@
 -- The tangent as the code works it out, so that its contract can name one answer. No other crate unfolds what stands
 -- here: they know it by its laws (proofs/Laws.antt), above all that the series leads back from it. Definitions only.
 use mathlib.Core.Bool.{Bool, cond, _&&_}
-use Prim.Native.Nat.{ℕ, zero, suc, _+_, _^_}
+use Prim.Native.Nat.{ℕ, zero, suc, _+_, _-_, _^_, min}
+use lib.Dec.{T}
 use lib.IntN.{pos}
 use lib.Ieee.{Float, nan, binary64, neg, lt, le, ofInt}
 use lib.Ieee.Scale.{finite}
 use Rattle.exact.specs.F64.{f64, magnitude, _⊕_, _⊖_, _⊗_, _⊘_}
-use Rattle.arctan.specs.Arctangent.{one, tiny, arctangent}
+use Rattle.exact.specs.Fraction.{over, whole, exactly, _≼_}
+use Rattle.arctan.specs.Series.{limit}
+use Rattle.arctan.specs.Arctangent.{one, tiny, counted, arctangent}
+use Rattle.arctan.specs.Whole.{product, series}
 use Rattle.arctan.specs.declared.Slope.{Slope}
 use Rattle.arctan.specs.declared.Slope.the-variants.{Is, TooSteep}
 
@@ -35,26 +39,77 @@ cosine theta =
     let c = ((b ⊗ y ⊖ f64 0x3e92_7e4f_b778_9f5c) ⊗ y ⊕ f64 0x3efa_01a0_1a01_a01a) ⊗ y in
     (((c ⊖ f64 0x3f56_c16c_16c1_6c17) ⊗ y ⊕ f64 0x3fa5_5555_5555_5555) ⊗ y ⊖ f64 0x3fe0_0000_0000_0000) ⊗ y ⊕ one
 
--- ---- the search, digit by digit: the n-th step of 2 ^ -47, and the last below 64 whose arctangent is at most theta
-abbrev pub pace : Float
-pace = f64 0x3d00_0000_0000_0000
+-- ---- and if the guess fails: the angle is brought to one of at most 13/32, whose tangent w solves G(w) = n / 2 ^ 60.
+-- Whole numbers of 2 ^ -60, as in specs/Whole.antt.
 
-abbrev pub digits : ℕ
-digits = 53
+-- e times 1 + w^2, which is one over G's slope at w
+unfoldable pub stretched : ℕ → ℕ → ℕ
+stretched w e = e + product (product w w) e
 
-unfoldable pub grid : ℕ → Float
-grid n = ofInt binary64 (pos n) ⊗ pace
+-- Newton's step from a w below the solution, which it never passes; from a w above there is none
+unfoldable pub nearer : ℕ → ℕ → ℕ
+nearer n w = w + stretched w (n - series w)
 
-unfoldable pub halved : ℕ → ℕ → Float → ℕ
-halved low width theta = cond (le (arctangent (grid (low + width))) theta) (low + width) low
+abbrev pub rounds : ℕ
+rounds = 4
 
-unfoldable pub found : ℕ → ℕ → Float → ℕ
-found zero low theta = low
-found (suc k) low theta = found k (halved low (2 ^ k) theta) theta
+unfoldable pub refined : ℕ → ℕ → ℕ → ℕ
+refined zero n w = w
+refined (suc k) n w = refined k n (nearer n w)
 
--- of a theta from 2 ^ -20 to the limit
+-- the solution, of what lies up to top
+unfoldable pub solution : ℕ → ℕ → ℕ
+solution top n = min (refined rounds n n) top
+
+-- p / q
+unfoldable pub ratio : ℕ → ℕ → Float
+ratio p q = ofInt binary64 (pos p) ⊘ ofInt binary64 (pos q)
+
+-- where A's own pieces meet: the angle of 2/5, and a quarter of pi; and half of pi. The nearest f64 of each
+abbrev pub seam : Float
+seam = f64 0x3fd8_5a37_6b67_7dc0
+
+abbrev pub quarterEnd : Float
+quarterEnd = f64 0x3fe9_21fb_5444_2d18
+
+abbrev pub halfEnd : Float
+halfEnd = f64 0x3ff9_21fb_5444_2d18
+
+-- 1, and 2/5 and 3/7, cut
+abbrev pub unity : ℕ
+unity = 2 ^ 60
+
+abbrev pub two-fifths-cut : ℕ
+two-fifths-cut = 461168601842738790
+
+abbrev pub three-sevenths-cut : ℕ
+three-sevenths-cut = 494109216260077275
+
+-- an angle from 0 to a quarter of pi
+pub record Acute (x : Float) : Type 0 where
+  pub number : T (finite x)
+  pub low : whole 0 ≼ exactly x
+  pub high : exactly x ≼ exactly quarterEnd
+
+-- its tangent: w, or (1 - w) / (1 + w) where w belongs to what is left of the quarter
+unfoldable pub lower : Float → Float
+lower x =
+    cond (lt x seam) (ratio (solution two-fifths-cut (counted x)) unity)
+    (let w = solution three-sevenths-cut (counted (quarterEnd ⊖ x)) in ratio (unity - w) (unity + w))
+
+-- an angle from 2 ^ -20 to the limit
+pub record Between (theta : Float) : Type 0 where
+  pub number : T (finite theta)
+  pub low : over 1 (2 ^ 20) ≼ exactly theta
+  pub high : exactly theta ≼ limit
+
+-- past a quarter of pi it is 1 over that of what is left of half of pi
+unfoldable pub solved : Float → Float
+solved theta = cond (le theta quarterEnd) (lower theta) (one ⊘ lower (halfEnd ⊖ theta))
+
+-- ---- the two together
 unfoldable pub steep : Float → Float
-steep theta = let t = sine theta ⊘ cosine theta in cond (close t theta) t (grid (found digits 0 theta))
+steep theta = let t = sine theta ⊘ cosine theta in cond (close t theta) t (solved theta)
 
 -- the limit as an f64: 3/2
 abbrev pub limitEnd : Float

@@ -4,14 +4,15 @@
 // numbers are brought there by a quotient, and the angle by a quarter or a half of pi.
 
 ghost use mathlib.Core.Path.{_≡_};
-ghost use Prim.Native.Nat.{_+_, _^_, _≤_, _<_};
+ghost use Prim.Native.Nat.{_*_, _^_, _≤_};
 ghost use lib.Dec.{T};
 ghost use lib.Ieee.{le};
 ghost use Rattle.exact.specs.F64.{f64};
 ghost use Rattle.arctan.specs.Series.{Arctangent};
 ghost use Rattle.arctan.specs.Whole.{product, nested, reciprocals, series};
 ghost use Rattle.arctan.specs.Arctangent.{Countable, counted, angle, back, forward, arctangent};
-ghost use Rattle.arctan.specs.Tangent.{close, sine, cosine, grid, digits, halved, found, steep, tangent};
+ghost use Rattle.arctan.specs.Tangent.{close, sine, cosine, stretched, nearer, rounds, refined, solution, ratio};
+ghost use Rattle.arctan.specs.Tangent.{Acute, lower, Between, solved, steep, tangent};
 ghost use Rattle.arctan.specs.Owed.{Tangent};
 
 // The odd reciprocals 1, 1/3, 1/5, .., 1/47, counted in 2^-60 and cut: 2^60 / (2k + 1).
@@ -184,51 +185,110 @@ fn cosine(theta: f64) -> f64
     (((c - 0.001388888888888889) * y + 0.041666666666666664) * y - 0.5) * y + 1.0
 }
 
-// How far the search steps: 2^-47.
-const PACE: f64 = 7.105427357601002e-15;
-
-// The n-th step.
-fn grid(n: u64) -> f64
-    ensures { λ r. ⌜ r ≡ grid n ⌝ }
+// e times 1 + w^2, which is one over the slope of the series at w.
+fn stretched(w: u64, e: u64) -> u64
+    requires { ⌜ (w ≤ 2 ^ 59) × (e ≤ 2 ^ 60) ⌝ }
+    ensures { λ r. ⌜ (r ≡ stretched w e) × (r ≤ 2 ^ 61) ⌝ }
 {
-    std::num::nearest_u64_to_f64(n) * PACE
+    e + product(product(w, w), e)
 }
 
-// The search narrowed to one half: from low to low + 2 * width.
-fn halved(low: u64, width: u64, theta: f64) -> u64
-    requires { ⌜ low + width < 2 ^ digits ⌝ }
-    ensures { λ r. ⌜ r ≡ halved low width theta ⌝ }
+// One step of Newton's from w towards the solution of series(w) = n. The series bends down, so that a step from below
+// doesn't pass the solution but for a few units; past it there is no step.
+fn nearer(n: u64, w: u64) -> u64
+    requires { ⌜ (n ≤ 2 ^ 59) × (w ≤ 2 ^ 59) ⌝ }
+    ensures { λ r. ⌜ r ≡ nearer n w ⌝ }
 {
-    if arctangent(grid(low + width)) <= theta {
-        low + width
-    } else {
-        low
+    let s = series(w);
+    if s < n {
+        return w + stretched(w, n - s);
     }
+    w
 }
 
-// The last step below 64 whose arctangent is at most theta.
-fn found(theta: f64) -> u64
-    ensures { λ r. ⌜ r ≡ found digits 0 theta ⌝ }
+// How many steps are made.
+const ROUNDS: u64 = 4;
+
+// The solution, but for a few units, from n itself on.
+fn refined(n: u64) -> u64
+    requires { ⌜ n ≤ 13 * 2 ^ 55 ⌝ }
+    ensures { λ r. ⌜ r ≡ refined rounds n n ⌝ }
 {
-    let mut low: u64 = 0;
-    let mut width: u64 = 0x20_0000_0000_0000;
-    while 1 < width {
-        width = width >> 1;
-        low = halved(low, width, theta);
+    let mut w = n;
+    let mut k: u64 = 0;
+    while k < ROUNDS {
+        w = nearer(n, w);
+        k += 1;
     }
-    low
+    w
 }
 
-// The tangent of a theta from 2^-20 to the limit: the guess if it passes its test, else what the search
-// finds.
+// The same, but no larger than top.
+fn solution(top: u64, n: u64) -> u64
+    requires { ⌜ n ≤ 13 * 2 ^ 55 ⌝ }
+    ensures { λ r. ⌜ (r ≡ solution top n) × (r ≤ top) ⌝ }
+{
+    let w = refined(n);
+    if w < top {
+        return w;
+    }
+    top
+}
+
+// p / q, rounded.
+fn ratio(p: u64, q: u64) -> f64
+    ensures { λ r. ⌜ r ≡ ratio p q ⌝ }
+{
+    std::num::nearest_u64_to_f64(p) / std::num::nearest_u64_to_f64(q)
+}
+
+// 1, and 2/5 and 3/7 cut, counted in 2^-60.
+const UNITY: u64 = 1152921504606846976;
+
+const TWO_FIFTHS: u64 = 461168601842738790;
+
+const THREE_SEVENTHS: u64 = 494109216260077275;
+
+// The angle of 2/5, a quarter of pi and half of pi.
+const SEAM: f64 = 0.3805063771123649;
+
+const QUARTER_END: f64 = 0.7853981633974483;
+
+const HALF_END: f64 = 1.5707963267948966;
+
+// The tangent of an angle from 0 to a quarter of pi: w, or (1 - w) / (1 + w) where w is the tangent of what is left.
+fn lower(x: f64) -> f64
+    requires { ⌜ Acute x ⌝ }
+    ensures { λ r. ⌜ r ≡ lower x ⌝ }
+{
+    if x < SEAM {
+        return ratio(solution(TWO_FIFTHS, counted(x)), UNITY);
+    }
+    let w = solution(THREE_SEVENTHS, counted(QUARTER_END - x));
+    ratio(UNITY - w, UNITY + w)
+}
+
+// The tangent of a theta from 2^-20 to the limit, whatever the guess was.
+fn solved(theta: f64) -> f64
+    requires { ⌜ Between theta ⌝ }
+    ensures { λ r. ⌜ r ≡ solved theta ⌝ }
+{
+    if theta <= QUARTER_END {
+        return lower(theta);
+    }
+    1.0 / lower(HALF_END - theta)
+}
+
+// The tangent of a theta from 2^-20 to the limit: the guess if it passes its test, else what Newton's steps find.
 fn steep(theta: f64) -> f64
+    requires { ⌜ Between theta ⌝ }
     ensures { λ r. ⌜ r ≡ steep theta ⌝ }
 {
     let t = sine(theta) / cosine(theta);
     if close(t, theta) {
         return t;
     }
-    grid(found(theta))
+    solved(theta)
 }
 
 // The largest angle that has a tangent here.

@@ -3,8 +3,8 @@ use mathlib.Core.Path.{_≡_, sym, ap, _∙_}
 use borrow.Author.Needs.{needs}
 use lib.Ieee.{Float}
 use Rattle.exact.specs.F64.{_⊘_}
-use Rattle.arctan.specs.Tangent.{sine, cosine, close, grid, found}
-use Rattle.arctan.proofs.Choice.{steep-guess, steep-search}
+use Rattle.arctan.specs.Tangent.{sine, cosine, close, solved}
+use Rattle.arctan.proofs.Choice.{steep-guess, steep-solved}
 use Rattle.arctan.proofs.steep.Statement.{statement}
 use Rattle.arctan.proofs.steep.Tie as tie
 
@@ -29,25 +29,13 @@ returns c =
     let d = c .before in
     same (d .before) ∙ steep-guess (d .before .before .before .args .theta) (sym (tested d) ∙ c .if1 .taken)
 
-found-requires : tie.Need-found-requires
-found-requires c κs = search needs
-
-grid-requires : tie.Need-grid-requires
-grid-requires c κs = search needs
+solved-requires : tie.Need-solved-requires
+solved-requires c κs = c .before .before .before .before .pre
 
 returns-2 : tie.Need-returns-2
 returns-2 c =
-    let d = c .before .before .before in
-    c .grid .ensures ∙ ap grid (c .before .found .ensures) ∙ steep-search (d .before .before .before .args .theta) (sym (tested d) ∙ c .before .before .if1 .left)
+    let d = c .before .before in
+    c .solved .ensures ∙ steep-solved (d .before .before .before .args .theta) (sym (tested d) ∙ c .before .if1 .left)
 
 pub steep-spec : {M : Type 1} → statement M
-steep-spec =
-    tie.close
-    (tie.spec
-    sine-requires
-    cosine-requires
-    close-requires
-    returns
-    found-requires
-    grid-requires
-    returns-2)
+steep-spec = tie.close (tie.spec sine-requires cosine-requires close-requires returns solved-requires returns-2)

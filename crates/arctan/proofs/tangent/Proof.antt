@@ -1,6 +1,6 @@
 -- `arctan::tangent` meets its contract: it is the definition by the same tests, and the definition owes what specs/Owed.antt says (proofs/Answers.antt). Assumes nothing.
 use mathlib.Core.Path.{_≡_, refl, sym, ap, _∙_, subst}
-use mathlib.Core.Bool.{Bool, false}
+use mathlib.Core.Bool.{Bool, true, false, not}
 use lib.Dec.{T}
 use lib.Ieee.{Float, nan, binary64, fits, neg, lt, le, div, ofBits}
 use borrow.Author.Needs.{needs}
@@ -11,7 +11,7 @@ use Rattle.arctan.specs.Tangent.{steep, limitEnd, tangent}
 use Rattle.arctan.specs.declared.Slope.{Slope}
 use Rattle.arctan.specs.declared.Slope.the-variants.{Is, TooSteep}
 use Rattle.arctan.proofs.Choice.{tangent-tiny, tangent-minus, tangent-plus, tangent-refused, tangent-none}
-use Rattle.arctan.proofs.Answers.{tangent-near}
+use Rattle.arctan.proofs.Answers.{number-between, between, tangent-near}
 use Rattle.arctan.proofs.tangent.Statement.{statement}
 use Rattle.arctan.proofs.tangent.Tie as tie
 
@@ -40,6 +40,12 @@ no-number : f64 0 ⊘ f64 0 ≡ nan
 unfolding div ofBits
 no-number = refl
 
+so : {b : Bool} → b ≡ true → T b
+so e = subst T (sym e) tt
+
+so-not : {b : Bool} → b ≡ false → T (not b)
+so-not e = subst (λ (t : Bool). T (not t)) (sym e) tt
+
 magnitude-requires : tie.Need-magnitude-requires
 magnitude-requires c κs = search needs
 
@@ -50,7 +56,9 @@ returns c =
     both theta (Is theta) (held s) (tangent-tiny theta (below (c .before .magnitude .result) (magnitude theta) (c .before .magnitude .ensures) (c .if1 .taken)))
 
 steep-requires : tie.Need-steep-requires
-steep-requires c κs = search needs
+steep-requires c κs =
+    let size = c .before .before .magnitude .result in
+    between size (number-between size (c .before .if1 .left) (c .if2 .taken)) (so-not (c .before .if1 .left)) (so (c .if2 .taken))
 
 returns-2 : tie.Need-returns-2
 returns-2 c =
