@@ -97,7 +97,8 @@ fn ray_near_level(r: &mut Random) -> Place {
     Place { params, point: pixel, pixel }
 }
 
-/// bc with k1 = -1/(3q) alone has a singular matrix at the squared radius q. Newton starts there, or its first step leads there.
+/// bc with k1 = -1/(3q) alone has a singular matrix at the squared radius q. Newton starts there, or its first step leads
+/// there.
 fn matrix_near_singular(r: &mut Random) -> Place {
     if r.one_in(4) {
         return matrix_singular(r);
@@ -113,8 +114,8 @@ fn matrix_near_singular(r: &mut Random) -> Place {
     Place { params, point: pixel, pixel }
 }
 
-/// With s for -k1 r², Newton's first step goes from r to r (1 - 2s)/(1 - 3s), and the matrix is singular at r/√(3s). Gives the s
-/// for which the two are one.
+/// With s for -k1 r², Newton's first step goes from r to r (1 - 2s)/(1 - 3s), and the matrix is singular at r/√(3s). Gives
+/// the s for which the two are one.
 fn leading_to_singular() -> f64 {
     let (mut low, mut high) = (0.0, 1.0 / 3.0);
     for _ in 0..60 {
@@ -140,8 +141,8 @@ fn matrix_singular(r: &mut Random) -> Place {
     Place { params, point: [x, y], pixel }
 }
 
-/// kb whose Newton ends at or below 0: coefficients below 0, or a cycle of three numbers without any rounding: from 2 to 4, to 0,
-/// to 4, and after twenty passes 0.
+/// kb whose Newton ends at or below 0: k0 below 0, or a start from which it goes to 4, to 0, to 4, .. without any rounding,
+/// and is at 0 after twenty passes.
 fn angle_below_zero(r: &mut Random) -> Place {
     let mut params = valid_camera(r, 2, 640.0, 480.0);
     plain(r, &mut params);

@@ -17,8 +17,7 @@ pub struct Trace {
     pub inverse: [f64; 2],
 }
 
-const DIRECT: Trace =
-    Trace { updates: 0, flag: true, steep: false, theta: f64::NAN, inverted: 0, inverse: [0.0; 2] };
+const DIRECT: Trace = Trace { updates: 0, flag: true, steep: false, theta: f64::NAN, inverted: 0, inverse: [0.0; 2] };
 
 thread_local! {
     static TRACE: Cell<Trace> = const { Cell::new(DIRECT) };

@@ -41,40 +41,64 @@ fn list(r: &mut Random, model: usize) -> (Lent<u8>, Vec<[f64; 2]>) {
     (list, pixels)
 }
 
+#[derive(Default)]
+struct Tally {
+    calls: [u64; 16],
+    records: [u64; 16],
+    settled: u64,
+}
+
+impl Tally {
+    /// Writes what is owed over a list of so many bytes, and gives the call's number.
+    fn observe(&mut self, camera: &Question, list: &mut [u8], pixels: &[[f64; 2]]) -> u8 {
+        let number = camera.camera_number().unwrap_or(if list.len() % RECORD == 0 { 0 } else { 7 });
+        self.calls[number as usize] += 1;
+        if number == 0 {
+            for (record, pixel) in list.chunks_exact_mut(RECORD).zip(pixels) {
+                let (found, number) = observed(camera, *pixel);
+                record[16..34].copy_from_slice(&found);
+                self.records[number as usize] += 1;
+                self.settled += found[16] as u64;
+            }
+        }
+        number
+    }
+}
+
+/// A camera as somebody has it, a wild one, or one that is damaged.
+fn camera(r: &mut Random) -> Question {
+    let mut camera = damaged_camera(r);
+    if r.one_in(3) && camera.camera_number().is_none() {
+        camera.params = wild_place(r, camera.model as usize).params;
+    }
+    camera
+}
+
 impl Oracle {
     pub fn lists(&mut self, lists: u64) {
-        let (mut calls, mut records, mut settled) = ([0; 16], [0; 16], 0);
+        let mut tally = Tally::default();
         for _ in 0..lists {
             let r = &mut self.random;
-            let mut camera = damaged_camera(r);
-            if r.one_in(3) && camera.camera_number().is_none() {
-                camera.params = wild_place(r, camera.model as usize).params;
-            }
+            let camera = camera(r);
             let (mut ours, pixels) = list(r, camera.model as usize & 3);
             let mut owed = ours.clone();
             let whole = RECORD * pixels.len();
             let length = if r.one_in(8) { whole.saturating_sub(r.below(RECORD)) + r.below(STRIP) } else { whole };
-            let number = camera.camera_number().unwrap_or(if length % RECORD == 0 { 0 } else { 7 });
-            if number == 0 {
-                for (record, pixel) in owed.lend_of_length(length).chunks_exact_mut(RECORD).zip(&pixels) {
-                    let (found, number) = observed(&camera, *pixel);
-                    record[16..34].copy_from_slice(&found);
-                    records[number as usize] += 1;
-                    settled += found[16] as u64;
-                }
-            }
-            let given = lens::observe(camera.model, &handed(&camera.params)[..camera.params_length], ours.lend_of_length(length));
-            calls[number as usize] += 1;
+            let number = tally.observe(&camera, owed.lend_of_length(length), &pixels);
+            let params = handed(&camera.params);
+            let given = lens::observe(camera.model, &params[..camera.params_length], ours.lend_of_length(length));
             if given != number || ours != owed {
-                let at = ours.differs_at(&owed);
-                self.differs(format!("list of {} bytes, {}: gave {}, owed {}, byte {:?}", length, input(&camera), given, number, at));
+                let (asked, at) = (input(&camera), ours.differs_at(&owed));
+                self.differs(format!("list of {} bytes, {}: gave {}, owed {}, byte {:?}", length, asked, given, number, at));
             }
         }
+        let Tally { calls, records, settled } = tally;
+        let (refused, answered) = (listed(&calls), records[0]);
         println!(
             "lists: {}, refused {}; records answered {}, settled {}, refused {}",
             lists,
-            listed(&calls),
-            records[0],
+            refused,
+            answered,
             settled,
             listed(&records)
         );

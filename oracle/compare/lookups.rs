@@ -14,7 +14,7 @@ const ANSWER: usize = 16;
 const WHOLE: usize = 25;
 const DAMAGED: usize = 25;
 
-/// One call. `table` and `answer_length` may have any length; `region` is lent by `region_length` of its bytes.
+/// One call. The first `region_length` bytes of `region` are handed over; its fifth number is only there to be too long.
 struct Question<'a> {
     cells: &'a [u32],
     region: [f64; 5],

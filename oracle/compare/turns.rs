@@ -40,9 +40,7 @@ pub struct Tally {
     moves: u64,
     units: u64,
     largest: u64,
-    /// Jobs that were refused, builds that a unit refused, their turns that said so, calls refused before any unit, damaged
-    /// records that were taken.
-    jobs: [u64; 16],
+    /// Builds that a unit refused, their turns that said so, calls refused before any unit, damaged records that were taken.
     units_refused: [u64; 16],
     turns_refused: [u64; 16],
     calls_refused: [u64; 16],
@@ -147,13 +145,10 @@ impl Build {
     /// Ours and owed to other memory, the same for both; what was lent before is spoilt.
     fn move_on(&mut self, r: &mut Random) {
         let seed = r.bits();
-        let spoilt = 0x5a;
-        self.ours = {
-            let moved = self.ours.moved(&mut Random(seed));
-            self.ours.job.lend().fill(spoilt);
-            self.ours.table.lend().fill(spoilt as u32);
-            moved
-        };
+        let moved = self.ours.moved(&mut Random(seed));
+        self.ours.job.lend().fill(0x5a);
+        self.ours.table.lend().fill(0x5a);
+        self.ours = moved;
         self.owed = self.owed.moved(&mut Random(seed));
     }
 
@@ -285,8 +280,8 @@ fn asked(r: &mut Random) -> Asked {
     Asked::random(r)
 }
 
-/// A fresh job into junk, and the build that it begins, or the number of its refusal.
-fn begun(r: &mut Random, asked: Asked) -> Result<Result<Build, u8>, String> {
+/// A fresh job into junk, and the build that it begins; none if the job is refused.
+fn begun(r: &mut Random, asked: Asked) -> Result<Option<Build>, String> {
     let size = [asked.width as u32, asked.height as u32];
     let mut job = Lent::new(r, record::BYTES);
     let mut owed_job = job.clone();
@@ -299,14 +294,14 @@ fn begun(r: &mut Random, asked: Asked) -> Result<Result<Build, u8>, String> {
     if given != refused.unwrap_or(0) || job != owed_job {
         return Err(format!("fresh job of {:?}: gave {}, owed {:?}", asked.text(), given, refused));
     }
-    if let Some(number) = refused {
-        return Ok(Err(number));
+    if refused.is_some() {
+        return Ok(None);
     }
     let built = asked.built();
     let table = Lent::new(r, built.cells.len());
     let ours = Kept { job, table, answer: Lent::new(r, record::ANSWER_BYTES) };
     let (swept, end) = (swept(&built), built.end());
-    Ok(Ok(Build { asked, built, swept, end, done: 0, owed: ours.clone(), ours }))
+    Ok(Some(Build { asked, built, swept, end, done: 0, owed: ours.clone(), ours }))
 }
 
 /// All turns of a build, and some more once it can't go on.
@@ -343,13 +338,13 @@ fn build(oracle: &mut Oracle, asked: Asked, tally: &mut Tally) -> Option<Table> 
     let size = [asked.width as u32, asked.height as u32];
     let r = &mut oracle.random;
     let outcome = begun(r, asked).and_then(|begun| match begun {
-        Err(number) => Ok(Err(number)),
-        Ok(mut build) => in_turns(r, &mut build, tally).map(|_| Ok(build)),
+        None => Ok(None),
+        Some(mut build) => in_turns(r, &mut build, tally).map(|_| Some(build)),
     });
     match outcome {
         Err(what) => oracle.differs(what),
-        Ok(Err(number)) => tally.jobs[number as usize] += 1,
-        Ok(Ok(build)) => {
+        Ok(None) => {}
+        Ok(Some(build)) => {
             tally.tables += 1;
             tally.units += build.done as u64;
             if build.end.1 == 0 {
