@@ -106,7 +106,7 @@ fn coordinate(r: &mut Random, lower: f64, upper: f64, cells: u32) -> f64 {
 /// One or two things wrong with a question.
 fn damage(r: &mut Random, q: &mut Question) {
     for _ in 0..1 + r.below(2) {
-        match r.below(9) {
+        match r.below(11) {
             0 => q.at[r.below(2)] = unfinished(r),
             1 => q.region[r.below(4)] = unfinished(r),
             2 => q.region.swap(0, 2),
@@ -118,6 +118,13 @@ fn damage(r: &mut Random, q: &mut Question) {
             5 => q.size[r.below(2)] = [0, 1, 2, 4096, 4097, u32::MAX][r.below(6)],
             6 => q.cells = &q.cells[..r.below(1 + q.cells.len())],
             7 => q.region_length = r.below(41),
+            8 => q.region[r.below(4)] = wild(r),
+            // a region of a few numbers: increments that round to little, and indices far from it
+            9 => {
+                let k = r.below(2);
+                q.region[k + 2] = (0..1 + r.below(4)).fold(q.region[k], |x, _| beside(x, true));
+                q.at[k] = r.pick(&[q.region[k], q.region[k + 2], q.at[k]]);
+            }
             _ => q.answer_length = r.below(ANSWER + STRIP),
         }
     }
