@@ -14,7 +14,9 @@ def build(*words):
     subprocess.run([*compiler, "-A", "warnings", *words], check=True)
 
 
-for name in sorted(os.listdir(here + "/wrong")):
+names = sorted(os.listdir(here + "/wrong"))
+for number, name in enumerate(names, 1):
+    print(f"oracle/run wrong: {number} of {len(names)}: {name}", file=sys.stderr, flush=True)
     with open(f"{here}/wrong/{name}") as edit:
         keys = dict(line.rstrip("\n").split(": ", 1) for line in edit if not line.startswith("#"))
     shutil.rmtree(work, ignore_errors=True)
@@ -32,6 +34,6 @@ for name in sorted(os.listdir(here + "/wrong")):
     last = subprocess.run([work + "/oracle", *args], capture_output=True, text=True).stdout.splitlines()[-1]
     seen = int(re.search(r"differences (\d+)", last).group(1))
     unseen += seen == 0
-    print(f"{name}: {seen} differences")
+    print(f"{name}: {seen} differences", flush=True)
 print(f"wrong oracles unseen: {unseen}")
 sys.exit(unseen > 0)

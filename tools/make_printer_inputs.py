@@ -3,7 +3,7 @@
 
     crates/test_printer_inputs/stdin, stdout    many inputs, one after the other
     crates/table_printer/stdin, stdout     the rules' example
-    examples/NAME.camera                   a camera file for each model
+    examples/NAME.camera                   a camera file for each model, and two of bc whose border takes updates
 
     python3 tools/make_printer_inputs.py              writes the files
     python3 tools/make_printer_inputs.py --self-test  tests what can be tested beside that, and writes nothing
@@ -93,12 +93,16 @@ PLAIN = [ONE, ONE, ZERO, ZERO]
 EXAMPLE = written(b"affine", 3, 2, PLAIN)
 KB_TEST = (1000.0, 1000.0, 320.0, 280.0, 0.1, 0.01, 0.001, 0.0001)
 BC_TEST = (1000.0, 1000.0, 10.0, 7.5, *BC_EXAMPLE)
+# Five coefficients; without k4, k5 and k6 there is no quotient.
+BARREL = (-0.3, 0.1, 0.001, -0.0005, -0.02, 0.0, 0.0, 0.0)
 
 EXAMPLES = {
     "affine": EXAMPLE,
     "eucm": camera_file(EUCM, (500.0, 500.0, 16.0, 12.0, 0.5, 1.0), 32, 24),
     "kb": camera_file(KB, KB_TEST, 64, 48),
     "bc": camera_file(BC, BC_TEST, 20, 15),
+    "bc_wide": camera_file(BC, (16.0, 16.0, 10.0, 7.5, *BC_EXAMPLE), 20, 15),
+    "bc_barrel": camera_file(BC, (16.0, 16.0, 10.0, 7.5, *BARREL), 20, 15),
 }
 
 
@@ -204,6 +208,10 @@ TABLES = [
     ("eucm", camera_file(EUCM, (500.0, 500.0, 16.0, 12.0, 0.5, 1.0), 5, 4)),
     ("kb, the camera of the Rust's test", camera_file(KB, KB_TEST, 8, 6)),
     ("bc", camera_file(BC, BC_TEST, 6, 5)),
+    ("bc, a wide lens whose border takes updates", camera_file(BC, (4.8, 4.8, 3.0, 2.5, *BC_EXAMPLE), 6, 5)),
+    ("bc, so wide that 11 of the 26 samples take all 50 updates", camera_file(BC, (2.4, 2.4, 3.0, 2.5, *BC_EXAMPLE), 6, 5)),
+    ("bc, barrel, five coefficients", camera_file(BC, (4.8, 4.8, 3.0, 2.5, *BARREL), 6, 5)),
+    ("bc, barrel, with -0 for k4 and k6", camera_file(BC, (4.8, 4.9, 3.0, 2.5, *BARREL[:5], -0.0, 0.0, -0.0), 6, 5)),
     ("4,096 cells, the most: 2 by 2048", camera_file(AFFINE, (100.0, 100.0, 0.5, 1024.0), 2, 2048)),
 ]
 
@@ -232,12 +240,22 @@ def files():
         yield f"examples/{name}.camera", text
 
 
+def updates(text):
+    """Of a table that is printed."""
+    return int(printed(text).splitlines()[0].split(b"\t")[3])
+
+
 def self_test():
     assert printed(EXAMPLE).replace(b"\t", b" ").decode().splitlines() == LISTING.splitlines()
     given = {number for number, _, _ in REFUSED}
     assert given == {1, 3, 4, 5, 6, 8, 10, 11, 12, 14}, given
     for name, text in EXAMPLES.items():
         assert printed(text).startswith(b"table\t"), name
+    # Newton's models take updates, but for the bc lens that is as good as flat.
+    for name in ("kb", "bc_wide", "bc_barrel"):
+        assert updates(EXAMPLES[name]) > 0, name
+    taking = [words for words, text in TABLES if updates(text) > 0]
+    assert [words.split(",")[0] for words in taking] == ["kb", "bc", "bc", "bc", "bc"], taking
     texts = [text for _, text in TABLES] + [text for _, _, text in REFUSED]
     assert len(set(texts)) == len(texts)
     print("self-test passed")

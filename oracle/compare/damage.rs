@@ -1,10 +1,10 @@
 // Damaged questions.
-use crate::cases::Random;
+use crate::cases::{valid, Random};
 use crate::judge::{Question, MOST};
 use rust_text::COUNTS;
 
 /// A NaN of any sign and payload, or an infinity.
-fn unfinished(r: &mut Random) -> f64 {
+pub fn unfinished(r: &mut Random) -> f64 {
     let low = if r.one_in(2) { 0 } else { r.bits() >> 12 };
     f64::from_bits(r.bits() & 1 << 63 | 0x7ff << 52 | low)
 }
@@ -22,4 +22,14 @@ pub fn damage(r: &mut Random, q: &mut Question) {
             _ => q.model = r.bits() as u8,
         }
     }
+}
+
+/// A camera, damaged or not.
+pub fn damaged_camera(r: &mut Random) -> Question {
+    let model = r.below(4);
+    let mut q = Question::right(model, 0, valid(r, model).params, [0.0; 2]);
+    if r.one_in(2) {
+        damage(r, &mut q);
+    }
+    q
 }

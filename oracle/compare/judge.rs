@@ -1,6 +1,6 @@
 // What the library owes on a question: document 01's refusals in their order, and else the Rust's answer, as bytes.
 use crate::lens;
-use rust_text::{ask, Angles, COUNTS};
+use rust_text::{ask, Angles, Answer, COUNTS};
 use std::cell::Cell;
 
 /// What the Rust does without saying so, told by the stand-in.
@@ -10,9 +10,14 @@ pub struct Trace {
     pub flag: bool,
     /// The tangent was refused its angle.
     pub steep: bool,
+    /// The angle that the tangent was last asked for; NaN if it wasn't.
+    pub theta: f64,
+    /// How many matrices were inverted, and the largest size that 1 over a determinant had: of the first, of later ones.
+    pub inverted: u32,
+    pub inverse: [f64; 2],
 }
 
-const DIRECT: Trace = Trace { updates: 0, flag: true, steep: false };
+const DIRECT: Trace = Trace { updates: 0, flag: true, steep: false, theta: f64::NAN, inverted: 0, inverse: [0.0; 2] };
 
 thread_local! {
     static TRACE: Cell<Trace> = const { Cell::new(DIRECT) };
@@ -36,6 +41,7 @@ impl Angles for PutIn {
         lens::arctangent(x)
     }
     fn tangent(theta: f64) -> f64 {
+        change(|t| Trace { theta, ..t });
         lens::tangent(theta).unwrap_or_else(|_| {
             change(|t| Trace { steep: true, ..t });
             f64::NAN
@@ -52,6 +58,41 @@ impl Angles for PutIn {
             change(|_| DIRECT)
         }
     }
+    fn scaled(factor: f64) {
+        change(|t| {
+            let mut inverse = t.inverse;
+            let place = &mut inverse[(t.inverted > 0) as usize];
+            *place = place.max(factor.abs());
+            Trace { inverted: t.inverted + 1, inverse, ..t }
+        })
+    }
+}
+
+/// What is wrong with a camera that is handed over as bytes, or with the coordinates that go with it; the lowest number.
+pub fn camera_refused(model: u8, params: &[f64], params_length: usize, coordinates: &[f64]) -> Option<u8> {
+    if model > 3 {
+        return Some(1);
+    }
+    let count = COUNTS[model as usize];
+    if params_length != 8 * count {
+        return Some(3);
+    }
+    if params[..count].iter().chain(coordinates).any(|x| !x.is_finite()) {
+        return Some(4);
+    }
+    if params[0] == 0.0 || params[1] == 0.0 {
+        return Some(5);
+    }
+    None
+}
+
+/// Numbers as a caller hands them over, and zeros up to MOST bytes.
+pub fn handed(numbers: &[f64]) -> [u8; MOST] {
+    let mut bytes = [0; MOST];
+    for (place, x) in bytes.chunks_exact_mut(8).zip(numbers) {
+        place.copy_from_slice(&x.to_le_bytes());
+    }
+    bytes
 }
 
 /// One call. The first `params_length` bytes of `params` are handed over, and `answer_length` bytes are lent.
@@ -76,48 +117,43 @@ impl Question {
     }
 
     pub fn ask_ours(&self) -> Given {
-        let mut params = [0; MOST];
-        for (place, x) in params.chunks_exact_mut(8).zip(self.params) {
-            place.copy_from_slice(&x.to_le_bytes());
-        }
         let mut given = Given::untouched(0);
         let lent = &mut given.bytes[..self.answer_length];
-        given.number = lens::call(self.operation, self.model, &params[..self.params_length], self.at, lent);
+        given.number = lens::call(self.operation, self.model, &handed(&self.params)[..self.params_length], self.at, lent);
         given
+    }
+
+    /// What is wrong with the camera alone.
+    pub fn camera_number(&self) -> Option<u8> {
+        camera_refused(self.model, &self.params, self.params_length, &[])
     }
 
     /// The refusals that need no answer of the Rust, the lowest first.
     fn refused_at_once(&self) -> Option<u8> {
-        let model = self.model as usize;
-        if model > 3 {
-            return Some(1);
-        }
-        if self.operation == 3 && model == 3 {
+        if self.operation == 3 && self.model == 3 {
             return Some(2);
         }
-        if self.params_length != 8 * COUNTS[model] {
-            return Some(3);
-        }
-        let params = &self.params[..COUNTS[model]];
-        if params.iter().chain(&self.at).any(|x| !x.is_finite()) {
-            return Some(4);
-        }
-        if params[0] == 0.0 || params[1] == 0.0 {
-            return Some(5);
-        }
-        if self.answer_length != lens::LENGTHS[self.operation] {
-            return Some(7);
-        }
-        None
+        let wrong_length = self.answer_length != lens::LENGTHS[self.operation];
+        camera_refused(self.model, &self.params, self.params_length, &self.at).or(if wrong_length { Some(7) } else { None })
     }
 
     pub fn owed(&self) -> Given {
+        self.traced().0
+    }
+
+    /// What is owed, and what the Rust did on the way.
+    pub fn traced(&self) -> (Given, Trace) {
         if let Some(number) = self.refused_at_once() {
-            return Given::untouched(number);
+            return (Given::untouched(number), DIRECT);
         }
         trace();
         let answer = ask::<PutIn>(self.model as usize, self.operation, &self.params, self.at);
         let trace = trace();
+        (self.told(&answer, trace), trace)
+    }
+
+    /// The Rust's answer as bytes, or the number that it comes to.
+    fn told(&self, answer: &Answer, trace: Trace) -> Given {
         if trace.steep {
             return Given::untouched(10);
         }

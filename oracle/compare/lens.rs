@@ -7,6 +7,29 @@ extern "C" {
     fn lens_root(x: f64) -> f64;
     fn lens_arctangent(x: f64) -> f64;
     fn lens_tangent(theta: f64, answer: *mut u8, lent: usize) -> u8;
+    fn lens_job_new(model: u8, params: *const u8, handed: usize, width: u32, height: u32, job: *mut u8, lent: usize) -> u8;
+    fn lens_turn(
+        job: *mut u8,
+        job_lent: usize,
+        table: *mut f32,
+        table_lent: usize,
+        allowance: u64,
+        answer: *mut u8,
+        answer_lent: usize,
+    ) -> u8;
+    fn lens_lookup(
+        table: *const f32,
+        table_handed: usize,
+        region: *const u8,
+        region_handed: usize,
+        width: u32,
+        height: u32,
+        x: f64,
+        y: f64,
+        answer: *mut u8,
+        lent: usize,
+    ) -> u8;
+    fn lens_observe(model: u8, params: *const u8, handed: usize, list: *mut u8, lent: usize) -> u8;
 }
 
 /// The bytes of each operation's answer.
@@ -37,4 +60,25 @@ pub fn tangent(theta: f64) -> Result<f64, u8> {
         0 => Ok(f64::from_le_bytes(answer)),
         number => Err(number),
     }
+}
+
+pub fn job_new(model: u8, params: &[u8], size: [u32; 2], job: &mut [u8]) -> u8 {
+    unsafe { lens_job_new(model, params.as_ptr(), params.len(), size[0], size[1], job.as_mut_ptr(), job.len()) }
+}
+
+/// The table's floats are kept as their bits, so that a NaN is compared by its payload too.
+pub fn turn(job: &mut [u8], table: &mut [u32], allowance: u64, answer: &mut [u8]) -> u8 {
+    let (cells, floats) = (table.as_mut_ptr() as *mut f32, table.len());
+    unsafe { lens_turn(job.as_mut_ptr(), job.len(), cells, floats, allowance, answer.as_mut_ptr(), answer.len()) }
+}
+
+pub fn lookup(table: &[u32], region: &[u8], size: [u32; 2], at: [f64; 2], answer: &mut [u8]) -> u8 {
+    let (cells, floats) = (table.as_ptr() as *const f32, table.len());
+    let (answer, lent) = (answer.as_mut_ptr(), answer.len());
+    unsafe { lens_lookup(cells, floats, region.as_ptr(), region.len(), size[0], size[1], at[0], at[1], answer, lent) }
+}
+
+/// A list of observations, as the bytes of its records.
+pub fn observe(model: u8, params: &[u8], list: &mut [u8]) -> u8 {
+    unsafe { lens_observe(model, params.as_ptr(), params.len(), list.as_mut_ptr(), list.len()) }
 }

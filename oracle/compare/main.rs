@@ -1,11 +1,17 @@
 // The oracle. `compare SEED POINTS TABLES OUTLIERS [PRINTER...]` compares lens_c with the Rust's text and lists the second
 // run's outliers in the file OUTLIERS; `sample SEED QUESTIONS ANSWERS` writes the gate's replay. See docs/ORACLE.md.
+mod aimed;
 mod cases;
 mod damage;
 mod judge;
 mod lens;
+mod lists;
+mod lookups;
+mod memory;
+mod record;
 mod sample;
 mod tables;
+mod turns;
 
 use cases::Random;
 use judge::{Given, Question};
@@ -30,12 +36,15 @@ enum Class {
 }
 
 struct Oracle {
+    seed: u64,
     random: Random,
     points: u64,
     differences: u64,
     outliers: u64,
     /// Beyond the tolerance only because the number is large.
     large: u64,
+    /// Kinds of case that were to be met and weren't.
+    unmet: u64,
     outlier_list: BufWriter<File>,
 }
 
@@ -87,16 +96,31 @@ impl Oracle {
         }
     }
 
-    /// Asks both, and gives the number of the refusal.
+    /// An oracle that never comes to a case says nothing of it. `counts` has how often each kind was met, `wanted` those that
+    /// have to be.
+    fn met(&mut self, part: &str, counts: &[u64], wanted: &[usize]) {
+        for &kind in wanted {
+            if counts[kind] == 0 {
+                println!("NOT MET {}: {}", part, kind);
+                self.unmet += 1;
+            }
+        }
+    }
+
+    /// Asks both, and gives our answer.
     fn compare(&mut self, q: &Question) -> Given {
-        let (ours, owed) = (q.ask_ours(), q.owed());
+        let ours = q.ask_ours();
+        self.hold(q, ours, q.owed());
+        ours
+    }
+
+    fn hold(&mut self, q: &Question, ours: Given, owed: Given) {
         if ours != owed {
             let floats = |g: &Given| {
                 format!("{} {:016x} {:016x} {:016x}", g.number, g.float(0).to_bits(), g.float(1).to_bits(), g.float(2).to_bits())
             };
             self.differs(format!("{}: ours {}, owed {}", input(q), floats(&ours), floats(&owed)));
         }
-        ours
     }
 
     fn second_run(&mut self, q: &Question, ours: &Given, class: Class) -> bool {
@@ -239,25 +263,65 @@ struct Tally {
     outliers: [[u64; 2]; 4],
 }
 
+/// Parts of a comparison, which standard error tells as they begin.
+const PARTS: [&str; 10] = [
+    "affine",
+    "eucm",
+    "kb",
+    "bc",
+    "root, arctangent, tangent",
+    "the table printer",
+    "tables in turns, and lookups in them",
+    "fresh jobs",
+    "lists of observations",
+    "aimed points",
+];
+
+fn begins(part: usize) {
+    eprintln!("oracle: part {} of {}: {}", part + 1, PARTS.len(), PARTS[part]);
+}
+
+fn all_parts(oracle: &mut Oracle, points: u64, tables: u64, printer: &[String]) {
+    for model in 0..4 {
+        begins(model);
+        oracle.model(model, points);
+    }
+    begins(4);
+    oracle.functions_of_one_number(points);
+    begins(5);
+    if printer.is_empty() {
+        println!("tables: none compared, no printer was named");
+    } else {
+        oracle.tables(tables, printer);
+    }
+    begins(6);
+    oracle.random = Random(!oracle.seed);
+    let mut lookups = lookups::Tally::default();
+    oracle.turns(tables, |oracle, table| lookups.table(oracle, table));
+    lookups.report(oracle);
+    begins(7);
+    oracle.jobs(points / 20);
+    begins(8);
+    oracle.lists(points / 50);
+    begins(9);
+    oracle.aimed(points / 10);
+}
+
 fn compare(args: &[String]) {
     let number = |i: usize| args[i].parse::<u64>().expect("a number");
     let (seed, points, tables) = (number(0), number(1), number(2));
     let outlier_list = BufWriter::new(File::create(&args[3]).expect("the list of outliers"));
-    let mut oracle = Oracle { random: Random(seed), points: 0, differences: 0, outliers: 0, large: 0, outlier_list };
+    let random = Random(seed);
+    let mut oracle = Oracle { seed, random, points: 0, differences: 0, outliers: 0, large: 0, unmet: 0, outlier_list };
     println!("seed {}, {} points a model", seed, points);
-    for model in 0..4 {
-        oracle.model(model, points);
-    }
-    oracle.functions_of_one_number(points);
-    if args.len() > 4 {
-        oracle.tables(tables, &args[4..]);
-    } else {
-        println!("tables: none compared, no printer was named");
-    }
+    all_parts(&mut oracle, points, tables, &args[4..]);
     oracle.outlier_list.flush().unwrap();
     println!("run two: {} answers differ by more than 1e-6 pixel and by less than 2^-38 of themselves", oracle.large);
+    if oracle.unmet > 0 {
+        println!("AN ERROR OF THE ORACLE: {} kinds of case were not met", oracle.unmet);
+    }
     println!("points {}, differences {}, outliers of run two {}", oracle.points, oracle.differences, oracle.outliers);
-    std::process::exit((oracle.differences > 0) as i32);
+    std::process::exit((oracle.differences + oracle.unmet > 0) as i32);
 }
 
 fn main() {

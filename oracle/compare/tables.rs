@@ -1,10 +1,11 @@
-// Tables: the listing that the table printer writes, against the one that the Rust's `distort_table` gives.
+// Tables by the Rust's `distort_table`, asked through a camera that notes each unit; and the listing that the table printer
+// owes for one.
 use crate::cases::{valid_camera, wild_place, Random};
-use crate::judge::{trace, PutIn};
+use crate::judge::{camera_refused, trace, PutIn};
 use rust_text::distortion_table::distort_table;
 use rust_text::dyn_camera::{DynCameraF64, Lens};
 use rust_text::{ask, ImageSize, COUNTS};
-use std::cell::Cell;
+use std::cell::RefCell;
 use std::fmt::Write as _;
 use std::io::Write as _;
 use std::process::{Command, Stdio};
@@ -14,24 +15,31 @@ const NAMES: [&str; 4] = ["affine", "eucm", "kb", "bc"];
 
 /// What a camera file asks for.
 pub struct Asked {
-    model: usize,
-    params: Vec<f64>,
-    width: usize,
-    height: usize,
+    pub model: usize,
+    pub params: Vec<f64>,
+    pub width: usize,
+    pub height: usize,
 }
 
-/// The first refusal of a border sample and of a cell, 0 for none, and the updates of all samples.
-#[derive(Clone, Copy, Default)]
+/// What the Rust's camera gave for a border sample, and the number of its refusal or 0.
+#[derive(Clone, Copy)]
+pub struct Sample {
+    pub point: [f64; 2],
+    pub updates: u32,
+    pub number: u8,
+}
+
+/// What the Rust's table asked its camera for, in order: each sample, and each cell's number.
+#[derive(Default)]
 struct Notes {
-    border: u8,
-    cell: u8,
-    updates: u64,
+    samples: Vec<Sample>,
+    cell_numbers: Vec<u8>,
 }
 
 struct Noting {
     model: usize,
     params: [f64; 12],
-    notes: Rc<Cell<Notes>>,
+    notes: Rc<RefCell<Notes>>,
 }
 
 impl Noting {
@@ -39,20 +47,18 @@ impl Noting {
         let answer = ask::<PutIn>(self.model, operation, &self.params, at);
         [answer.numbers[0], answer.numbers[1]]
     }
-    fn note(&self, f: impl Fn(&mut Notes)) {
-        let mut notes = self.notes.get();
-        f(&mut notes);
-        self.notes.set(notes);
-    }
 }
 
 fn finite(pair: [f64; 2]) -> bool {
     pair.iter().all(|x| x.is_finite())
 }
 
-fn first(place: &mut u8, number: u8) {
-    if *place == 0 {
-        *place = number;
+/// 8 or 11 for a pair of increments, or 0.
+pub fn increments_number(increments: [f64; 2]) -> u8 {
+    match () {
+        _ if increments.iter().any(|&i| i.is_finite() && i <= 0.0) => 8,
+        _ if !finite(increments) => 11,
+        _ => 0,
     }
 }
 
@@ -64,7 +70,7 @@ impl Lens for Noting {
             _ if pixel.iter().any(|&x| (x as f32).is_infinite()) => 12,
             _ => 0,
         };
-        self.note(|n| first(&mut n.cell, number));
+        self.notes.borrow_mut().cell_numbers.push(number);
         pixel
     }
     fn undistort(&self, pixel: [f64; 2]) -> [f64; 2] {
@@ -76,11 +82,35 @@ impl Lens for Noting {
             _ if !finite(point) => 11,
             _ => 0,
         };
-        self.note(|n| {
-            first(&mut n.border, number);
-            n.updates += trace.updates as u64;
-        });
+        self.notes.borrow_mut().samples.push(Sample { point, updates: trace.updates, number });
         point
+    }
+}
+
+/// A table by the Rust's text, unit by unit. Behind the first unit that is refused it holds whatever the Rust works out there.
+pub struct Built {
+    pub samples: Vec<Sample>,
+    /// Two a cell, by rows.
+    pub cells: Vec<u32>,
+    pub region: [f64; 4],
+    increments: [f64; 2],
+    cell_numbers: Vec<u8>,
+}
+
+impl Built {
+    /// How many units come before the first that is refused, and its number: 0 if none is.
+    pub fn end(&self) -> (usize, u8) {
+        let border = self.samples.len();
+        if let Some(i) = self.samples.iter().position(|s| s.number != 0) {
+            return (i, self.samples[i].number);
+        }
+        let spread = increments_number(self.increments);
+        if spread != 0 {
+            return (border - 1, spread);
+        }
+        let cells = &self.cell_numbers;
+        let i = cells.iter().position(|&n| n != 0).unwrap_or(cells.len());
+        (border + i, cells.get(i).copied().unwrap_or(0))
     }
 }
 
@@ -112,15 +142,29 @@ impl Asked {
         text + "\n"
     }
 
-    fn refused_at_once(&self) -> Option<u8> {
+    /// What is wrong with what is asked for, before any unit: 3, 4, 5, and 6 for the size.
+    pub fn refused_at_once(&self) -> Option<u8> {
         let sides = 2..=4096;
-        match () {
-            _ if self.params.len() != COUNTS[self.model] => Some(3),
-            _ if self.params.iter().any(|x| !x.is_finite()) => Some(4),
-            _ if self.params[0] == 0.0 || self.params[1] == 0.0 => Some(5),
-            _ if !sides.contains(&self.width) || !sides.contains(&self.height) || self.width * self.height > 4096 => Some(6),
-            _ => None,
-        }
+        let sized = sides.contains(&self.width) && sides.contains(&self.height);
+        camera_refused(self.model as u8, &self.params, 8 * self.params.len(), &[]).or(if sized { None } else { Some(6) })
+    }
+
+    /// The parameters, and zeros up to twelve.
+    pub fn twelve(&self) -> [f64; 12] {
+        std::array::from_fn(|i| self.params.get(i).copied().unwrap_or(0.0))
+    }
+
+    /// The Rust's table.
+    pub fn built(&self) -> Built {
+        let notes = Rc::new(RefCell::new(Notes::default()));
+        let lens = Noting { model: self.model, params: self.twelve(), notes: notes.clone() };
+        let size = ImageSize { width: self.width, height: self.height };
+        let table = distort_table(&DynCameraF64 { lens: Box::new(lens), size });
+        let Notes { samples, cell_numbers } = notes.take();
+        let (lower, upper) = (table.region.try_lower().unwrap(), table.region.try_upper().unwrap());
+        let places = (0..self.height).flat_map(|v| (0..self.width).map(move |u| (u, v)));
+        let cells = places.flat_map(|(u, v)| table.table.pixel(u, v).0.map(f32::to_bits)).collect();
+        Built { samples, cells, region: [lower.x, lower.y, upper.x, upper.y], increments: table.incr().0, cell_numbers }
     }
 
     /// The whole listing by the Rust's table.
@@ -129,34 +173,23 @@ impl Asked {
         if let Some(number) = self.refused_at_once() {
             return refused(number);
         }
-        let notes = Rc::new(Cell::new(Notes::default()));
-        let params = std::array::from_fn(|i| self.params.get(i).copied().unwrap_or(0.0));
-        let lens = Noting { model: self.model, params, notes: notes.clone() };
-        let size = ImageSize { width: self.width, height: self.height };
-        let table = distort_table(&DynCameraF64 { lens: Box::new(lens), size });
-        let notes = notes.get();
-        let increments = table.incr().0;
-        if notes.border != 0 {
-            return refused(notes.border);
+        if self.width * self.height > 4096 {
+            return refused(6);
         }
-        if increments.iter().any(|&i| i.is_finite() && i <= 0.0) {
-            return refused(8);
+        let built = self.built();
+        let (_, number) = built.end();
+        if number != 0 {
+            return refused(number);
         }
-        if !finite(increments) {
-            return refused(11);
-        }
-        if notes.cell != 0 {
-            return refused(notes.cell);
-        }
-        let (lower, upper) = (table.region.try_lower().unwrap(), table.region.try_upper().unwrap());
-        let mut text = format!("table\t{}\t{}\t{}\nregion", self.width, self.height, notes.updates);
-        for edge in [lower.x, lower.y, upper.x, upper.y] {
+        let updates: u32 = built.samples.iter().map(|s| s.updates).sum();
+        let mut text = format!("table\t{}\t{}\t{}\nregion", self.width, self.height, updates);
+        for edge in built.region {
             write!(text, "\t{:016x}", edge.to_bits()).unwrap();
         }
         text += "\n";
-        for (v, u) in (0..self.height).flat_map(|v| (0..self.width).map(move |u| (v, u))) {
-            let cell = table.table.pixel(u, v);
-            writeln!(text, "cell\t{}\t{}\t{:08x}\t{:08x}", u, v, cell.x.to_bits(), cell.y.to_bits()).unwrap();
+        for (i, cell) in built.cells.chunks_exact(2).enumerate() {
+            let (u, v) = (i % self.width, i / self.width);
+            writeln!(text, "cell\t{}\t{}\t{:08x}\t{:08x}", u, v, cell[0], cell[1]).unwrap();
         }
         text
     }

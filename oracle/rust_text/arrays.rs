@@ -169,6 +169,7 @@ impl<A: Angles, const R: usize, const C: usize> IsMatrix<Num<A>, R, C, 1, 0, 0> 
         SMatrix(rows)
     }
     fn scaled(&self, factor: Num<A>) -> Self {
+        A::scaled(factor.0);
         SMatrix(self.0.map(|row| row.map(|entry| entry * factor)))
     }
     fn select(self, mask: &Mask<A>, other: Self) -> Self {

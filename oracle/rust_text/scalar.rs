@@ -20,6 +20,8 @@ pub trait Angles: Copy + Debug + 'static {
     fn judged(_truth: bool) {}
     /// One of two vectors was selected, the first if true: kb's answer near the axis, where its loop doesn't count.
     fn selected(_first: bool) {}
+    /// A matrix was scaled: bc's inverse, by 1 over its determinant, and nothing else.
+    fn scaled(_factor: f64) {}
 }
 
 pub trait IsMask {
