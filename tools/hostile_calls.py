@@ -1,5 +1,5 @@
-"""A hostile caller's part of test_camera_calls: every length from 0 to 300, every model number, and every kind of number
-that is none in every place.
+"""A hostile caller's part of test_camera_calls: every length from 0 to 300, every model number, every kind of number that
+is none in every place; and the functions of one number.
 
     python3 tools/hostile_calls.py   tests this script
 
@@ -10,9 +10,9 @@ import struct
 from collections import Counter
 
 import camera_lines
-from camera_lines import BY_BOTH, BY_HANDED, BY_LENT, BY_MODEL, FILL, HANDED, SIZES, TANGENT
-from camera_lines import call, heading, question, reply, tangent_call
-from lens_models import BY_PARAMS, BY_POINT, COUNTS, DISTORT, MODELS, OPERATIONS, UNDISTORT, bits
+from camera_lines import ARCTANGENT, BY_BOTH, BY_HANDED, BY_LENT, BY_MODEL, FILL, HANDED, ROOT, SIZES, TANGENT
+from camera_lines import call, heading, packed, question, reply, tangent_call
+from lens_models import BY_PARAMS, BY_POINT, COUNTS, DISTORT, MODELS, OPERATIONS, UNDISTORT, arctangent, bits, root
 
 TAILS = (
     (),
@@ -122,6 +122,15 @@ def tangents(part, angle):
     part.row("tangent", f"tangent of {angle:016x}: n bytes of answer", line, lambda n: tangent_call(theta, n))
 
 
+def one_number(part):
+    """The two functions that refuse nothing, at numbers of every kind."""
+    numbers = [bits(z) for z in (0.0, -0.0, 1.0, -1.0, 2.25, 1e-300, -1e-9, 0.4, -3.5, 1e300, 5e-324)] + [*PATTERNS]
+    for name, done, f in (("root", ROOT, root), ("arctangent", ARCTANGENT, arctangent)):
+        part.heading(f"{name} of numbers of every kind")
+        for number in numbers:
+            part.single(name, question(0, done, 0, 0, [], number, 0), (0, packed(f(of_bits(number)))))
+
+
 def made():
     part = Part()
     for operation in range(4):
@@ -130,6 +139,7 @@ def made():
             patterns(part, operation, model)
     for angle in ANGLES:
         tangents(part, angle)
+    one_number(part)
     said = part.said
     for name in OPERATIONS:
         assert all(said[name, number] for number in (0, 1, 3, 4, 5, 7, 11))

@@ -18,7 +18,7 @@ import sys
 import hostile_calls
 import list_calls
 import model_questions
-from camera_lines import BY_LENT, HANDED, LENT, LINE, OBSERVE, PUT, ROOT, heading, operation_question, question
+from camera_lines import ARCTANGENT, BY_LENT, HANDED, LENT, LINE, OBSERVE, PUT, ROOT, heading, operation_question, question
 from lens_models import AFFINE, DISTORT, bits
 
 CRATE = pathlib.Path(__file__).resolve().parent.parent / "crates" / "test_camera_calls"
@@ -40,7 +40,7 @@ def no_calls():
     bad = [" " * (LINE - 1), "\t" * (LINE - 1), good.replace("\t", " ")]
     bad += model_questions.misspelled(fields, fields[4])
     # what is done: the first number past the last, large ones, rows of what has no row, the first row past the last
-    for done in (PUT + 1, 2**32, 2**63, ROOT + BY_LENT, PUT + BY_LENT, 80):
+    for done in (ARCTANGENT + 1, 2**32, 2**63, ROOT + BY_LENT, PUT + BY_LENT, ARCTANGENT + BY_LENT, 80):
         bad.append(question(AFFINE, done, 32, 16, NUMBERS, 0, 0))
     # more bytes than there are: handed over, lent, and before a list or in it
     for handed, lent in ((HANDED + 1, 16), (2**64 - 1, 16), (32, LENT + 1), (32, 2**64 - 1)):

@@ -1,12 +1,13 @@
-// Calls what C calls of a camera: the four operations, the tangent, the root, and the list of observations, each
-// call or row of calls a line of the input. The gate runs this on the file stdin and holds what it writes to the
-// file stdout; tools/make_camera_calls.py makes both, and joins to its own questions a sample of the oracle's.
+// Calls what C calls of a camera: the four operations, the list of observations, and the functions of one number,
+// each call or row of calls a line of the input. The gate runs this on the file stdin and holds what it writes to
+// the file stdout; tools/make_camera_calls.py makes both, and joins to its own questions a sample of the oracle's.
 //
 // A line has 18 fields with tabs between, each of 16 lower-case hexadecimal digits: the model; what is done; how
 // many bytes of parameters are handed over, at most 304, and how many are lent, at most 4,000; twelve words, which
 // are the parameters' bit patterns; x and y. What is done:
 //
-//   0 to 3  the four operations, as in lens_c's header    4  the root of x    5  the tangent of x
+//   0 to 3  the four operations, as in lens_c's header
+//   4       the root of x, 5 its tangent, 8 its arctangent
 //   6       the list of observations that starts at the byte of the lent ones that x counts
 //   7       the twelve words are put there, to stay. This has no answer
 //
@@ -230,9 +231,10 @@ fn refuse() {
     say(b"bad\n");
 }
 
-fn answer_root(q: &[u64; FIELDS]) {
+// Answers with the f64 that a function of one number gives: it refuses none.
+fn answer_float(x: f64) {
     say(b"0");
-    say_word(exact::to_bits(lens_c::lens_root(exact::of_bits(q[16]))));
+    say_word(exact::to_bits(x));
     say(b"\n");
 }
 
@@ -247,8 +249,11 @@ fn put_list(q: &[u64; FIELDS], lent: &mut [u8; LENT]) {
 // Does what a line says.
 fn answer_question(q: &[u64; FIELDS], lent: &mut [u8; LENT]) {
     let done = q[1];
+    let x = exact::of_bits(q[16]);
     if done == 4 {
-        answer_root(q);
+        answer_float(lens_c::lens_root(x));
+    } else if done == 8 {
+        answer_float(lens_c::lens_arctangent(x));
     } else if done == 7 {
         put_list(q, lent);
     } else if done < 80 && done % 16 < 7 && done % 16 != 4 {
