@@ -19,7 +19,7 @@ import sys
 from lens_models import AFFINE, BC, COUNTS, EUCM, KB
 from lens_tables import FINISHED, fresh, total, turn
 from make_leaf_vectors import value
-from make_model_vectors import BC_EXAMPLE, spelled
+from model_questions import BC_EXAMPLE, spelled
 from make_head_calls import JOBS
 from make_table_vectors import LISTING
 

@@ -28,7 +28,7 @@ from collections import Counter
 from fractions import Fraction
 
 from make_leaf_vectors import INF, LARGEST, NAN, SIGN, Splitmix, nearest, parts, value
-from make_model_vectors import pattern
+from model_questions import pattern
 
 FOLDER = pathlib.Path(__file__).resolve().parent.parent / "crates" / "test_table_lookups"
 PLACES = 24  # of a table at most

@@ -64,8 +64,8 @@ from lens_tables import (
 )
 from make_leaf_vectors import INF, NANS, SIGN, Splitmix, value
 from make_leaf_vectors import narrow as exact_narrow
-from make_model_vectors import BC_EXAMPLE, misspelled, number_of, pattern, sized, spelled, uniform
-from make_model_vectors import unit as plain
+from model_questions import BC_EXAMPLE, misspelled, number_of, pattern, sized, spelled, uniform
+from model_questions import unit as plain
 
 FOLDER = pathlib.Path(__file__).resolve().parent.parent / "crates" / "test_table_vectors"
 ROOM = 3072  # cells that the program's table has room for

@@ -1,5 +1,5 @@
 """Every refusal that a call with one point can meet, at its edge: the last input that is answered, and next to it the
-first that is refused. Questions for make_model_vectors.py; the edges of the tangent itself are in make_angle_vectors.py.
+first that is refused. Questions for model_questions.py; the edges of the tangent itself are in make_angle_vectors.py.
 
     python3 tools/refusal_edges.py   lists the edges for a person to read, a line each
 

@@ -58,7 +58,8 @@ built-by-turns κ a r s post zero table allowances last calls =
     let plan = f32-table (camera-of model params) (a .1 .1 .0) (a .1 .1 .1 .0) in
     let start : List ℕ → HeldBytes = λ bs. record { job = bs; cells = table } in
     subst
-    (λ (bs : List ℕ). (c : Build HeldBytes Turned allowances (start bs) last) → Built plan table (allowed bytes-plan bytes-state allowances (start bs) last c) (bytes-state last))
+    (λ (bs : List ℕ). (c : Build HeldBytes Turned allowances (start bs) last)
+    → Built plan table (allowed bytes-plan bytes-state allowances (start bs) last c) (bytes-state last))
     (sym (e .1))
     (built-by-bytes Turned by-contract model params (a .1 .1 .0) (a .1 .1 .1 .0) (now (a .1 .1 .1 .1 .0)) (sym (e .0) ∙ zero) table allowances last)
     calls

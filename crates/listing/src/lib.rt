@@ -23,7 +23,8 @@ fn down(width: usize, u: usize, v: usize) -> usize
 // Puts the lines of a table's cells row by row, up to the first that does not fit, and answers the place behind the
 // last one put.
 pub fn cells(out: &mut [u8], at: usize, table: &[f32], width: usize, height: usize) -> usize
-    ensures { λ r. ⌜ written (now (out .exit)) r ≡ placed-all (written (now (out .entry)) at) (cell-lines width height 0 0 (now (table .entry))) ⌝ }
+    ensures { λ r. ⌜ written (now (out .exit)) r ≡
+        placed-all (written (now (out .entry)) at) (cell-lines width height 0 0 (now (table .entry))) ⌝ }
 {
     let mut next = at;
     let mut u = 0;
@@ -56,7 +57,8 @@ pub fn write_listing(
     region: Region,
     table: &[f32],
 ) -> usize
-    ensures { λ r. ⌜ written (now (out .exit)) r ≡ placed-all (written (now (out .entry)) at) (listing-lines width height updates region (now (table .entry))) ⌝ }
+    ensures { λ r. ⌜ written (now (out .exit)) r ≡
+        placed-all (written (now (out .entry)) at) (listing-lines width height updates region (now (table .entry))) ⌝ }
 {
     let first = listing_lines::table_line(out, at, width, height, updates);
     if first == at {

@@ -40,7 +40,9 @@ listed number list = record { number = number; list = list }
 
 -- 0 with every record observed, or the camera's number with the list as it was
 abbrev pub observe-all : Camera → List Observation → Listed
-observe-all camera list = let number = refusal-of camera in listed number (cond (eqb number 0) (map (observed camera) list) list)
+observe-all camera list =
+    let number = refusal-of camera in
+    listed number (cond (eqb number 0) (map (observed camera) list) list)
 
 -- ---- the same for a camera that is judged once, ahead of the list: what the code's parts work out
 

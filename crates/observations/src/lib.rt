@@ -1,4 +1,5 @@
-// A list of observations, undistorted by one camera. The camera is judged once, and then each record by itself: a refused record does not stop the next.
+// A list of observations, undistorted by one camera. The camera is judged once, and then each record by itself: a
+// refused record does not stop the next.
 ghost use mathlib.Core.Path.{_≡_};
 ghost use Rattle.lens.specs.Undistorted.{told};
 ghost use Rattle.observations.specs.Observations.{refusal-of, rounds, beside, found, seen, listed, observe-all};

@@ -15,11 +15,15 @@ use Rattle.params_line.proofs.many.Reads as many-contract
 -- ---- reading and writing
 
 -- A params line that is written and read gives the same patterns.
-pub params-written : (params : List ℕ) → 1 ≤ length params → all pattern params ≡ true → (is-params (params-line params) ≡ true) × (params-of (params-line params) ≡ params)
+pub params-written :
+    (params : List ℕ) → 1 ≤ length params → all pattern params ≡ true
+    → (is-params (params-line params) ≡ true) × (params-of (params-line params) ≡ params)
 params-written = params-there
 
 -- A text that is read as a params line is what is written of its patterns, of which there is one or more, each of an f64.
-pub params-read : (line : List ℕ) → is-params line ≡ true → (line ≡ params-line (params-of line)) × (1 ≤ length (params-of line)) × (all pattern (params-of line) ≡ true)
+pub params-read :
+    (line : List ℕ) → is-params line ≡ true
+    → (line ≡ params-line (params-of line)) × (1 ≤ length (params-of line)) × (all pattern (params-of line) ≡ true)
 params-read line e = (params-back line e, params-some line e, params-patterns line e)
 
 -- ---- each contract permits one answer

@@ -29,14 +29,16 @@ pub const OUTPUT: usize = 139264;
 
 // The one line of a refusal.
 fn refuse(out: &mut [u8], refusal: Refusal) -> usize
-    ensures { λ r. ⌜ written (now (out .exit)) r ≡ placed-all (written (now (out .entry)) 0) (refused-line (number refusal) ∷ []) ⌝ }
+    ensures { λ r. ⌜ written (now (out .exit)) r ≡
+        placed-all (written (now (out .entry)) 0) (refused-line (number refusal) ∷ []) ⌝ }
 {
     listing_lines::refused_line(out, 0, refusal)
 }
 
 // The lines of a table that is done, or of the refusal that ended it.
 fn show(out: &mut [u8], turned: Turned, table: &[f32]) -> usize
-    ensures { λ r. ⌜ written (now (out .exit)) r ≡ placed-all (written (now (out .entry)) 0) (shown (told-turned turned (now (table .entry)))) ⌝ }
+    ensures { λ r. ⌜ written (now (out .exit)) r ≡
+        placed-all (written (now (out .entry)) 0) (shown (told-turned turned (now (table .entry)))) ⌝ }
 {
     let status = turned.status;
     let job = turned.job;
@@ -60,7 +62,8 @@ fn show(out: &mut [u8], turned: Turned, table: &[f32]) -> usize
 // The table into the first n numbers of the room.
 fn fill(room: &mut [f32], n: usize, camera: Camera, width: usize, height: usize) -> Turned
     requires { ⌜ n ≤ length (now room) ⌝ }
-    ensures { λ r. ⌜ told-turned r (take n (now (room .exit))) ≡ whole-table camera width height (take n (now (room .entry))) ⌝ }
+    ensures { λ r. ⌜ told-turned r (take n (now (room .exit))) ≡
+        whole-table camera width height (take n (now (room .entry))) ⌝ }
     ensures { λ r. ⌜ length (now (room .exit)) ≡ length (now (room .entry)) ⌝ }
 {
     distortion_table::distort_table(camera, width, height, &mut room[..n])
@@ -76,7 +79,10 @@ fn build(
     height: usize,
 ) -> usize
     requires { ⌜ n ≤ length (now room) ⌝ }
-    ensures { λ r. ⌜ written (now (out .exit)) r ≡ placed-all (written (now (out .entry)) 0) (shown (whole-table camera width height (take n (now (room .entry))))) ⌝ }
+    ensures { λ r. ⌜ written (now (out .exit)) r ≡
+        placed-all
+        (written (now (out .entry)) 0)
+        (shown (whole-table camera width height (take n (now (room .entry))))) ⌝ }
 {
     let turned = fill(room, n, camera, width, height);
     show(out, turned, &room[..n])
@@ -85,7 +91,8 @@ fn build(
 // A table of a size that is taken: 6 for one with too many cells.
 fn print_sized(out: &mut [u8], camera: Camera, width: usize, height: usize) -> usize
     requires { ⌜ Sized width height ⌝ }
-    ensures { λ r. ⌜ written (now (out .exit)) r ≡ placed-all (written (now (out .entry)) 0) (sized-lines camera width height) ⌝ }
+    ensures { λ r. ⌜ written (now (out .exit)) r ≡
+        placed-all (written (now (out .entry)) 0) (sized-lines camera width height) ⌝ }
 {
     if CELLS < width * height {
         return refuse(out, Refusal::WrongSize);
@@ -96,7 +103,8 @@ fn print_sized(out: &mut [u8], camera: Camera, width: usize, height: usize) -> u
 
 // 4, 5, 6, and then the table.
 fn print_table(out: &mut [u8], camera: Camera, width: usize, height: usize) -> usize
-    ensures { λ r. ⌜ written (now (out .exit)) r ≡ placed-all (written (now (out .entry)) 0) (table-lines camera width height) ⌝ }
+    ensures { λ r. ⌜ written (now (out .exit)) r ≡
+        placed-all (written (now (out .entry)) 0) (table-lines camera width height) ⌝ }
 {
     match job::fresh(camera, width, height) {
         Started::Refused(refusal) => refuse(out, refusal),
@@ -106,7 +114,8 @@ fn print_table(out: &mut [u8], camera: Camera, width: usize, height: usize) -> u
 
 // 14, 1, 3, and then what the file asks for: line by line, up to the first line that does not fit.
 fn print_lines(input: &[u8], out: &mut [u8]) -> usize
-    ensures { λ r. ⌜ written (now (out .exit)) r ≡ placed-all (written (now (out .entry)) 0) (printed-lines (now (input .entry))) ⌝ }
+    ensures { λ r. ⌜ written (now (out .exit)) r ≡
+        placed-all (written (now (out .entry)) 0) (printed-lines (now (input .entry))) ⌝ }
 {
     match camera_file::parse(input) {
         Parsed::Refused(refusal) => refuse(out, refusal),

@@ -1,11 +1,12 @@
-// Looks points up in lens tables, as outside vectors ask, which tools/make_table_lookups.py makes: first the table of the rules' example, at its edges and with every
-// refusal, which the script lists for a person to read; then tables of every kind. The gate runs this on the file stdin, and holds what it writes to the file stdout,
-// which that script makes too.
+// Looks points up in lens tables, as outside vectors ask: first the table of the rules' example, at its edges and
+// with every refusal, which the script lists for a person to read; then tables of every kind. The gate runs this on
+// the file stdin, and holds what it writes to the file stdout; tools/make_table_lookups.py makes both.
 //
-// A line of the input has 33 fields with tabs between, each of 16 lower-case hexadecimal digits: width, height, how many places the table has, and then bit patterns
-// of f64s: the region's four edges, the point's two coordinates, and 24 numbers that are f32s, of which the table has as many as it has places. The answer is 0, u
-// and v with tabs between, or the refusal's number. A line that is not of that form, or has more than 24 places, is answered by `bad`. The last line says how many
-// were answered.
+// A line of the input has 33 fields with tabs between, each of 16 lower-case hexadecimal digits: width, height, how
+// many places the table has, and then bit patterns of f64s: the region's four edges, the point's two coordinates,
+// and 24 numbers that are f32s, of which the table has as many as it has places. The answer is 0, u and v with tabs
+// between, or the refusal's number. A line that is not of that form, or has more than 24 places, is answered by
+// `bad`. The last line says how many were answered.
 use lens::Distorted;
 use lens::Point;
 use libc::STDIN_FILENO;
