@@ -32,10 +32,10 @@ loop-less : tie.Need-loop-less Inv-loop μ-loop
 loop-less c = omega arith
 
 loop-again : tie.Need-loop-again Inv-loop μ-loop
-loop-again c = next-word _ _ _ _ _ (c .before .before .before .loop .inv) (c .before .before .loop-test .taken) (c .before .word .ensures) (c .wrapping-add-u64 .ensures)
+loop-again c = next-word _ _ _ _ _ (c .before .before .before .loop .inv) (omega (arith, c .before .before .loop-test .taken)) (c .before .word .ensures) (c .wrapping-add-u64 .ensures)
 
 returns : tie.Need-returns Inv-loop μ-loop
-returns c = every-word _ _ _ (c .before .loop .inv) (c .loop-test .left)
+returns c = every-word _ _ _ (c .before .loop .inv) (omega (arith, c .loop-test .left))
 
 pub check-word-spec : {M : Type 1} → statement M
 check-word-spec =
