@@ -734,10 +734,14 @@ def wrong_check_words(head):
         assert head.turn(1, 12) == (13, ["kept"] * 3)
     head.lends(good)
     assert head.turn(1, 12)[0] == 0
-    # what the sum does not show: two words that differ by as much, one up and one down, or that change places
-    head.heading("turn: the same with two words changed by as much, one up and one down, and with two words exchanged: taken")
-    words = struct.unpack("<24Q", good)
-    for i, j, new_i, new_j in ((5, 6, words[5] + 1, words[6] - 1), (3, 4, words[4], words[3])):
+    # what the sum does not show: changes of two words that come to 0
+    head.heading("turn: the same with k0 a bit pattern up and k1 one down, with cx and cy exchanged, with both their signs flipped: taken")
+    words, sign = struct.unpack("<24Q", good), 1 << 63
+    for i, j, new_i, new_j in (
+        (5, 6, words[5] + 1, words[6] - 1),
+        (3, 4, words[4], words[3]),
+        (3, 4, words[3] ^ sign, words[4] ^ sign),
+    ):
         head.lends(struct.pack("<24Q", *(new_i if k == i else new_j if k == j else z for k, z in enumerate(words))))
         assert head.turn(1, 12)[0] == 0
 

@@ -88,10 +88,14 @@ one-word-caught a b ra rb k apart ia = by-test (intact b) refl
     by-test true e = absurd (apart .other (both-intact a b ra rb k (apart .same) ia e))
     by-test false e = refl
 
--- So does damage of one byte, whichever bits of it: of two records' bytes that differ at one place only, at most one is intact.
+-- A byte is in one word: what is said of a damaged word holds of a damaged byte.
+pub byte-in-word : (place : ℕ) (a b : List ℕ) → ByteApart place a b → WordApart (place / 8) a b
+byte-in-word = in-a-word
+
+-- So damage of one byte shows, whichever bits of it: of two records' bytes that differ at one place only, at most one is intact.
 pub one-byte-caught :
     (a b : List ℕ) → RecordBytes a → RecordBytes b → (place : ℕ) → ByteApart place a b → intact a ≡ true → intact b ≡ false
-one-byte-caught a b ra rb place apart = one-word-caught a b ra rb (place / 8) (in-a-word place a b apart)
+one-byte-caught a b ra rb place apart = one-word-caught a b ra rb (place / 8) (byte-in-word place a b apart)
 
 -- ---- a fresh record
 
