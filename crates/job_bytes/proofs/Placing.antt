@@ -6,7 +6,7 @@ use native.Mathlib.Omega.{arith}
 use borrow.Author.Tests.{le-leb}
 use lib.Ieee.{Float, binary64, toBits}
 use lib.ListN.{length, take, drop, replicate, length-append, length-drop}
-use lib.Seq.{length-take-le, drop-nil, drop-append-le, drop-append-add}
+use lib.Seq.{length-take-le, take-append-add, drop-nil, drop-append-le, drop-append-add}
 use Rattle.lens.specs.Constants.{zeros}
 use Rattle.little_endian.specs.Bytes.{bytes, floats, put}
 use Rattle.little_endian.proofs.Laws.{length-bytes, length-floats, length-put, not-put, kept-before, put-put}
@@ -233,13 +233,17 @@ module _ (job : Job) where
     pub check-put :
         (check : ℕ) (x₇ x₈ : List ℕ) →
         x₇ ≡ put 0 (body job) lent →
-        check ≡ check-of x₇ →
+        check ≡ check-of (take record-length x₇) →
         x₈ ≡ put 184 (bytes 8 check) x₇ →
         x₈ ≡ put 0 (record-bytes job) lent
     unfolding record-bytes
     check-put check x₇ x₈ e c f =
-        let end : 0 + length (body job) ≡ 184 = omega (arith, long₇) in
-        let is : x₇ ≡ body job ++ drop 184 lent = e ∙ laid 0 (body job) lent (omega (arith, end, room)) ∙ ap (λ (k : ℕ). body job ++ drop k lent) end in
-        let same : check ≡ check-of (body job) = c ∙ ap check-of is ∙ check-behind (body job) (drop 184 lent) long₇ in
+        let rest : List ℕ = drop (0 + length (body job)) lent in
+        let end : record-length ≡ length (body job) + 8 = omega (arith, long₇) in
+        let front : take record-length x₇ ≡ body job ++ take 8 rest =
+        ap (take record-length) (e ∙ laid 0 (body job) lent (omega (arith, long₇, room)))
+        ∙ ap (λ (k : ℕ). take k (body job ++ rest)) end
+        ∙ take-append-add (body job) rest 8 in
+        let same : check ≡ check-of (body job) = c ∙ ap check-of front ∙ check-behind (body job) (take 8 rest) long₇ in
         behind (body job) part₈ x₇ x₈ 184 8 long₇ (length-bytes 8 (check-of (body job))) (omega arith) e
         (f ∙ ap (λ (w : ℕ). put 184 (bytes 8 w) x₇) same)
