@@ -30,8 +30,8 @@ FOLDER = pathlib.Path(__file__).resolve().parent.parent / "crates" / "test_head_
 FIELDS, LINE = 12, 204
 BYTES, NUMBERS = 512, 64  # of a buffer, of the table
 FILL, BEFORE = 0xA5, struct.unpack("<I", struct.pack("<f", 12345.0))[0]
-JOB, ANSWER, PIXEL, BOX_BYTES, OBSERVATION = 184, 32, 16, 32, 40
-REFILL, PUT_READ, PUT_LENT, PUT_TABLE, JOB_NEW, TURN, OBSERVE, LOOKUP = range(8)
+JOB, CHECK, ANSWER, PIXEL, BOX_BYTES, OBSERVATION = 192, 184, 32, 16, 32, 40
+REFILL, PUT_READ, PUT_LENT, PUT_TABLE, JOB_NEW, TURN, OBSERVE, LOOKUP, FLIPS = range(9)
 STATUS = {RUNNING: 0, FINISHED: 1, REFUSED: 2}
 NAN, INF = math.nan, math.inf
 LARGEST, LEAST = sys.float_info.max, 2.0**-1074
@@ -55,11 +55,21 @@ def widened(bits32):
     return struct.unpack("<f", struct.pack("<I", bits32))[0]
 
 
+def check_word(data):
+    """Of the words before it, the sum from LENSJOB1 on, modulo 2^64 (docs/RULES.md 21.3)."""
+    return (int.from_bytes(b"LENSJOB1", "little") + sum(struct.unpack_from("<23Q", data))) % 2**64
+
+
+def mended(data):
+    """Bytes of a record with the check word that is right for them."""
+    return data[:CHECK] + struct.pack("<Q", check_word(data))
+
+
 def record_bytes(job):
-    """The 184 bytes of a record (include/lens.h)."""
+    """The 192 bytes of a record (include/lens.h)."""
     model, params = job.camera
     twelve = [*params, *[0.0] * (12 - len(params))]
-    return (
+    return mended(
         struct.pack("<2I", model, job.updates)
         + doubles(*twelve)
         + struct.pack("<2IQ", job.width, job.height, job.done)
@@ -68,7 +78,7 @@ def record_bytes(job):
 
 
 def record_of(data):
-    """The record that 184 bytes hold, or None for a model that there is not."""
+    """The record that 192 bytes hold, or None for a model that there is not."""
     model, updates = struct.unpack_from("<2I", data, 0)
     if model > BC:
         return None
@@ -111,7 +121,8 @@ def turn_refused(data, table, room):
     if len(data) != JOB:
         return 7
     job = record_of(data)
-    return lowest(1 if job is None else call_refused(job, table), 7 if room != ANSWER else 0)
+    damaged = 13 if struct.unpack_from("<Q", data, CHECK)[0] != check_word(data) else 0
+    return lowest(1 if job is None else call_refused(job, table), damaged, 7 if room != ANSWER else 0)
 
 
 def turn_owed(data, table, allowance, lent):
@@ -228,6 +239,20 @@ class Head:
             self.table = cells + self.table[places:]
         return reply
 
+    def flips(self, allowance, places):
+        """A turn with each bit of the job flipped, from the lowest of the first byte on: the numbers that refuse them."""
+        self.line(FLIPS, 0, 0, 0, JOB, ANSWER, places, 0, 0, 0, 0, allowance)
+        numbers = []
+        for bit in range(8 * JOB):
+            flipped = int.from_bytes(self.lent[:JOB], "little") ^ (1 << bit)
+            given = flipped.to_bytes(JOB, "little"), self.table[:places], self.answer[:ANSWER]
+            number, *after = turn_owed(given[0], given[1], allowance, given[2])
+            assert number and tuple(after) == given, bit
+            self.reply("lens_turn", number, *((old, old, "") for old in given))
+            numbers.append(number)
+        self.owed.append(f"bits\t{8 * JOB}\n")
+        return numbers
+
     def observe(self, model, params, data, length=None):
         self.reads(params)
         self.lends(data)
@@ -298,7 +323,7 @@ def by_hand(head):
     for allowance, done, cells in ((14, 14, 0), (3, 17, 3), (1000, 20, 6)):
         assert head.turn(allowance, 12, stay=1)[0] == 0
         assert record_of(head.lent).done == done and head.table[:12].count(BEFORE) == 12 - 2 * cells
-    region = head.lent[152:JOB]
+    region = head.lent[152:CHECK]
     head.heading("by hand: lookup (1, 0.5), (4, 2.5), (4.5, 0) in it")
     for x, y, owed in ((1.0, 0.5, 0), (4.0, 2.5, 0), (4.5, 0.0, 9)):
         assert head.lookup(12, region, W, H, x, y) == (owed, ["kept" if owed else doubles(x, y).hex()])
@@ -565,7 +590,7 @@ CAMERAS = (
 )
 MODELS8, MODELS32 = (0, 1, 2, 3, 4, 5, 255), (0, 1, 2, 3, 4, 5, 255, 256, MAX32)
 SIZES = (0, 1, 2, 3, 4095, 4096, 4097, MAX32)
-PLACES = [*range(8, 104, 8), *range(120, 184, 8)]  # of a record's f64s
+PLACES = [*range(8, 104, 8), *range(120, CHECK, 8)]  # of a record's f64s
 
 
 def after_units(camera, done, w=W, h=H):
@@ -584,7 +609,7 @@ def subsets(faults):
 def hostile_turns(head):
     head.refill()
     good = after_units(CAMERAS[KB], 9)
-    for words, data in (("", record_bytes(good)), (", model 4", struct.pack("<I", 4) + record_bytes(good)[4:])):
+    for words, data in (("", record_bytes(good)), (", model 4", mended(struct.pack("<I", 4) + record_bytes(good)[4:]))):
         head.heading(f"turn: records of every length from 0 to 300{words}")
         head.lends(data)
         for n in range(301):
@@ -597,14 +622,14 @@ def hostile_turns(head):
         assert head.turn(1, n)[0] == (0 if n == 12 else 7)
     head.heading("turn: model numbers 0 to 5, 255, 256, 2^32 - 1, at 0 and at 9 units")
     for done, model in itertools.product((0, 9), MODELS32):
-        head.lends(struct.pack("<2I", model, 0) + record_bytes(after_units(CAMERAS[BC], done))[8:])
+        head.lends(mended(struct.pack("<2I", model, 0) + record_bytes(after_units(CAMERAS[BC], done))[8:]))
         assert (head.turn(1, 12)[0] == 1) == (model > 3)
     for done in (5, 17):
         for camera in CAMERAS:
             head.heading(f"turn: {NAMES[camera[0]]} after {done} units; NaN, infinity, -infinity, -0 at each f64's place")
             data = record_bytes(after_units(camera, done))
             for at, x in itertools.product(PLACES, ODD):
-                head.lends(poked(data, at, x))
+                head.lends(mended(poked(data, at, x)))
                 head.turn(1, 12)
 
 
@@ -632,19 +657,93 @@ def impossible_records(head):
 
 
 def several_faults_of_a_turn(head):
-    """Every set of faults. Bytes of another length hold no record, so 183 of them are 7 whatever stands there."""
+    """Every set of faults. Bytes of another length hold no record, so 191 of them are 7 whatever stands there."""
     head.refill()
-    head.heading("turn: every set of: model 4, fx NaN, fy 0, width 1, 11 numbers, 21 units, 31 bytes of answer, 183 of record")
+    head.heading("turn: every set of: model 4, fx NaN, fy 0, width 1, 11 numbers, 21 units, a wrong check word, 31 bytes of answer, 191 of record")
     good = after_units(CAMERAS[KB], 9)
-    for faults in subsets((1, 4, 5, 6, 7, 13, "answer", "record")):
+    for faults in subsets((1, 4, 5, 6, 7, 13, "check", "answer", "record")):
         data = record_bytes(replace(good, done=21 if 13 in faults else 9, width=1 if 6 in faults else 3))
         data = struct.pack("<I", 4 if 1 in faults else KB) + data[4:]
         data = poked(data, 8, NAN) if 4 in faults else data
-        head.lends(poked(data, 16, 0.0) if 5 in faults else data)
+        data = mended(poked(data, 16, 0.0) if 5 in faults else data)
+        head.lends(data[:CHECK] + bytes([data[CHECK] ^ 1]) + data[CHECK + 1 :] if "check" in faults else data)
         places = 11 if 7 in faults else 4 if 6 in faults else 12
         number, kept = head.turn(1, places, JOB - ("record" in faults), ANSWER - ("answer" in faults))
-        owed = 7 if "record" in faults else min([7 if f == "answer" else f for f in faults], default=0)
+        own = {"answer": 7, "check": 13}
+        owed = 7 if "record" in faults else min([own.get(f, f) for f in faults], default=0)
         assert number == owed and (not owed or kept == ["kept"] * 3), faults
+
+
+# ---- damaged jobs of the rules' table: the check word is the one that the job had
+
+
+def damaged(head, data, number):
+    """Bytes that are not quite those of the job that is lent, in a turn of 1 and one of 100. Then the job again."""
+    whole = head.lent[:JOB]
+    assert data != whole
+    head.lends(data)
+    for allowance in (1, ALL):
+        assert head.turn(allowance, 12) == (number, ["kept"] * 3)
+    head.lends(whole)
+
+
+def damaged_in_one_word(head, job):
+    """Zeros for each word in turn, where there are none. fx and fy are the words at 8 and 16, the size is the one at 104."""
+    head.heading("a job at 5 units with edges of -1e6 and 1e6; with zeros for a word of 8 bytes, each in turn; all zeros; all a5")
+    damaged(head, job[:120] + doubles(-1e6, -1e6, 1e6, 1e6) + job[152:], 13)
+    for at in range(0, JOB, 8):
+        if any(job[at : at + 8]):
+            damaged(head, job[:at] + bytes(8) + job[at + 8 :], {8: 5, 16: 5, 104: 6}.get(at, 13))
+    damaged(head, bytes(JOB), 5)
+    damaged(head, b"\xa5" * JOB, 1)
+
+
+def damaged_in_the_region(head, job):
+    head.heading("a job at 14 units with one bit of the region flipped: its left edge is -4 for -2")
+    other = poked(job, 152, -4.0)
+    assert struct.unpack_from("<d", job, 152) == (-2.0,)
+    assert bin(int.from_bytes(job, "little") ^ int.from_bytes(other, "little")).count("1") == 1
+    damaged(head, other, 13)
+
+
+def damaged_jobs(head):
+    """What is done to a job between two turns. All of it is refused, nothing is written, and the job itself goes on."""
+    started(head, CAMERA, W, H)
+    done = 0
+    for units in (5, 13, 14, 17):
+        assert head.turn(units - done, 12, stay=1)[0] == 0
+        done = units
+        if units == 5:
+            damaged_in_one_word(head, head.lent[:JOB])
+        if units == 14:
+            damaged_in_the_region(head, head.lent[:JOB])
+        head.heading(f"a job at {units} units with each of its 1536 bits flipped in turn; then the job itself")
+        assert set(head.flips(ALL, 12)) == {1, 4, 6, 7, 13}
+        assert head.turn(ALL, 12)[0] == 0
+
+
+def wrong_check_words(head):
+    """The check word alone: off by one, off by 2^63, as a sum that starts from 0, and that of another job."""
+    head.refill()
+    head.heading("turn: kb after 9 units with a wrong check word: 1 more, 1 less, 2^63 more, a sum from 0 on, the one of 8 units, zeros")
+    good, other = (record_bytes(after_units(CAMERAS[KB], done)) for done in (9, 8))
+    right = check_word(good)
+    wrong = (right + 1, right - 1, right + 2**63, right - check_word(bytes(CHECK)), check_word(other), 0)
+    for word in wrong:
+        head.lends(good[:CHECK] + struct.pack("<Q", word % 2**64))
+        assert head.turn(1, 12) == (13, ["kept"] * 3)
+    head.lends(good)
+    assert head.turn(1, 12)[0] == 0
+    # what the sum does not show: changes of two words that come to 0
+    head.heading("turn: the same with k0 a bit pattern up and k1 one down, with cx and cy exchanged, with both their signs flipped: taken")
+    words, sign = struct.unpack("<24Q", good), 1 << 63
+    for i, j, new_i, new_j in (
+        (5, 6, words[5] + 1, words[6] - 1),
+        (3, 4, words[4], words[3]),
+        (3, 4, words[3] ^ sign, words[4] ^ sign),
+    ):
+        head.lends(struct.pack("<24Q", *(new_i if k == i else new_j if k == j else z for k, z in enumerate(words))))
+        assert head.turn(1, 12)[0] == 0
 
 
 def random_records(head):
@@ -662,7 +761,7 @@ def random_records(head):
                 places = 2 * w * h
                 numbers = [(rng.below(4001) - 2000) / 2.0 ** rng.below(12) for _ in range(20)]
                 data = data[:8] + doubles(*numbers[:12]) + struct.pack("<2IQ", w, h, rng.below(total(w, h) + 1)) + doubles(*numbers[12:])
-            head.lends(data)
+            head.lends(mended(data))
             head.turn(1 + rng.below(60), places)
 
 
@@ -684,7 +783,7 @@ def hostile_jobs(head):
         assert head.job_new(other, params, 3, 2)[0] == (0 if other == BC else 3 if other < BC else 1)
     for w, h in itertools.product(SIZES, SIZES):
         assert head.job_new(model, params, w, h)[0] == (0 if 2 <= w <= 4096 and 2 <= h <= 4096 else 6)
-    head.heading("job_new: every set of: model 4, 95 bytes of parameters, cx NaN, fx -0, height 4097, 185 bytes of record")
+    head.heading("job_new: every set of: model 4, 95 bytes of parameters, cx NaN, fx -0, height 4097, 193 bytes of record")
     for faults in subsets((1, 3, 4, 5, 6, 7)):
         data = poked(params, 16, NAN) if 4 in faults else params
         data = poked(data, 0, -0.0) if 5 in faults else data
@@ -830,7 +929,7 @@ def builds(head):
 
 def no_calls(head):
     head.heading("lines that are no calls: an unknown function, an upper-case digit, a space for a tab, a line cut off")
-    head.line(8)
+    head.line(9)
     head.owed.append("bad\n")
     text = "\t".join(["000000000000000a", *["0" * 16] * 11]) + "\n"
     head.bad(text.replace("a", "A"))
@@ -850,6 +949,8 @@ def written():
         hostile_turns,
         impossible_records,
         several_faults_of_a_turn,
+        damaged_jobs,
+        wrong_check_words,
         random_records,
         hostile_jobs,
         hostile_lists,
@@ -885,10 +986,14 @@ def self_test():
     assert observe_owed(AFFINE, lens, observation(NAN, 8.0))[1][16:34] == bytes(17) + b"\4"
     assert observe_owed(4, b"", b"1") == (1, b"1") and observe_owed(AFFINE, lens, b"1") == (7, b"1")
     number, made = job_new_owed(AFFINE, lens, 3, 2, bytes(JOB))
-    assert number == 0 and made == bytes(8) + lens + bytes(64) + bytes([3, 0, 0, 0, 2, 0, 0, 0]) + bytes(72)
+    body = bytes(8) + lens + bytes(64) + bytes([3, 0, 0, 0, 2, 0, 0, 0]) + bytes(72)
+    # 2 is 4000000000000000, 4 is 4010000000000000, 1 is 3ff0000000000000; the size is 200000003
+    check = 0x31424F4A534E454C + 0x4000000000000000 + 0x4010000000000000 + 0x3FF0000000000000 + 0x200000003
+    assert number == 0 and made == body + check.to_bytes(8, "little")
+    assert check_word(bytes(184)) == 0x31424F4A534E454C and check_word(b"\xff" * 184) == 0x31424F4A534E454C - 23
     number, after, cells, said = turn_owed(made, [BEFORE] * 12, 1, bytes(ANSWER))
     assert (number, cells, said) == (0, [BEFORE] * 12, struct.pack("<4Q", 0, 1, 20, 0))
-    assert after[120:152] == doubles(-0.75, -0.125, -0.75, -0.125) and after[152:] == bytes(32)
+    assert after[120:152] == doubles(-0.75, -0.125, -0.75, -0.125) and after[152:184] == bytes(32)
     assert turn_owed(made, [BEFORE] * 11, 1, b"")[0] == 7 and turn_owed(made[1:], [], 1, b"")[0] == 7
     cells = [struct.unpack("<I", struct.pack("<f", z))[0] for z in LISTED_CELLS]
     assert lookup_owed(cells, doubles(*BOX), 3, 2, 0.25, 0.5, bytes(16)) == (0, doubles(0.25, 0.5))

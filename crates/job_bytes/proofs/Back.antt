@@ -1,7 +1,7 @@
 -- A record's bytes, read at each place. Assumes nothing.
 use mathlib.Core.Path.{_≡_, refl, sym, ap, ap₂, _∙_}
 use mathlib.Core.Bool.{Bool, true, false, cond}
-use mathlib.Core.List.{List, [], _∷_, _++_, append-nil, append-assoc}
+use mathlib.Core.List.{List, [], _∷_, _++_, append-assoc}
 use Prim.Native.Nat.{ℕ, zero, suc, _+_, _*_, _^_, _≤_, _<_}
 use native.Mathlib.Omega.{arith}
 use lib.Dec.{eqb, lit<}
@@ -23,8 +23,8 @@ use Rattle.camera.specs.declared.Camera.the-variants as cameras
 use Rattle.region_bytes.specs.Box.{box-at}
 use Rattle.camera_bytes.specs.Reading.{affine, enhanced-unified, kannala-brandt, brown-conrady, camera-of}
 use Rattle.job.specs.declared.Job.{Job}
-use Rattle.job_bytes.specs.Bytes.{model-number, twelve, job-at, record-bytes}
-use Rattle.job_bytes.proofs.Placing.{part₀, part₁, part₂, part₃, part₄, part₅, part₆, part₇, to₁, to₂, to₃, to₄, to₅, to₆, long₀, long₁, long₂, long₃, long₄, long₅, long₆, always-twelve}
+use Rattle.job_bytes.specs.Bytes.{model-number, twelve, job-at, body, record-bytes}
+use Rattle.job_bytes.proofs.Placing.{part₀, part₁, part₂, part₃, part₄, part₅, part₆, part₇, part₈, to₁, to₂, to₃, to₄, to₅, to₆, long₀, long₁, long₂, long₃, long₄, long₅, long₆, always-twelve}
 
 -- ---- numbers that are f64s
 
@@ -59,7 +59,7 @@ half-first : (w : ℕ) (l bs : List ℕ) (at : ℕ) → drop at bs ≡ bytes 4 w
 half-first w l bs at e h =
     ap (λ (m : List ℕ). value (take 4 m)) e ∙ ap value (take-at (bytes 4 w) l 4 (length-bytes 4 w)) ∙ value-bytes 4 w h
 
-word-first : (w : ℕ) (l bs : List ℕ) (at : ℕ) → drop at bs ≡ bytes 8 w ++ l → w < 2 ^ 64 → word bs at ≡ w
+pub word-first : (w : ℕ) (l bs : List ℕ) (at : ℕ) → drop at bs ≡ bytes 8 w ++ l → w < 2 ^ 64 → word bs at ≡ w
 word-first w l bs at e h =
     ap (λ (m : List ℕ). value (take 8 m)) e ∙ ap value (take-at (bytes 8 w) l 8 (length-bytes 8 w)) ∙ value-bytes 8 w h
 
@@ -110,8 +110,11 @@ module _ (job : Job) where
   abbrev bs : List ℕ
   bs = record-bytes job
 
+  abbrev from₇ : List ℕ
+  from₇ = part₇ job ++ part₈ job
+
   abbrev from₆ : List ℕ
-  from₆ = part₆ job ++ part₇ job
+  from₆ = part₆ job ++ from₇
 
   abbrev from₅ : List ℕ
   from₅ = part₅ job ++ from₆
@@ -128,9 +131,12 @@ module _ (job : Job) where
   abbrev from₁ : List ℕ
   from₁ = part₁ job ++ from₂
 
+  is₇ : bs ≡ to₆ job ++ from₇
+  unfolding record-bytes body
+  is₇ = append-assoc (to₆ job) (part₇ job) (part₈ job)
+
   is₆ : bs ≡ to₅ job ++ from₆
-  unfolding record-bytes
-  is₆ = append-assoc (to₅ job) (part₆ job) (part₇ job)
+  is₆ = is₇ ∙ append-assoc (to₅ job) (part₆ job) from₇
 
   is₅ : bs ≡ to₄ job ++ from₅
   is₅ = is₆ ∙ append-assoc (to₄ job) (part₅ job) from₆
@@ -165,9 +171,8 @@ module _ (job : Job) where
   at₆ : drop 120 bs ≡ from₆
   at₆ = ap (drop 120) is₆ ∙ drop-at (to₅ job) from₆ 120 (long₅ job)
 
-  at₇ : drop 152 bs ≡ part₇ job ++ []
-  unfolding record-bytes
-  at₇ = drop-at (to₆ job) (part₇ job) 152 (long₆ job) ∙ sym (append-nil (part₇ job))
+  at₇ : drop 152 bs ≡ from₇
+  at₇ = ap (drop 152) is₇ ∙ drop-at (to₆ job) from₇ 152 (long₆ job)
 
   pub model-back : half bs 0 ≡ model-number (job .camera)
   model-back = half-first (model-number (job .camera)) from₁ bs 0 is₁ (omega (arith, model-known (job .camera)))
@@ -200,6 +205,6 @@ module _ (job : Job) where
       let eh : half bs 108 ≡ job .height = half-first (job .height) from₅ bs 108 at₄ h in
       let eu : half bs 4 ≡ job .at .updates = half-first (job .at .updates) from₂ bs 4 at₁ u in
       let ed : word bs 112 ≡ job .at .done = word-first (job .at .done) from₆ bs 112 at₅ d in
-      let ee : box-at bs 120 ≡ job .at .edges = box-back (job .at .edges) (part₇ job) bs 120 at₆ fe in
-      let er : box-at bs 152 ≡ job .at .region = box-back (job .at .region) [] bs 152 at₇ fr in
+      let ee : box-at bs 120 ≡ job .at .edges = box-back (job .at .edges) from₇ bs 120 at₆ fe in
+      let er : box-at bs 152 ≡ job .at .region = box-back (job .at .region) (part₈ job) bs 152 at₇ fr in
       same-job (camera-of (half bs 0) (drop 8 bs)) (half bs 104) (half bs 108) (word bs 112) (half bs 4) (box-at bs 120) (box-at bs 152) c ew eh ed eu ee er

@@ -1,7 +1,8 @@
 -- What a caller may rely on, of the definitions of specs/ and of the contracts of src/. Assumes nothing.
 use mathlib.Core.Path.{_≡_, refl, sym, ap, _∙_}
+use mathlib.Core.Bool.{Bool, true, false}
 use mathlib.Core.List.{List}
-use Prim.Native.Nat.{ℕ, _^_, _<_}
+use Prim.Native.Nat.{ℕ, _/_, _^_, _<_}
 use native.Mathlib.Omega.{arith}
 use denote.Ref.{now}
 use lib.Ieee.{binary64}
@@ -23,20 +24,23 @@ use Rattle.table_plans.proofs.Sound.{opened}
 use Rattle.job.specs.Job.{fresh-job}
 use Rattle.job.specs.declared.Job.{Job}
 use Rattle.job_bytes.specs.Bytes.{record-length, record-bytes, record-read, fresh-bytes}
+use Rattle.job_bytes.specs.Check.{intact, RecordBytes, WordApart, ByteApart}
 use Rattle.job_bytes.specs.declared.Found.the-variants.{Of}
 use Rattle.job_bytes.proofs.Reading.{read-job}
 use Rattle.job_bytes.proofs.Placing as placing
 use Rattle.job_bytes.proofs.Back.{camera-fits, model-known, model-back, job-back}
 use Rattle.job_bytes.proofs.Beginning.{fresh-zero}
+use Rattle.job_bytes.proofs.Caught.{both-intact, record-of-bytes, its-check, in-a-word}
 use Rattle.job_bytes.proofs.read.Reads as read-contract
+use Rattle.job_bytes.proofs.intact.Reads as intact-contract
 use Rattle.job_bytes.proofs.write.Reads as write-contract
 use Rattle.job_bytes.proofs.fresh.Reads as fresh-contract
 
 -- ---- each contract permits one answer, and one buffer
 
--- Any two answers to one call that the contract of `read` permits are equal.
-pub determined : Determined read-contract.Post
-determined = λ κ a s s' r r' p q. p ∙ sym q
+-- Any two answers to one call that the contract of `read` or of `intact` permits are equal.
+pub determined : Determined read-contract.Post × Determined intact-contract.Post
+determined = (λ κ a s s' r r' p q. p ∙ sym q, λ κ a s s' r r' p q. p ∙ sym q)
 
 -- Any two buffers that the contract of `write` permits after one call are equal, and any two numbers and buffers for `fresh`.
 pub determined-buffers : DeterminedWith write-contract.Post (λ κ s. now (s .1 .0)) × DeterminedWith fresh-contract.Post (λ κ s. now (s .1 .1 .1 .1 .0))
@@ -44,7 +48,7 @@ determined-buffers = (λ κ a s s' r r' p q. (refl, p ∙ sym q), λ κ a s s' r
 
 -- ---- there and back
 
--- A record has 184 bytes, whatever it holds.
+-- A record has 192 bytes, whatever it holds.
 pub length-record : (job : Job) → length (record-bytes job) ≡ record-length
 length-record = placing.length-record
 
@@ -63,6 +67,35 @@ pub written-read : (job : Job) → Writable job → record-read (record-bytes jo
 written-read job w =
     sym (read-job (record-bytes job) (length-record job) (omega (arith, model-back job, model-known (job .camera))))
     ∙ ap Of (job-back job (w .params) (w .edges) (w .region) (w .width) (w .height) (w .updates) (w .done))
+
+-- ---- the check word
+
+-- What is written is intact, whatever the record holds.
+pub written-intact : (job : Job) → intact (record-bytes job) ≡ true
+written-intact = its-check
+
+-- And it is 192 numbers below 256.
+pub written-bytes : (job : Job) → RecordBytes (record-bytes job)
+written-bytes = record-of-bytes
+
+-- Damage within one word of eight bytes shows: of two records' bytes that are the same outside one of their 24 words, and not
+-- the same, at most one is intact. The check word is one of the 24.
+pub one-word-caught :
+    (a b : List ℕ) → RecordBytes a → RecordBytes b → (k : ℕ) → WordApart k a b → intact a ≡ true → intact b ≡ false
+one-word-caught a b ra rb k apart ia = by-test (intact b) refl
+  where
+    by-test : (t : Bool) → intact b ≡ t → t ≡ false
+    by-test true e = absurd (apart .other (both-intact a b ra rb k (apart .same) ia e))
+    by-test false e = refl
+
+-- A byte is in one word: what is said of a damaged word holds of a damaged byte.
+pub byte-in-word : (place : ℕ) (a b : List ℕ) → ByteApart place a b → WordApart (place / 8) a b
+byte-in-word = in-a-word
+
+-- So damage of one byte shows, whichever bits of it: of two records' bytes that differ at one place only, at most one is intact.
+pub one-byte-caught :
+    (a b : List ℕ) → RecordBytes a → RecordBytes b → (place : ℕ) → ByteApart place a b → intact a ≡ true → intact b ≡ false
+one-byte-caught a b ra rb place apart = one-word-caught a b ra rb (place / 8) (byte-in-word place a b apart)
 
 -- ---- a fresh record
 

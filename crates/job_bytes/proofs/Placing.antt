@@ -6,7 +6,7 @@ use native.Mathlib.Omega.{arith}
 use borrow.Author.Tests.{le-leb}
 use lib.Ieee.{Float, binary64, toBits}
 use lib.ListN.{length, take, drop, replicate, length-append, length-drop}
-use lib.Seq.{length-take-le, drop-nil, drop-append-le, drop-append-add}
+use lib.Seq.{length-take-le, take-append-add, drop-nil, drop-append-le, drop-append-add}
 use Rattle.lens.specs.Constants.{zeros}
 use Rattle.little_endian.specs.Bytes.{bytes, floats, put}
 use Rattle.little_endian.proofs.Laws.{length-bytes, length-floats, length-put, not-put, kept-before, put-put}
@@ -16,7 +16,9 @@ use Rattle.camera.specs.Camera.{parameters}
 use Rattle.camera.specs.declared.Camera.{Camera}
 use Rattle.camera.specs.declared.Camera.the-variants as cameras
 use Rattle.job.specs.declared.Job.{Job}
-use Rattle.job_bytes.specs.Bytes.{record-length, model-number, twelve, record-bytes}
+use Rattle.job_bytes.specs.Bytes.{record-length, model-number, twelve, body, record-bytes}
+use Rattle.job_bytes.specs.Check.{check-of}
+use Rattle.job_bytes.proofs.Summing.{check-behind}
 
 pub longer : (a b : List ℕ) (m n : ℕ) → length a ≡ m → length b ≡ n → length (a ++ b) ≡ m + n
 longer a b m n e f = omega (arith, length-append a b, e, f)
@@ -110,7 +112,7 @@ over-zeros camera lent x y room e f =
 pub room-kept : (at : ℕ) (new x y : List ℕ) → y ≡ put at new x → length y ≡ length x
 room-kept at new x y e = ap length e ∙ length-put at new x
 
--- ---- the eight parts of a record, and what stands before each
+-- ---- the nine parts of a record, and what stands before each
 
 module _ (job : Job) where
   abbrev pub part₀ : List ℕ
@@ -136,6 +138,10 @@ module _ (job : Job) where
 
   abbrev pub part₇ : List ℕ
   part₇ = floats (four (job .at .region))
+
+  -- the check word
+  abbrev pub part₈ : List ℕ
+  part₈ = bytes 8 (check-of (body job))
 
   abbrev pub to₁ : List ℕ
   to₁ = part₀ ++ part₁
@@ -176,9 +182,13 @@ module _ (job : Job) where
   pub long₆ : length to₆ ≡ 152
   long₆ = longer to₅ part₆ 120 32 long₅ (length-four (job .at .edges))
 
+  pub long₇ : length (body job) ≡ 184
+  unfolding body
+  long₇ = longer to₆ part₇ 152 32 long₆ (length-four (job .at .region))
+
   pub length-record : length (record-bytes job) ≡ record-length
   unfolding record-bytes
-  length-record = longer to₆ part₇ 152 32 long₆ (length-four (job .at .region))
+  length-record = longer (body job) part₈ 184 8 long₇ (length-bytes 8 (check-of (body job)))
 
   -- a buffer that is too short
   pub no-room : (lent : List ℕ) → length lent < record-length → lent ≡ put 0 (record-bytes job) lent
@@ -207,8 +217,8 @@ module _ (job : Job) where
         x₅ ≡ put 112 part₅ x₄ →
         x₆ ≡ put 120 part₆ x₅ →
         x₇ ≡ put 152 part₇ x₆ →
-        x₇ ≡ put 0 (record-bytes job) lent
-    unfolding record-bytes
+        x₇ ≡ put 0 (body job) lent
+    unfolding body
     all-put model x₀ x₁ x₂ x₃ x₄ x₅ x₆ x₇ m e₀ e₁ e₂ e₃ e₄ e₅ e₆ e₇ =
         let f₀ : x₀ ≡ put 0 part₀ lent = e₀ ∙ ap (λ (w : ℕ). put 0 (bytes 4 w) lent) m in
         let f₁ : x₁ ≡ put 0 to₁ lent = behind part₀ part₁ x₀ x₁ 4 4 long₀ (length-bytes 4 (job .at .updates)) (omega arith) f₀ e₁ in
@@ -218,3 +228,22 @@ module _ (job : Job) where
         let f₅ : x₅ ≡ put 0 to₅ lent = behind to₄ part₅ x₄ x₅ 112 8 long₄ (length-bytes 8 (job .at .done)) (omega arith) f₄ e₅ in
         let f₆ : x₆ ≡ put 0 to₆ lent = behind to₅ part₆ x₅ x₆ 120 32 long₅ (length-four (job .at .edges)) (omega arith) f₅ e₆ in
         behind to₆ part₇ x₆ x₇ 152 32 long₆ (length-four (job .at .region)) (omega arith) f₆ e₇
+
+    -- the check word is the one of what stands before it in the buffer
+    pub check-put :
+        (check : ℕ) (x₇ x₈ : List ℕ) →
+        x₇ ≡ put 0 (body job) lent →
+        check ≡ check-of (take record-length x₇) →
+        x₈ ≡ put 184 (bytes 8 check) x₇ →
+        x₈ ≡ put 0 (record-bytes job) lent
+    unfolding record-bytes
+    check-put check x₇ x₈ e c f =
+        let rest : List ℕ = drop (0 + length (body job)) lent in
+        let end : record-length ≡ length (body job) + 8 = omega (arith, long₇) in
+        let front : take record-length x₇ ≡ body job ++ take 8 rest =
+        ap (take record-length) (e ∙ laid 0 (body job) lent (omega (arith, long₇, room)))
+        ∙ ap (λ (k : ℕ). take k (body job ++ rest)) end
+        ∙ take-append-add (body job) rest 8 in
+        let same : check ≡ check-of (body job) = c ∙ ap check-of front ∙ check-behind (body job) (take 8 rest) long₇ in
+        behind (body job) part₈ x₇ x₈ 184 8 long₇ (length-bytes 8 (check-of (body job))) (omega arith) e
+        (f ∙ ap (λ (w : ℕ). put 184 (bytes 8 w) x₇) same)

@@ -1,8 +1,8 @@
--- The record of a table that is being built, as 184 bytes, and read back out of any bytes. Definitions only.
+-- The record of a table that is being built, as 192 bytes, and read back out of any bytes. Definitions only.
 --
 --     0  model, 4 bytes        104  width, 4 bytes       120  edges: left, top, right, bottom
 --     4  updates, 4 bytes      108  height, 4 bytes      152  region: left, top, right, bottom
---     8  twelve parameters     112  units done, 8 bytes
+--     8  twelve parameters     112  units done, 8 bytes  184  check word, 8 bytes (specs/Check)
 use mathlib.Core.Bool.{cond}
 use mathlib.Core.List.{List, [], _++_}
 use Prim.Native.Nat.{ℕ}
@@ -25,12 +25,13 @@ use Rattle.job.specs.declared.Job.{Job}
 use Rattle.job.specs.declared.Started.{Started}
 use Rattle.job.specs.declared.Started.the-variants as begun
 use Rattle.given.specs.Given.{Given, answered}
+use Rattle.job_bytes.specs.Check.{check-of}
 use Rattle.job_bytes.specs.declared.Found.{Found}
 use Rattle.job_bytes.specs.declared.Found.the-variants.{Of, Refused}
 
 -- how many bytes a record has
 abbrev pub record-length : ℕ
-record-length = 184
+record-length = 192
 
 abbrev pub model-number : Camera → ℕ
 model-number (cameras.Affine p) = 0
@@ -44,11 +45,15 @@ twelve camera = take 12 (parameters camera ++ replicate 12 zeros)
 
 -- ---- written
 
-unfoldable pub record-bytes : Job → List ℕ
-record-bytes job =
+-- all but the check word
+unfoldable pub body : Job → List ℕ
+body job =
     bytes 4 (model-number (job .camera)) ++ bytes 4 (job .at .updates) ++ floats (twelve (job .camera))
     ++ bytes 4 (job .width) ++ bytes 4 (job .height) ++ bytes 8 (job .at .done)
     ++ floats (four (job .at .edges)) ++ floats (four (job .at .region))
+
+unfoldable pub record-bytes : Job → List ℕ
+record-bytes job = body job ++ bytes 8 (check-of (body job))
 
 -- ---- read, each at its place
 
@@ -60,7 +65,7 @@ job-at bs = record {
   at = record { done = word bs 112; edges = box-at bs 120; region = box-at bs 152; updates = half bs 4 };
 }
 
--- 7 for bytes of another length, which have no places to read at; then 1
+-- 7 for bytes of another length, which have no places to read at; then 1. The turn judges the check word, after all else
 unfoldable pub record-read : List ℕ → Found
 record-read bs =
     cond (eqb (length bs) record-length)

@@ -1,4 +1,5 @@
-// The record of a table that is being built, as 184 bytes at fixed places: what C keeps between two turns.
+// The record of a table that is being built, as 192 bytes at fixed places: what C keeps between two turns. The
+// last eight are a check word over all others.
 ghost use mathlib.Core.Path.{_≡_};
 ghost use Prim.Native.Nat.{_≤_};
 ghost use lib.ListN.{length};
@@ -6,7 +7,8 @@ ghost use Rattle.little_endian.specs.Bytes.{half, floats, put};
 ghost use Rattle.camera.specs.Camera.{parameters};
 ghost use Rattle.given.specs.Given.{given, answered};
 ghost use Rattle.job.specs.Job.{told-started};
-ghost use Rattle.job_bytes.specs.Bytes.{record-length, model-number, twelve, job-at, record-bytes, record-read, started, give-started, fresh-bytes};
+ghost use Rattle.job_bytes.specs.Check.{check-of, intact};
+ghost use Rattle.job_bytes.specs.Bytes.{record-length, model-number, twelve, job-at, body, record-bytes, record-read, started, give-started, fresh-bytes};
 use camera::Camera;
 use camera_bytes::Asked;
 use job::Job;
@@ -15,7 +17,10 @@ use lens::Refusal;
 use plans::Progress;
 
 // How many bytes a record has.
-pub const LENGTH: usize = 184;
+pub const LENGTH: usize = 192;
+
+// What the check word's sum starts from: the bytes "LENSJOB1".
+const CHECK_START: u64 = 0x31424f4a534e454c;
 
 // The record that bytes hold, or why they hold none.
 pub enum Found {
@@ -41,7 +46,8 @@ fn job_at(bytes: &[u8], model: u8) -> Job
     }
 }
 
-// Any bytes at all are a record, once their length and model are right: which records no build can have is for the turn to say.
+// Any bytes at all are a record, once their length and model are right: which records no build can have, and which were
+// damaged, is for the turn to say.
 pub fn read(bytes: &[u8]) -> Found
     ensures { λ r. ⌜ r ≡ record-read (now (bytes .entry)) ⌝ }
 {
@@ -53,6 +59,26 @@ pub fn read(bytes: &[u8]) -> Found
         return Found::Refused(Refusal::UnknownModel);
     }
     Found::Of(job_at(bytes, model as u8))
+}
+
+// The check word of the 23 words that stand before it: their sum.
+fn check_word(bytes: &[u8]) -> u64
+    ensures { λ r. ⌜ r ≡ check-of (now (bytes .entry)) ⌝ }
+{
+    let mut sum = CHECK_START;
+    let mut i = 0;
+    while i < 23 {
+        sum = std::num::wrapping_add_u64(sum, little_endian::word(bytes, 8 * i));
+        i += 1;
+    }
+    sum
+}
+
+// Whether a record's check word is right. A record that isn't of the right length is not judged here.
+pub fn intact(bytes: &[u8]) -> bool
+    ensures { λ r. ⌜ r ≡ intact (now (bytes .entry)) ⌝ }
+{
+    little_endian::word(bytes, 184) == check_word(bytes)
 }
 
 // A camera's model by its number.
@@ -114,23 +140,34 @@ fn put_camera(camera: Camera, out: &mut [u8])
     put_parameters(camera, out);
 }
 
-// Writes a record at the buffer's start, if all of it fits. Else the buffer is left as it is.
+// All of a record but its check word.
+fn put_body(job: Job, out: &mut [u8])
+    requires { ⌜ record-length ≤ length (now out) ⌝ }
+    ensures { λ _. ⌜ now (out .exit) ≡ put 0 (body job) (now (out .entry)) ⌝ }
+{
+    let camera = job.camera;
+    let at = job.at;
+    let edges = at.edges;
+    let region = at.region;
+    little_endian::put(out, 0, 4, model_number(camera));
+    little_endian::put(out, 4, 4, at.updates as u64);
+    put_camera(camera, out);
+    little_endian::put(out, 104, 4, job.width as u64);
+    little_endian::put(out, 108, 4, job.height as u64);
+    little_endian::put(out, 112, 8, at.done as u64);
+    region_bytes::put_box(edges, 120, out);
+    region_bytes::put_box(region, 152, out);
+}
+
+// Writes a record at the buffer's start, if all of it fits. Else the buffer is left as it is. The sum is taken of a slice
+// whose length the compiler knows, so that it tests none of the words' places.
 pub fn write(job: Job, out: &mut [u8])
     ensures { λ _. ⌜ now (out .exit) ≡ put 0 (record-bytes job) (now (out .entry)) ⌝ }
 {
     if LENGTH <= out.len() {
-        let camera = job.camera;
-        let at = job.at;
-        let edges = at.edges;
-        let region = at.region;
-        little_endian::put(out, 0, 4, model_number(camera));
-        little_endian::put(out, 4, 4, at.updates as u64);
-        put_camera(camera, out);
-        little_endian::put(out, 104, 4, job.width as u64);
-        little_endian::put(out, 108, 4, job.height as u64);
-        little_endian::put(out, 112, 8, at.done as u64);
-        region_bytes::put_box(edges, 120, out);
-        region_bytes::put_box(region, 152, out);
+        put_body(job, out);
+        let check = check_word(&out[0..LENGTH]);
+        little_endian::put(out, 184, 8, check);
     }
 }
 
@@ -164,7 +201,7 @@ fn give_started(started: Started, out: &mut [u8]) -> u8
     }
 }
 
-// The bytes of a fresh record: 1, 3, 4, 5, 6, 7, or 0 and all 184 of them.
+// The bytes of a fresh record: 1, 3, 4, 5, 6, 7, or 0 and all 192 of them.
 pub fn fresh(model: u8, params: &[u8], width: u32, height: u32, out: &mut [u8]) -> u8
     ensures { λ r. ⌜ given r (now (out .exit)) ≡ fresh-bytes model (now (params .entry)) width height (now (out .entry)) ⌝ }
 {

@@ -114,7 +114,7 @@ pub extern "C" fn lens_observe(model: u8, params: &[u8], list: &mut [u8]) -> u8
     observation_bytes::observe(model, params, list)
 }
 
-// A fresh record of a table that is to be built, 184 bytes.
+// A fresh record of a table that is to be built, 192 bytes.
 #[no_mangle]
 pub extern "C" fn lens_job_new(
     model: u8,

@@ -8,15 +8,17 @@
 //   0  every byte becomes a5, every number of the table 12345
 //   1  words are put, eight bytes each, into the buffer to read from; 2: into the one to lend; 3: f64s that are f32s, into the table.
 //      Then the place of the first, how many (at most 8), and 8 words
-//   4  lens_job_new    5  lens_turn    6  lens_observe    7  lens_lookup
+//   4  lens_job_new    5  lens_turn    6  lens_observe    7  lens_lookup    8  lens_turn with each bit lent flipped in turn
 //      Then 1 if the bytes lent and the table that come back are to stay, 0 if all is to be as before the call; the model; how much is
 //      handed over: bytes to read, bytes lent, bytes for the answer, numbers of the table; width; height; x; y; the allowance
 //
 // A call is answered by a line: what is returned, and each buffer that the call may write, as it is after the call, or `kept` if
-// it is bit for bit as it was. A line that starts with # is a heading, written as it is; any other is answered by `bad`.
+// it is bit for bit as it was. For 8 that is a line for each bit of the bytes lent, from the lowest of the first byte on: one turn
+// with that bit flipped and no other; and then a line with how many there were. A line that starts with # is a heading, written as
+// it is; any other is answered by `bad`.
 use libc::STDIN_FILENO;
 use libc::STDOUT_FILENO;
-ghost use Prim.Native.Nat.{_≤_};
+ghost use Prim.Native.Nat.{_≤_, _<_};
 
 // The fields of a line, and its bytes: a field has 16 digits, and a tab or the line's end after them.
 const FIELDS: usize = 12;
@@ -31,6 +33,9 @@ const NUMBERS: usize = 64;
 const FILL: u8 = 0xa5;
 
 const BEFORE: f32 = 12345.0;
+
+// A byte's bits, the lowest first.
+const BITS: [u8; 8] = [1, 2, 4, 8, 16, 32, 64, 128];
 
 // What stands for a returned number where there was no call.
 const NO_CALL: u8 = 255;
@@ -242,6 +247,46 @@ fn turn(q: &[u64; FIELDS], lent: &mut [u8; BYTES], table: &mut [f32; NUMBERS]) {
     }
 }
 
+// A turn with one bit of the bytes lent flipped, over copies.
+fn turn_flipped(
+    q: &[u64; FIELDS],
+    at: usize,
+    bit: usize,
+    lent: &[u8; BYTES],
+    table: &[f32; NUMBERS],
+)
+    requires { ⌜ (at < 512) × (bit < 8) ⌝ }
+{
+    let mut damaged = *lent;
+    let mut cells = *table;
+    damaged[at] = damaged[at] ^ BITS[bit];
+    turn(q, &mut damaged, &mut cells);
+    say(b"\n");
+}
+
+// A turn with each bit of a byte flipped.
+fn turn_each_bit(q: &[u64; FIELDS], at: usize, lent: &[u8; BYTES], table: &[f32; NUMBERS])
+    requires { ⌜ at < 512 ⌝ }
+{
+    let mut bit = 0;
+    while bit < 8 {
+        turn_flipped(q, at, bit, lent, table);
+        bit += 1;
+    }
+}
+
+// The same for each byte that the line lends.
+fn turn_each_byte(q: &[u64; FIELDS], lent: &[u8; BYTES], table: &[f32; NUMBERS]) {
+    let count = at_most(q[4], BYTES);
+    let mut at = 0;
+    while at < count {
+        turn_each_bit(q, at, lent, table);
+        at += 1;
+    }
+    say(b"bits\t");
+    io::print_decimal(STDOUT_FILENO, 8 * count as u64);
+}
+
 fn lookup(q: &[u64; FIELDS], read: &[u8; BYTES], table: &[f32; NUMBERS]) {
     let before = [FILL; BYTES];
     let mut answer = [FILL; BYTES];
@@ -270,6 +315,7 @@ fn answer_question(
         4 | 6 => job_or_list(q, read, lent),
         5 => turn(q, lent, table),
         7 => lookup(q, read, table),
+        8 => turn_each_byte(q, lent, table),
         _ => say(b"bad"),
     }
     if 3 < q[0] {

@@ -6,7 +6,7 @@ use mathlib.Core.List.{List, _∷_, _++_, append-assoc}
 use Prim.Native.Nat.{ℕ, _*_, _^_, _≤_, _<_, min}
 use native.Mathlib.Nat.{mul-le-mul, min-le-right}
 use native.Mathlib.Omega.{arith}
-use borrow.Author.Tests.{eq-eqb, ne-eqb}
+use borrow.Author.Tests.{eq-eqb, ne-eqb, eqb-true}
 use lib.Dec.{eqb}
 use lib.Ieee.{Float}
 use lib.ListN.{length, take}
@@ -43,10 +43,11 @@ use Rattle.little_endian.specs.Bytes.{bytes, word, value}
 use Rattle.little_endian.proofs.Laws.{length-bytes, value-bytes}
 use Rattle.given.specs.Given.{code}
 use Rattle.job_bytes.specs.Bytes.{record-bytes, record-read, job-at}
+use Rattle.job_bytes.specs.Check.{intact}
 use Rattle.job_bytes.specs.declared.Found.{Found}
 use Rattle.job_bytes.specs.declared.Found.the-variants.{Of}
-use Rattle.job_bytes.proofs.Laws.{Writable, written-read}
-use Rattle.turn_bytes.specs.Turn.{Handed, handed, answer-length, before-units, status-number, answer-bytes, written, turn-bytes}
+use Rattle.job_bytes.proofs.Laws.{Writable, written-read, written-intact}
+use Rattle.turn_bytes.specs.Turn.{Handed, handed, checked, answer-length, before-units, status-number, answer-bytes, written, turn-bytes}
 use Rattle.turn_bytes.specs.Calls.{HeldBytes, bytes-plan, bytes-state, left, bytes-said}
 use Rattle.turn_bytes.proofs.Turning.{length-words, read-of, not-taken, taken}
 
@@ -101,11 +102,19 @@ module _ (job : Job) (w : Writable job) (cells : List Float) (a : ℕ) (lent : L
   abbrev turned : Turn (State Float)
   turned = turn (next (plan-of job)) a (state-of job cells)
 
-  own-number : before-units (record-read bs) cells lent ≡ verdict (admitted job (length cells))
+  whole-number : (n : ℕ) → checked true n ≡ n
+  whole-number n = go (eqb n 0) refl
+    where
+      go : (z : Bool) → eqb n 0 ≡ z → cond z 0 n ≡ n
+      go true e = sym (eqb-true n 0 e)
+      go false e = refl
+
+  own-number : before-units (record-read bs) (intact bs) cells lent ≡ verdict (admitted job (length cells))
   unfolding code
   own-number =
-      ap (λ (f : Found). before-units f cells lent) (written-read job w)
-      ∙ ap (code (verdict (admitted job (length cells)))) (eq-eqb (length lent) answer-length room)
+      ap₂ (λ (f : Found) (t : Bool). before-units f t cells lent) (written-read job w) (written-intact job)
+      ∙ ap (code (checked true (verdict (admitted job (length cells))))) (eq-eqb (length lent) answer-length room)
+      ∙ whole-number (verdict (admitted job (length cells)))
 
   as-job : turn-of (job-at bs) cells a ≡ turn-of job cells a
   as-job = ap (λ (j : Job). turn-of j cells a) (read-back job w)
@@ -113,8 +122,8 @@ module _ (job : Job) (w : Writable job) (cells : List Float) (a : ℕ) (lent : L
   refused-is : (r : Refusal) → admitted job (length cells) ≡ Refused r → after ≡ handed (number r) bs cells lent
   unfolding turn-bytes
   refused-is r e =
-      let n : before-units (record-read bs) cells lent ≡ number r = own-number ∙ ap verdict e in
-      not-taken bs cells lent (turn-of (job-at bs) cells a) (before-units (record-read bs) cells lent) (λ z. omega (arith, number-within r .0, n, z))
+      let n : before-units (record-read bs) (intact bs) cells lent ≡ number r = own-number ∙ ap verdict e in
+      not-taken bs cells lent (turn-of (job-at bs) cells a) (before-units (record-read bs) (intact bs) cells lent) (λ z. omega (arith, number-within r .0, n, z))
       ∙ ap (λ (k : ℕ). handed k bs cells lent) n
 
   module _ (e : admitted job (length cells) ≡ Taken) where
@@ -124,7 +133,7 @@ module _ (job : Job) (w : Writable job) (cells : List Float) (a : ℕ) (lent : L
     taken-is : after ≡ written (answer job turned)
     unfolding turn-bytes
     taken-is =
-        taken bs cells lent (turn-of (job-at bs) cells a) (before-units (record-read bs) cells lent) (own-number ∙ ap verdict e)
+        taken bs cells lent (turn-of (job-at bs) cells a) (before-units (record-read bs) (intact bs) cells lent) (own-number ∙ ap verdict e)
         ∙ ap written as-turned
 
     -- the record goes into bytes again

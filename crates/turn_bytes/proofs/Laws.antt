@@ -22,13 +22,14 @@ use Rattle.job.specs.declared.Job.{Job}
 use Rattle.distortion_table.specs.Answer.{plan-of, state-of, turn-of}
 use Rattle.distortion_table.proofs.Calls.{start-admitted}
 use Rattle.camera_bytes.specs.Reading.{camera-of}
-use Rattle.job_bytes.specs.Bytes.{record-read, job-at, fresh-bytes}
-use Rattle.job_bytes.proofs.Laws.{fresh-read, fresh-opens-zero}
+use Rattle.job_bytes.specs.Bytes.{record-bytes, record-read, job-at, fresh-bytes}
+use Rattle.job_bytes.specs.Check.{intact, RecordBytes, WordApart, ByteApart}
+use Rattle.job_bytes.proofs.Laws.{fresh-read, fresh-opens-zero, written-intact, written-bytes, one-word-caught, one-byte-caught}
 use Rattle.turn_bytes.specs.Turn.{Handed, handed, answer-length, before-units, written, turn-bytes}
-use Rattle.turn_bytes.specs.Calls.{HeldBytes, bytes-plan, bytes-state, left, bytes-said, call-numbers}
+use Rattle.turn_bytes.specs.Calls.{HeldBytes, bytes-plan, bytes-state, left, bytes-said, call-numbers, NotTaken}
 use Rattle.turn_bytes.proofs.Build.{Ready, ByTurnBytes, bytes-serve, Reports, admitted-reports}
-use Rattle.turn_bytes.proofs.Numbers.{before-so, taken-so}
-use Rattle.turn_bytes.proofs.Turning.{read-of, not-taken, taken}
+use Rattle.turn_bytes.proofs.Numbers.{before-so, own-taken, taken-so}
+use Rattle.turn_bytes.proofs.Turning.{read-of, none-before, not-taken, taken}
 use Rattle.turn_bytes.proofs.turn.Reads as turn-contract
 
 -- ---- the contract permits one answer
@@ -49,7 +50,7 @@ turn-determined κ a s s' r r' p q = all-handed (p ∙ sym q)
 
 module _ (bs : List ℕ) (cells : List Float) (allowance : ℕ) (lent : List ℕ) where
   abbrev before : ℕ
-  before = before-units (record-read bs) cells lent
+  before = before-units (record-read bs) (intact bs) cells lent
 
   abbrev after : Handed
   after = turn-bytes bs cells allowance lent
@@ -98,6 +99,81 @@ module _ (bs : List ℕ) (cells : List Float) (allowance : ℕ) (lent : List ℕ
       go false e =
           let u : after ≡ handed before bs cells lent = refused-untouched (eqb-false before 0 e) in
           (ap (λ (x : Handed). x .job) u, ap (λ (x : Handed). x .cells) u, ap (λ (x : Handed). x .answer) u)
+
+  -- where anything is wrong before any unit, that is the call's number
+  own-number : (before ≡ 0 → ⊥) → one-of (after .code) call-numbers ≡ true
+  own-number n =
+      ap (λ (x : Handed). one-of (x .code) call-numbers) (refused-untouched n)
+      ∙ by-each Own (0 ∷ call-numbers) before (before-so bs cells lent)
+      (λ h. absurd (h refl), (λ h. refl, (λ h. refl, (λ h. refl, (λ h. refl, (λ h. refl, (λ h. refl, tt)))))))
+      n
+    where
+      Own : ℕ → Type 0
+      Own k = (k ≡ 0 → ⊥) → one-of k call-numbers ≡ true
+
+  none-wrong : one-of (after .code) call-numbers ≡ false → before ≡ 0
+  none-wrong n = go (eqb before 0) refl
+    where
+      go : (b : Bool) → eqb before 0 ≡ b → before ≡ 0
+      go true e = eqb-true before 0 e
+      go false e = absurd (false≢true (sym n ∙ own-number (eqb-false before 0 e)))
+
+  right-check : before ≡ 0 → intact bs ≡ true
+  right-check z = own-taken bs (length cells) (none-before (record-read bs) (intact bs) cells lent z .0) .1
+
+  -- A call takes only bytes that are intact: with any others its number is one of 1, 4, 5, 6, 7 and 13, and it writes nothing.
+  pub not-intact-refused : intact bs ≡ false → NotTaken bs cells lent after
+  not-intact-refused broken =
+      let told = own-number (λ z. false≢true (sym broken ∙ right-check z)) in
+      let untouched = untouched-by-number told in
+      record { number = told; job = untouched .0; cells = untouched .1; answer = untouched .2 }
+
+  taken-intact : one-of (after .code) call-numbers ≡ false → intact bs ≡ true
+  taken-intact n = right-check (none-wrong n)
+
+  taken-leaves : one-of (after .code) call-numbers ≡ false → after .job ≡ record-bytes (turn-of (job-at bs) cells allowance .job)
+  taken-leaves n = ap (λ (x : Handed). x .job) (taken-written (none-wrong n))
+
+-- ---- a damaged job
+
+module _ (b : List ℕ) (rb : RecordBytes b) (cells : List Float) (allowance : ℕ) (lent : List ℕ) where
+  abbrev Refused : Type 0
+  Refused = NotTaken b cells lent (turn-bytes b cells allowance lent)
+
+  module _ (a : List ℕ) (ra : RecordBytes a) (cells₀ : List Float) (allowance₀ : ℕ) (lent₀ : List ℕ) where
+    -- Of two jobs' bytes that differ within one word of eight bytes at most one is taken, whatever table, allowance and answer
+    -- the calls have: if a call takes the one, then any call with the other is refused with 1, 4, 5, 6, 7 or 13, and writes nothing.
+    pub damaged-refused :
+        (k : ℕ) → WordApart k a b → one-of (turn-bytes a cells₀ allowance₀ lent₀ .code) call-numbers ≡ false → Refused
+    damaged-refused k apart taken =
+        not-intact-refused b cells allowance lent (one-word-caught a b ra rb k apart (taken-intact a cells₀ allowance₀ lent₀ taken))
+
+    -- So of two that differ in one byte.
+    pub damaged-byte-refused :
+        (place : ℕ) → ByteApart place a b → one-of (turn-bytes a cells₀ allowance₀ lent₀ .code) call-numbers ≡ false → Refused
+    damaged-byte-refused place apart taken =
+        not-intact-refused b cells allowance lent (one-byte-caught a b ra rb place apart (taken-intact a cells₀ allowance₀ lent₀ taken))
+
+  written-damaged : (job : Job) (a : List ℕ) → a ≡ record-bytes job → (k : ℕ) → WordApart k a b → Refused
+  written-damaged job a e k apart =
+      not-intact-refused b cells allowance lent
+      (one-word-caught a b (subst RecordBytes (sym e) (written-bytes job)) rb k apart (ap intact e ∙ written-intact job))
+
+  -- The job that a call left, damaged within a word, is refused by every later call: a call that was taken left it,
+  pub damage-after-turn :
+      (bs : List ℕ) (cells₀ : List Float) (allowance₀ : ℕ) (lent₀ : List ℕ) →
+      one-of (turn-bytes bs cells₀ allowance₀ lent₀ .code) call-numbers ≡ false →
+      (k : ℕ) → WordApart k (turn-bytes bs cells₀ allowance₀ lent₀ .job) b → Refused
+  damage-after-turn bs cells₀ allowance₀ lent₀ n =
+      written-damaged (turn-of (job-at bs) cells₀ allowance₀ .job) (turn-bytes bs cells₀ allowance₀ lent₀ .job) (taken-leaves bs cells₀ allowance₀ lent₀ n)
+
+  -- or job_bytes' `fresh` with the number 0.
+  pub damage-after-fresh :
+      (model : ℕ) (params : List ℕ) (width height : ℕ) (buffer : List ℕ) → fresh-bytes model params width height buffer .code ≡ 0 →
+      (k : ℕ) → WordApart k (fresh-bytes model params width height buffer .answer) b → Refused
+  damage-after-fresh model params width height buffer z =
+      written-damaged (fresh-job (camera-of model params) width height) (fresh-bytes model params width height buffer .answer)
+      (fresh-read model params width height buffer z .0)
 
 -- ---- demand 3, over bytes
 

@@ -13,7 +13,6 @@ use Rattle.lens.specs.Refusal.{number}
 use Rattle.lens.specs.declared.Judgement.{Judgement}
 use Rattle.lens.specs.declared.Judgement.the-variants as judged
 use Rattle.lens.specs.declared.Refusal.the-variants.{UnknownModel, NotFinite, ZeroFocalLength, WrongSize, WrongLength, ImpossibleRecord}
-use Rattle.lens.proofs.Laws.{verdict-one-to-one}
 use Rattle.region.specs.Region.{four}
 use Rattle.region.specs.Size.{sized}
 use Rattle.camera.specs.Camera.{parameters, zero-focal}
@@ -29,10 +28,11 @@ use Rattle.distortion_table.specs.Answer.{plan-of, state-of, turn-of}
 use Rattle.little_endian.specs.Bytes.{half}
 use Rattle.given.specs.Given.{code}
 use Rattle.job_bytes.specs.Bytes.{record-length, record-read, job-at}
+use Rattle.job_bytes.specs.Check.{intact}
 use Rattle.job_bytes.specs.declared.Found.the-variants.{Of, Refused}
-use Rattle.turn_bytes.specs.Turn.{own, answer-length, before-units}
+use Rattle.turn_bytes.specs.Turn.{checked, own, answer-length, before-units}
 use Rattle.turn_bytes.specs.Calls.{call-numbers}
-use Rattle.turn_bytes.proofs.Turning.{none-before}
+use Rattle.turn_bytes.proofs.Turning.{none-before, is-right}
 
 -- ---- before any unit
 
@@ -52,14 +52,22 @@ admitted-so job places = go (all-finite (parameters (job .camera)) && all-finite
     go true false true true false = refl
     go true false true true true = refl
 
-own-so : (bs : List ℕ) (places : ℕ) → BeforeUnits (own (record-read bs) places)
-unfolding record-read
-own-so bs places = go (eqb (length bs) record-length) (leb (half bs 0) 3)
+checked-so : (whole : Bool) (n : ℕ) → BeforeUnits n → BeforeUnits (checked whole n)
+checked-so whole n h = go (eqb n 0) whole
   where
-    go : (l m : Bool) → BeforeUnits (own (cond l (cond m (Of (job-at bs)) (Refused UnknownModel)) (Refused WrongLength)) places)
+    go : (z w : Bool) → BeforeUnits (cond z (cond w 0 13) n)
+    go true true = refl
+    go true false = refl
+    go false w = h
+
+own-so : (bs : List ℕ) (whole : Bool) (places : ℕ) → BeforeUnits (own (record-read bs) whole places)
+unfolding record-read
+own-so bs whole places = go (eqb (length bs) record-length) (leb (half bs 0) 3)
+  where
+    go : (l m : Bool) → BeforeUnits (own (cond l (cond m (Of (job-at bs)) (Refused UnknownModel)) (Refused WrongLength)) whole places)
     go false m = refl
     go true false = refl
-    go true true = admitted-so (job-at bs) places
+    go true true = checked-so whole (verdict (admitted (job-at bs) places)) (admitted-so (job-at bs) places)
 
 code-so : (n : ℕ) (right : Bool) → BeforeUnits n → BeforeUnits (code n right)
 unfolding code
@@ -71,26 +79,28 @@ code-so n false h = go (eqb n 0) (ltb n 7)
     go false true = h
     go false false = refl
 
-pub before-so : (bs : List ℕ) (cells : List Float) (lent : List ℕ) → one-of (before-units (record-read bs) cells lent) (0 ∷ call-numbers) ≡ true
-before-so bs cells lent = code-so (own (record-read bs) (length cells)) (eqb (length lent) answer-length) (own-so bs (length cells))
+pub before-so : (bs : List ℕ) (cells : List Float) (lent : List ℕ) → one-of (before-units (record-read bs) (intact bs) cells lent) (0 ∷ call-numbers) ≡ true
+before-so bs cells lent = code-so (own (record-read bs) (intact bs) (length cells)) (eqb (length lent) answer-length) (own-so bs (intact bs) (length cells))
 
 -- ---- a call that is taken
 
-own-taken : (bs : List ℕ) (places : ℕ) → own (record-read bs) places ≡ 0 → admitted (job-at bs) places ≡ judged.Taken
+-- its record is admitted, and its bytes are intact
+pub own-taken : (bs : List ℕ) (places : ℕ) → own (record-read bs) (intact bs) places ≡ 0 → (admitted (job-at bs) places ≡ judged.Taken) × (intact bs ≡ true)
 unfolding record-read
 own-taken bs places h = go (eqb (length bs) record-length) (leb (half bs 0) 3) h
   where
-    go : (l m : Bool) → own (cond l (cond m (Of (job-at bs)) (Refused UnknownModel)) (Refused WrongLength)) places ≡ 0 → admitted (job-at bs) places ≡ judged.Taken
+    go : (l m : Bool) → own (cond l (cond m (Of (job-at bs)) (Refused UnknownModel)) (Refused WrongLength)) (intact bs) places ≡ 0
+        → (admitted (job-at bs) places ≡ judged.Taken) × (intact bs ≡ true)
     go false m e = absurd (omega (arith, e))
     go true false e = absurd (omega (arith, e))
-    go true true e = verdict-one-to-one (admitted (job-at bs) places) judged.Taken e
+    go true true e = is-right (job-at bs) (intact bs) places e
 
 pub taken-so :
     (bs : List ℕ) (cells : List Float) (lent : List ℕ) (a : ℕ) →
-    before-units (record-read bs) cells lent ≡ 0 →
+    before-units (record-read bs) (intact bs) cells lent ≡ 0 →
     one-of (said-number (turn-of (job-at bs) cells a .said)) (0 ∷ unit-numbers) ≡ true
 taken-so bs cells lent a z =
     let j : Job = job-at bs in
-    let e : admitted j (length cells) ≡ judged.Taken = own-taken bs (length cells) (none-before (record-read bs) cells lent z .0) in
+    let e : admitted j (length cells) ≡ judged.Taken = own-taken bs (length cells) (none-before (record-read bs) (intact bs) cells lent z .0) .0 in
     ap (λ (v : Judgement). one-of (said-number (decided v (λ r. record { state = state-of j cells; said = refused (number r) }) (turn (next (plan-of j)) a (state-of j cells)) .said)) (0 ∷ unit-numbers)) e
     ∙ said-known (turn (next (plan-of j)) a (state-of j cells) .said) (turn-known (j .camera) (j .width) (j .height) a (state-of j cells))

@@ -4,7 +4,7 @@ use mathlib.Core.Bool.{Bool, true, false, cond}
 use mathlib.Core.List.{List, [], _++_}
 use Prim.Native.Nat.{ℕ, _+_}
 use native.Mathlib.Omega.{arith}
-use borrow.Author.Tests.{eq-eqb, ne-eqb, eqb-true}
+use borrow.Author.Tests.{eq-eqb, ne-eqb, eqb-true, eqb-false}
 use lib.Dec.{eqb, leb}
 use lib.Ieee.{Float}
 use lib.ListN.{length, length-append}
@@ -25,9 +25,10 @@ use Rattle.little_endian.proofs.Laws.{length-bytes, put-whole, put-put}
 use Rattle.given.specs.Given.{code, answered}
 use Rattle.given.proofs.Laws.{told-zero}
 use Rattle.job_bytes.specs.Bytes.{record-length, record-bytes, record-read, job-at}
+use Rattle.job_bytes.specs.Check.{intact}
 use Rattle.job_bytes.specs.declared.Found.{Found}
 use Rattle.job_bytes.specs.declared.Found.the-variants.{Of, Refused}
-use Rattle.turn_bytes.specs.Turn.{handed, own, answer-length, before-units, status-number, four-words, written, taken-or-not, turn-bytes, turn-held}
+use Rattle.turn_bytes.specs.Turn.{handed, checked, own, answer-length, before-units, status-number, four-words, written, taken-or-not, turn-bytes, turn-held}
 
 -- ---- four numbers, as they are put one behind the other
 
@@ -73,21 +74,57 @@ read-of bs job h = by-tests bs job (eqb (length bs) record-length) (leb (half bs
 -- ---- before any unit
 
 -- a call is taken only before an answer of the right length, with a record that has no refusal of its own
-pub none-before : (found : Found) (cells : List Float) (lent : List ℕ) → before-units found cells lent ≡ 0 → (own found (length cells) ≡ 0) × (length lent ≡ answer-length)
+pub none-before :
+    (found : Found) (whole : Bool) (cells : List Float) (lent : List ℕ) →
+    before-units found whole cells lent ≡ 0 →
+    (own found whole (length cells) ≡ 0) × (length lent ≡ answer-length)
 unfolding answered
-none-before found cells lent e = told-zero answer-length (own found (length cells)) [] lent e
+none-before found whole cells lent e = told-zero answer-length (own found whole (length cells)) [] lent e
 
-pub is-taken : (job : Job) (cells : List Float) (lent : List ℕ) → before-units (Of job) cells lent ≡ 0 → admitted job (length cells) ≡ judged.Taken
-is-taken job cells lent e = verdict-one-to-one (admitted job (length cells)) judged.Taken (none-before (Of job) cells lent e .0)
+-- then the record is admitted, and its bytes are intact
+both-right : (whole : Bool) (refusal : ℕ) → checked whole refusal ≡ 0 → (refusal ≡ 0) × (whole ≡ true)
+both-right whole refusal e = by-tests (eqb refusal 0) whole refl e
+  where
+    by-tests : (z w : Bool) → eqb refusal 0 ≡ z → cond z (cond w 0 13) refusal ≡ 0 → (refusal ≡ 0) × (w ≡ true)
+    by-tests true true f h = (eqb-true refusal 0 f, refl)
+    by-tests true false f h = absurd (omega (arith, h))
+    by-tests false w f h = absurd (eqb-false refusal 0 f h)
+
+pub is-right :
+    (job : Job) (whole : Bool) (places : ℕ) →
+    own (Of job) whole places ≡ 0 →
+    (admitted job places ≡ judged.Taken) × (whole ≡ true)
+is-right job whole places e =
+    let b = both-right whole (verdict (admitted job places)) e in
+    (verdict-one-to-one (admitted job places) judged.Taken (b .0), b .1)
+
+pub is-taken :
+    (job : Job) (whole : Bool) (cells : List Float) (lent : List ℕ) →
+    before-units (Of job) whole cells lent ≡ 0 →
+    admitted job (length cells) ≡ judged.Taken
+is-taken job whole cells lent e = is-right job whole (length cells) (none-before (Of job) whole cells lent e .0) .0
+
+-- the record's own refusal by its parts: n is what all but the check word came to
+module _ (job : Job) (whole : Bool) (places n : ℕ) (e : n ≡ verdict (admitted job places)) where
+  by-check : (z : Bool) → eqb n 0 ≡ z → cond z (cond whole 0 13) n ≡ own (Of job) whole places
+  by-check z f = ap₂ (λ (t : Bool) (m : ℕ). cond t (cond whole 0 13) m) (sym f ∙ ap (λ (m : ℕ). eqb m 0) e) e
+
+  pub own-refused : (n ≡ 0 → ⊥) → n ≡ own (Of job) whole places
+  own-refused h = by-check false (ne-eqb n 0 h)
+
+  pub own-damaged : n ≡ 0 → whole ≡ false → 13 ≡ own (Of job) whole places
+  own-damaged h w = ap (λ (t : Bool). cond t 0 13) (sym w) ∙ by-check true (eq-eqb n 0 h)
+
+  pub own-right : n ≡ 0 → whole ≡ true → 0 ≡ own (Of job) whole places
+  own-right h w = ap (λ (t : Bool). cond t 0 13) (sym w) ∙ by-check true (eq-eqb n 0 h)
 
 -- the number that is worked out from the parts
 pub as-judged :
-    (job : Job) (cells : List Float) (lent : List ℕ) {r n v : ℕ} →
+    (job : Job) (bs : List ℕ) (cells : List Float) (lent : List ℕ) {r n : ℕ} →
     r ≡ code n (eqb (length lent) answer-length) →
-    n ≡ v →
-    v ≡ verdict (admitted job (length cells)) →
-    r ≡ before-units (Of job) cells lent
-as-judged job cells lent e f g = e ∙ ap (λ (k : ℕ). code k (eqb (length lent) answer-length)) (f ∙ g)
+    n ≡ own (Of job) (intact bs) (length cells) →
+    r ≡ before-units (Of job) (intact bs) cells lent
+as-judged job bs cells lent e f = e ∙ ap (λ (k : ℕ). code k (eqb (length lent) answer-length)) f
 
 -- one that is not taken writes nothing, and one that is taken writes all that its turn answers
 module _ (bs : List ℕ) (cells : List Float) (lent : List ℕ) (a : Answer Float) (n : ℕ) where
@@ -100,15 +137,15 @@ module _ (bs : List ℕ) (cells : List Float) (lent : List ℕ) (a : Answer Floa
 -- ---- a call whose record is read
 
 module _ (job : Job) (bs : List ℕ) (cells : List Float) (allowance : ℕ) (lent : List ℕ) where
-  pub held-refused : (r : ℕ) → r ≡ before-units (Of job) cells lent → (r ≡ 0 → ⊥) → handed r bs cells lent ≡ turn-held job bs cells allowance lent
+  pub held-refused : (r : ℕ) → r ≡ before-units (Of job) (intact bs) cells lent → (r ≡ 0 → ⊥) → handed r bs cells lent ≡ turn-held job bs cells allowance lent
   unfolding turn-held
   held-refused r e n =
       ap (λ (k : ℕ). handed k bs cells lent) e
-      ∙ sym (not-taken bs cells lent (turn-of job cells allowance) (before-units (Of job) cells lent) (λ z. n (e ∙ z)))
+      ∙ sym (not-taken bs cells lent (turn-of job cells allowance) (before-units (Of job) (intact bs) cells lent) (λ z. n (e ∙ z)))
 
   pub held-taken :
       (t : Turned) (after : List Float) (r : ℕ) (record-after answer-after : List ℕ) (all : ℕ) →
-      before-units (Of job) cells lent ≡ 0 →
+      before-units (Of job) (intact bs) cells lent ≡ 0 →
       told-turned t after ≡ turn-of job cells allowance →
       all ≡ all-units (job .width) (job .height) →
       r ≡ said-number (told-status (t .status)) →
@@ -122,12 +159,12 @@ module _ (job : Job) (bs : List ℕ) (cells : List Float) (allowance : ℕ) (len
       ∙ ap₂ (λ (b c : List ℕ). handed (said-number (told-status (t .status))) b after c) h i
       ∙ ap (λ (n : ℕ). handed (said-number (told-status (t .status))) (record-bytes (t .job)) after (four-words (status-number (told-status (t .status))) (t .job .at .done) n (t .job .at .updates))) units
       ∙ ap written e
-      ∙ sym (taken bs cells lent (turn-of job cells allowance) (before-units (Of job) cells lent) z)
+      ∙ sym (taken bs cells lent (turn-of job cells allowance) (before-units (Of job) (intact bs) cells lent) z)
 
   pub as-read : record-read bs ≡ Of job → turn-held job bs cells allowance lent ≡ turn-bytes bs cells allowance lent
   unfolding turn-held turn-bytes
   as-read e =
-      ap₂ (λ (f : Found) (j : Job). taken-or-not (before-units f cells lent) bs cells lent (turn-of j cells allowance)) (sym e) (read-of bs job e .0)
+      ap₂ (λ (f : Found) (j : Job). taken-or-not (before-units f (intact bs) cells lent) bs cells lent (turn-of j cells allowance)) (sym e) (read-of bs job e .0)
 
 -- ---- a call whose record cannot be read
 
@@ -138,6 +175,6 @@ pub unread :
     handed r bs cells lent ≡ turn-bytes bs cells allowance lent
 unfolding turn-bytes
 unread bs cells allowance lent refusal r e f =
-    let k : r ≡ before-units (record-read bs) cells lent = f ∙ sym (ap (λ (g : Found). before-units g cells lent) e) in
+    let k : r ≡ before-units (record-read bs) (intact bs) cells lent = f ∙ sym (ap (λ (g : Found). before-units g (intact bs) cells lent) e) in
     ap (λ (n : ℕ). handed n bs cells lent) k
-    ∙ sym (not-taken bs cells lent (turn-of (job-at bs) cells allowance) (before-units (record-read bs) cells lent) (λ z. omega (arith, none-before (Refused refusal) cells lent (sym f ∙ k ∙ z) .0, number-within refusal .0)))
+    ∙ sym (not-taken bs cells lent (turn-of (job-at bs) cells allowance) (before-units (record-read bs) (intact bs) cells lent) (λ z. omega (arith, none-before (Refused refusal) (intact bs) cells lent (sym f ∙ k ∙ z) .0, number-within refusal .0)))

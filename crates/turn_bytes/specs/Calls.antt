@@ -1,12 +1,14 @@
 -- What a caller of turns over bytes holds from call to call, and what a call said; and the numbers that it can have.
 -- Definitions only.
-use mathlib.Core.Bool.{cond}
+use mathlib.Core.Path.{_≡_}
+use mathlib.Core.Bool.{true, cond}
 use mathlib.Core.List.{List, [], _∷_}
 use Prim.Native.Nat.{ℕ}
 use lib.Dec.{eqb}
 use lib.Ieee.{Float}
 use Rattle.turns.specs.Turns.{Said, finished, refused, running}
 use Rattle.plans.specs.Plan.{Plan, State}
+use Rattle.table_plans.specs.Tables.{one-of}
 use Rattle.distortion_table.specs.Answer.{plan-of, state-of}
 use Rattle.little_endian.specs.Bytes.{word}
 use Rattle.job_bytes.specs.Bytes.{job-at}
@@ -38,3 +40,10 @@ bytes-said given = cond (eqb (given .code) 0) (cond (eqb (word (given .answer) 0
 -- what refuses a call before any unit
 abbrev pub call-numbers : List ℕ
 call-numbers = 1 ∷ 4 ∷ 5 ∷ 6 ∷ 7 ∷ 13 ∷ []
+
+-- a call that does not take the bytes that it is lent: one of these numbers, and nothing is written
+pub record NotTaken (bs : List ℕ) (table : List Float) (lent : List ℕ) (given : Handed) : Type 0 where
+  pub number : one-of (given .code) call-numbers ≡ true
+  pub job : given .job ≡ bs
+  pub cells : given .cells ≡ table
+  pub answer : given .answer ≡ lent

@@ -4,7 +4,7 @@
 --
 --     0  status: 0 running, 1 finished, 2 refused      16  units in all
 --     8  units done                                    24  updates
-use mathlib.Core.Bool.{cond}
+use mathlib.Core.Bool.{Bool, cond}
 use mathlib.Core.List.{List, _++_}
 use Prim.Native.Nat.{ℕ}
 use lib.Dec.{eqb}
@@ -21,6 +21,7 @@ use Rattle.distortion_table.specs.Answer.{Answer, turn-of}
 use Rattle.little_endian.specs.Bytes.{bytes}
 use Rattle.given.specs.Given.{code}
 use Rattle.job_bytes.specs.Bytes.{record-bytes, record-read, job-at}
+use Rattle.job_bytes.specs.Check.{intact}
 use Rattle.job_bytes.specs.declared.Found.{Found}
 use Rattle.job_bytes.specs.declared.Found.the-variants.{Of, Refused}
 
@@ -36,18 +37,23 @@ handed code job cells answer = record { code = code; job = job; cells = cells; a
 
 -- ---- before any unit
 
--- the record's own refusal: 7 and 1, then 4, 5, 6, 7, 13; 0 if there is none. `places` is the length of the table
-abbrev pub own : Found → ℕ → ℕ
-own (Of job) places = verdict (admitted job places)
-own (Refused refusal) places = number refusal
+-- 13 for a check word that is wrong, where nothing else is
+abbrev pub checked : Bool → ℕ → ℕ
+checked whole refusal = cond (eqb refusal 0) (cond whole 0 13) refusal
+
+-- the record's own refusal: 7 and 1, then 4, 5, 6, 7, 13, and 13 for bytes that aren't intact; 0 if there is none.
+-- `places` is the length of the table
+abbrev pub own : Found → Bool → ℕ → ℕ
+own (Of job) whole places = checked whole (verdict (admitted job places))
+own (Refused refusal) whole places = number refusal
 
 -- how many bytes an answer has
 abbrev pub answer-length : ℕ
 answer-length = 32
 
 -- the lower of the record's own refusal and 7, which is for an answer of another length
-abbrev pub before-units : Found → List Float → List ℕ → ℕ
-before-units found cells lent = code (own found (length cells)) (eqb (length lent) answer-length)
+abbrev pub before-units : Found → Bool → List Float → List ℕ → ℕ
+before-units found whole cells lent = code (own found whole (length cells)) (eqb (length lent) answer-length)
 
 -- ---- what a turn writes
 
@@ -74,8 +80,10 @@ taken-or-not number bs cells lent answer = cond (eqb number 0) (written answer) 
 
 unfoldable pub turn-bytes : List ℕ → List Float → ℕ → List ℕ → Handed
 turn-bytes bs cells allowance lent =
-    taken-or-not (before-units (record-read bs) cells lent) bs cells lent (turn-of (job-at bs) cells allowance)
+    taken-or-not (before-units (record-read bs) (intact bs) cells lent) bs cells lent
+    (turn-of (job-at bs) cells allowance)
 
 -- the same of bytes that hold this record
 unfoldable pub turn-held : Job → List ℕ → List Float → ℕ → List ℕ → Handed
-turn-held job bs cells allowance lent = taken-or-not (before-units (Of job) cells lent) bs cells lent (turn-of job cells allowance)
+turn-held job bs cells allowance lent =
+    taken-or-not (before-units (Of job) (intact bs) cells lent) bs cells lent (turn-of job cells allowance)

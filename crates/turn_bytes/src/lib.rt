@@ -8,12 +8,15 @@ ghost use Rattle.border.specs.Border.{all-units};
 ghost use Rattle.plans.specs.Calls.{said-number};
 ghost use Rattle.distortion_table.specs.Answer.{told-status};
 ghost use Rattle.job_bytes.specs.Bytes.{record-length, record-bytes};
-ghost use Rattle.turn_bytes.specs.Turn.{handed, answer-length, status-number, four-words, turn-held, turn-bytes};
+ghost use Rattle.job_bytes.specs.Check.{intact};
+ghost use Rattle.job_bytes.specs.declared.Found.the-variants.{Of};
+ghost use Rattle.turn_bytes.specs.Turn.{handed, own, answer-length, status-number, four-words, turn-held, turn-bytes};
 use distortion_table::Status;
 use distortion_table::Turned;
 use job::Job;
 use job_bytes::Found;
 use lens::Judgement;
+use lens::Refusal;
 
 // How many bytes an answer has.
 pub const ANSWER: usize = 32;
@@ -93,6 +96,20 @@ fn give(turned: Turned, all: u64, job: &mut [u8], answer: &mut [u8]) -> u8
     unit_number(said)
 }
 
+// The record's own refusal, or 0. Its check word is judged last, and only where all else is right.
+fn own(held: Job, job: &[u8], places: usize) -> u8
+    ensures { λ r. ⌜ r ≡ own (Of held) (intact (now (job .entry))) places ⌝ }
+{
+    let number = verdict(job::admitted(held, places));
+    if number != 0 {
+        return number;
+    }
+    if job_bytes::intact(job) {
+        return 0;
+    }
+    lens::number(Refusal::ImpossibleRecord)
+}
+
 // A turn of the record that the bytes hold: 4, 5, 6, 7, 13 before any unit.
 fn turn_held(held: Job, job: &mut [u8], table: &mut [f32], allowance: u64, answer: &mut [u8]) -> u8
     requires { ⌜ length (now job) ≡ record-length ⌝ }
@@ -101,7 +118,7 @@ fn turn_held(held: Job, job: &mut [u8], table: &mut [f32], allowance: u64, answe
         ≡ turn-held held (now (job .entry)) (now (table .entry)) allowance (now (answer .entry))
         ⌝ }
 {
-    let number = verdict(job::admitted(held, table.len()));
+    let number = own(held, job, table.len());
     let code = given::code(number, answer.len() == ANSWER);
     if code != 0 {
         return code;

@@ -4,6 +4,7 @@ use denote.Ref.{now}
 use lib.ListN.{length}
 use Rattle.distortion_table.proofs.Taking.{taking}
 use Rattle.given.specs.Given.{code}
+use Rattle.job_bytes.specs.Check.{intact}
 use Rattle.job_bytes.specs.declared.Found.the-variants.{Of}
 use Rattle.turn_bytes.proofs.Turning.{none-before, is-taken, as-judged, held-refused, held-taken}
 use borrow.Author.Needs.{needs}
@@ -13,23 +14,23 @@ use Rattle.turn_bytes.proofs.turn_held.Tie as tie
 returns : tie.Need-returns
 returns c =
     let a = c .before .before .before .before .before .before .before .args in
-    held-refused (a .held) (now (a .job)) (now (a .table)) (a .allowance) (now (a .answer)) _ (as-judged (a .held) (now (a .table)) (now (a .answer)) (c .before .code .ensures) (c .before .before .verdict .ensures) (c .before .before .before .admitted .ensures)) (c .if1 .taken)
+    held-refused (a .held) (now (a .job)) (now (a .table)) (a .allowance) (now (a .answer)) _ (as-judged (a .held) (now (a .job)) (now (a .table)) (now (a .answer)) (c .before .code .ensures) (c .before .before .own .ensures)) (c .if1 .taken)
 
 all-units-requires : tie.Need-all-units-requires
 all-units-requires c κs =
     let a = c .before .before .before .before .before .before .before .args in
-    taking (a .held) (length (now (a .table))) (is-taken (a .held) (now (a .table)) (now (a .answer)) (sym (as-judged (a .held) (now (a .table)) (now (a .answer)) (c .before .code .ensures) (c .before .before .verdict .ensures) (c .before .before .before .admitted .ensures)) ∙ c .if1 .left)) .size
+    taking (a .held) (length (now (a .table))) (is-taken (a .held) (intact (now (a .job))) (now (a .table)) (now (a .answer)) (sym (as-judged (a .held) (now (a .job)) (now (a .table)) (now (a .answer)) (c .before .code .ensures) (c .before .before .own .ensures)) ∙ c .if1 .left)) .size
 
 give-requires : tie.Need-give-requires
 give-requires c κs =
     let a = c .before .before .before .before .before .before .before .before .before .before .before .before .before .before .args in
-    (c .before .before .before .before .before .before .before .before .before .before .before .before .before .before .pre, none-before (Of (a .held)) (now (a .table)) (now (a .answer)) (sym (as-judged (a .held) (now (a .table)) (now (a .answer)) (c .before .before .before .before .before .before .before .before .code .ensures) (c .before .before .before .before .before .before .before .before .before .verdict .ensures) (c .before .before .before .before .before .before .before .before .before .before .admitted .ensures)) ∙ c .before .before .before .before .before .before .before .if1 .left) .1)
+    (c .before .before .before .before .before .before .before .before .before .before .before .before .before .before .pre, none-before (Of (a .held)) (intact (now (a .job))) (now (a .table)) (now (a .answer)) (sym (as-judged (a .held) (now (a .job)) (now (a .table)) (now (a .answer)) (c .before .before .before .before .before .before .before .before .code .ensures) (c .before .before .before .before .before .before .before .before .before .own .ensures)) ∙ c .before .before .before .before .before .before .before .if1 .left) .1)
 
 returns-2 : tie.Need-returns-2
 returns-2 c =
     let a = c .before .before .before .before .before .before .before .before .before .before .before .before .before .before .before .before .before .before .before .args in
     held-taken (a .held) (now (a .job)) (now (a .table)) (a .allowance) (now (a .answer)) (c .before .before .before .before .before .before .before .before .before .turn .result) _ _ _ _ _
-    (sym (as-judged (a .held) (now (a .table)) (now (a .answer)) (c .before .before .before .before .before .before .before .before .before .before .before .before .before .code .ensures) (c .before .before .before .before .before .before .before .before .before .before .before .before .before .before .verdict .ensures) (c .before .before .before .before .before .before .before .before .before .before .before .before .before .before .before .admitted .ensures)) ∙ c .before .before .before .before .before .before .before .before .before .before .before .before .if1 .left)
+    (sym (as-judged (a .held) (now (a .job)) (now (a .table)) (now (a .answer)) (c .before .before .before .before .before .before .before .before .before .before .before .before .before .code .ensures) (c .before .before .before .before .before .before .before .before .before .before .before .before .before .before .own .ensures)) ∙ c .before .before .before .before .before .before .before .before .before .before .before .before .if1 .left)
     (c .before .before .before .before .before .before .before .before .before .turn .ensures)
     (c .before .before .before .before .before .before .before .before .before .before .before .all-units .ensures)
     (c .before .before .before .before .give .ensures .0)
@@ -42,7 +43,7 @@ turn-held-spec =
     (tie.spec
     (λ c κs. search needs)
     (λ c κs. search needs)
-    (λ c κs. search needs)
+    (λ c. search needs)
     returns
     all-units-requires
     (λ c κs. search needs)

@@ -1,0 +1,49 @@
+-- The check word behind a record: a sum over all that stands before it, so that damaged bytes are told from those that
+-- were written. Definitions only.
+use mathlib.Core.Path.{_≡_}
+use mathlib.Core.Bool.{Bool}
+use mathlib.Core.List.{List}
+use Prim.Native.Nat.{ℕ, zero, suc, _+_, _*_, _/_, _%_, _^_, _<_}
+use lib.Dec.{eqb}
+use lib.ListN.{length, getD}
+use Rattle.little_endian.specs.Bytes.{word}
+
+-- how many words of eight bytes are summed, and where the check word stands: behind them
+abbrev pub summed : ℕ
+summed = 23
+
+abbrev pub check-place : ℕ
+check-place = 184
+
+-- what the sum starts from: the bytes "LENSJOB1". Bytes that are all 0 would pass a sum that starts from 0
+abbrev pub check-start : ℕ
+check-start = 0x31424f4a534e454c
+
+-- the first n words, one added to the other
+unfoldable pub sum-of-words : ℕ → List ℕ → ℕ
+sum-of-words zero bs = 0
+sum-of-words (suc n) bs = sum-of-words n bs + word bs (8 * n)
+
+unfoldable pub check-of : List ℕ → ℕ
+check-of bs = (check-start + sum-of-words summed bs) % 2 ^ 64
+
+-- whether the check word is the one of the bytes before it
+abbrev pub intact : List ℕ → Bool
+intact bs = eqb (word bs check-place) (check-of bs)
+
+-- ---- damage
+
+-- what a caller can hold for a record: 192 numbers below 256
+pub record RecordBytes (bs : List ℕ) : Type 0 where
+  pub long : length bs ≡ 192
+  pub each : (i : ℕ) → getD bs i 0 < 256
+
+-- the same but for the k-th word of eight bytes, and not the same
+pub record WordApart (k : ℕ) (a b : List ℕ) : Type 0 where
+  pub same : (i : ℕ) → (i / 8 ≡ k → ⊥) → getD a i 0 ≡ getD b i 0
+  pub other : a ≡ b → ⊥
+
+-- the same but for the byte at a place, and not there
+pub record ByteApart (place : ℕ) (a b : List ℕ) : Type 0 where
+  pub same : (i : ℕ) → (i ≡ place → ⊥) → getD a i 0 ≡ getD b i 0
+  pub other : getD a place 0 ≡ getD b place 0 → ⊥
