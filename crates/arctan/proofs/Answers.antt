@@ -22,7 +22,7 @@ use Rattle.arctan.proofs.Compared.{le-says, le-denies, below-tiny, from
 use Rattle.arctan.proofs.Pieces.{unit-proper}
 use Rattle.arctan.proofs.Cases.{at-most, not-at-most}
 use Rattle.arctan.proofs.Near.{near-zero, zero-tiny, not-below, plus-not-negative, plus-held, at-plus}
-use Rattle.arctan.proofs.Choice.{steep-guess, steep-solved, tangent-tiny, tangent-minus, tangent-plus, tangent-refused}
+use Rattle.arctan.proofs.Choice.{so, so-not, steep-guess, steep-solved, tangent-tiny, tangent-minus, tangent-plus, tangent-refused}
 use Rattle.arctan.proofs.Tested.{bound, passed, guess-leads}
 use Rattle.arctan.proofs.Solving.{solved-leads}
 
@@ -68,12 +68,6 @@ number-between nan h k = absurd (false≢true k)
 number-between (inf true) h k = absurd (true≢false h)
 number-between (inf false) h k = absurd (false≢true k)
 number-between (fin s m e) h k = tt
-
-so : {b : Bool} → b ≡ true → T b
-so e = subst T (sym e) tt
-
-so-not : {b : Bool} → b ≡ false → T (not b)
-so-not e = subst (λ (c : Bool). T (not c)) (sym e) tt
 
 module _ (m : ℕ) (e : ℤ) where
   abbrev x : Float

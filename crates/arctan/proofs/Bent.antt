@@ -7,10 +7,10 @@ use native.Mathlib.Omega.{arith}
 use lib.Dec.{lit≤}
 use lib.Pow.{pow-pos}
 use Rattle.exact.specs.Fraction.{Fraction, Proper, Within, over, whole, opposite, power, _≼_, _≺_, _≈_, _⊞_, _⊟_, _⊠_}
-use Rattle.exact.proofs.Fractions.{over-proper, whole-proper, ⊞-proper, opposite-proper, ⊟-proper, ⊠-proper, power-proper, ≼-refl, ≼-trans, ≺-≼-trans, ≈-≼, ≼-≈, ≈→≼, ≈-sym, ≈-refl, ≈-trans, ≡→≈, ⊞-comm, ⊞-assoc, ⊞-left-comm, ⊞-zero, ⊞-mono, ⊞-cong, opposite-opposite, opposite-⊞, opposite-cong, opposite-⊠, move, ⊠-comm, ⊠-assoc, ⊠-one, ⊠-⊞, ⊞-⊠, ⊟-⊠, ⊠-mono, ⊠-cong, ⊠-not-negative, over-≼, over-⊠, within-sym, within-refl, within-wider, within-trans, within-same, within-to, within-opposite, within-⊞, within-⊠}
+use Rattle.exact.proofs.Fractions.{over-proper, whole-proper, ⊞-proper, opposite-proper, ⊟-proper, ⊠-proper, power-proper, ≼-refl, ≼-trans, ≺-≼-trans, ≈-≼, ≼-≈, ≈→≼, ≈-sym, ≈-refl, ≈-trans, ≡→≈, ⊞-comm, ⊞-assoc, ⊞-left-comm, ⊞-zero, ⊞-mono, ⊞-cong, opposite-opposite, opposite-⊞, opposite-cong, move, ⊠-comm, ⊠-assoc, ⊠-one, ⊠-⊞, ⊞-⊠, ⊟-⊠, ⊠-mono, ⊠-cong, ⊠-not-negative, over-≼, over-⊠, within-sym, within-refl, within-wider, within-trans, within-same, within-to, within-opposite, within-⊞, within-⊠}
 use Rattle.arctan.specs.Series.{terms, G}
 use Rattle.arctan.proofs.Horner.{odd, H, odd-proper, H-proper, zero-⊞, one-⊠, rest-low, rest-high, part}
-use Rattle.arctan.proofs.Rise.{In, 1/2, wider, within-scale, two-halves as halves-whole, take-nothing, level, below, square, ⊠-cong-right, ⊠-zero, G-proper, nested, within-rest}
+use Rattle.arctan.proofs.Rise.{In, 1/2, wider, within-scale, two-halves as halves-whole, take-nothing, level, square, ⊠-cong-right, ⊠-zero, G-proper, nested, within-rest}
 
 abbrev 1/4 : Fraction
 1/4 = over 1 4

@@ -1,12 +1,12 @@
 -- Which way a definition goes, by its tests: the tests of `close`, `lower`, `solved`, `steep` and `tangent`. Assumes nothing.
-use mathlib.Core.Path.{_≡_, refl, sym, ap, _∙_}
-use mathlib.Core.Bool.{Bool, true, false, cond, _&&_}
-use Prim.Native.Nat.{_+_, _-_}
+use mathlib.Core.Path.{_≡_, refl, sym, ap, _∙_, subst}
+use mathlib.Core.Bool.{Bool, true, false, not, cond, _&&_}
+use lib.Dec.{T}
 use lib.Ieee.{Float, nan, lt, le, neg}
 use lib.Ieee.Scale.{finite}
 use Rattle.exact.specs.F64.{f64, magnitude, _⊕_, _⊖_, _⊘_}
 use Rattle.arctan.specs.Arctangent.{one, counted, arctangent, tiny}
-use Rattle.arctan.specs.Tangent.{near, close, sine, cosine, solution, ratio, seam, quarterEnd, halfEnd, unity, two-fifths-cut, three-sevenths-cut, lower, solved, steep, limitEnd, tangent}
+use Rattle.arctan.specs.Tangent.{near, close, sine, cosine, solution, ratio, leaving, seam, quarterEnd, halfEnd, unity, two-fifths-cut, three-sevenths-cut, lower, solved, steep, limitEnd, tangent}
 use Rattle.arctan.specs.declared.Slope.{Slope}
 use Rattle.arctan.specs.declared.Slope.the-variants.{Is, TooSteep}
 
@@ -15,6 +15,12 @@ yes-way x y e = ap (λ (t : Bool). cond t x y) e
 
 pub no-way : {X : Type 0} {b : Bool} (x y : X) → b ≡ false → cond b x y ≡ y
 no-way x y e = ap (λ (t : Bool). cond t x y) e
+
+pub so : {b : Bool} → b ≡ true → T b
+so e = subst T (sym e) tt
+
+pub so-not : {b : Bool} → b ≡ false → T (not b)
+so-not e = subst (λ (c : Bool). T (not c)) (sym e) tt
 
 -- ---- close
 pub close-so : (t theta : Float) {n z l : Bool} {r : Float}
@@ -25,11 +31,11 @@ close-so t theta n z r l = rw (l, n, z, r) refl
 -- ---- lower and solved
 pub lower-first : (x : Float) → lt x seam ≡ true → ratio (solution two-fifths-cut (counted x)) unity ≡ lower x
 unfolding lower
-lower-first x h = let w = solution three-sevenths-cut (counted (quarterEnd ⊖ x)) in sym (yes-way (ratio (solution two-fifths-cut (counted x)) unity) (ratio (unity - w) (unity + w)) h)
+lower-first x h = sym (yes-way (ratio (solution two-fifths-cut (counted x)) unity) (leaving (solution three-sevenths-cut (counted (quarterEnd ⊖ x)))) h)
 
-pub lower-second : (x : Float) → lt x seam ≡ false → let w = solution three-sevenths-cut (counted (quarterEnd ⊖ x)) in ratio (unity - w) (unity + w) ≡ lower x
+pub lower-second : (x : Float) → lt x seam ≡ false → leaving (solution three-sevenths-cut (counted (quarterEnd ⊖ x))) ≡ lower x
 unfolding lower
-lower-second x h = let w = solution three-sevenths-cut (counted (quarterEnd ⊖ x)) in sym (no-way (ratio (solution two-fifths-cut (counted x)) unity) (ratio (unity - w) (unity + w)) h)
+lower-second x h = sym (no-way (ratio (solution two-fifths-cut (counted x)) unity) (leaving (solution three-sevenths-cut (counted (quarterEnd ⊖ x)))) h)
 
 pub solved-first : (theta : Float) → le theta quarterEnd ≡ true → lower theta ≡ solved theta
 unfolding solved

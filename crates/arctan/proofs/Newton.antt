@@ -1,21 +1,21 @@
 -- The rounds of the tangent's whole-number solution: each leaves the series at most 1300 units of 2 ^ -60 past n, and what is missing shrinks to about its square (`round`).
 -- From n itself, which is at most 13/32, four of them leave at most 1300 units missing (`refined-near`). Assumes nothing.
-use mathlib.Core.Path.{_≡_, refl, sym, ap, _∙_, subst}
+use mathlib.Core.Path.{_≡_, refl, subst}
 use mathlib.Core.Logic.{_⊎_, inl, inr}
 use Prim.Native.Nat.{ℕ, zero, suc, _+_, _-_, _*_, _^_, _≤_, _<_}
 use native.Mathlib.Nat.{le-trans, mul-le-mul, mul-le-mul-left, mul-le-mul-right, le-of-mul-le-mul-right}
 use native.Mathlib.Omega.{arith}
 use lib.Dec.{lit≤}
 use lib.Pow.{pow-pos}
-use Rattle.exact.specs.Fraction.{Fraction, Proper, Within, over, whole, opposite, power, _≼_, _≺_, _≈_, _⊞_, _⊟_, _⊠_}
-use Rattle.exact.proofs.Fractions.{over-proper, whole-proper, ⊞-proper, opposite-proper, ⊟-proper, ⊠-proper, ≼-refl, ≼-trans, ≼-total, ≺-≼-trans, ≈-≼, ≼-≈, ≈→≼, ≈-sym, ≈-refl, ≈-trans, ≡→≈, ⊞-comm, ⊞-assoc, ⊞-left-comm, ⊞-zero, ⊞-mono, ⊞-cong, opposite-⊞, opposite-cong, move, ⊠-comm, ⊠-assoc, ⊠-one, ⊠-⊞, ⊞-⊠, ⊟-⊠, ⊠-mono, ⊠-cong, ⊠-not-negative, over-≼, over-⊞, over-⊠, within-sym, within-refl, within-wider, within-trans, within-same, within-to, within-⊞}
-use Rattle.arctan.specs.Series.{terms, G}
+use Rattle.exact.specs.Fraction.{Fraction, Proper, Within, over, whole, _≼_, _≺_, _≈_, _⊞_, _⊟_, _⊠_}
+use Rattle.exact.proofs.Fractions.{over-proper, whole-proper, ⊞-proper, ⊟-proper, ⊠-proper, ≼-refl, ≼-trans, ≼-total, ≺-≼-trans, ≈-≼, ≼-≈, ≈→≼, ≈-sym, ≈-refl, ≈-trans, ⊞-comm, ⊞-assoc, ⊞-left-comm, ⊞-mono, ⊞-cong, move, ⊠-comm, ⊠-one, ⊠-⊞, ⊞-⊠, ⊟-⊠, ⊠-mono, ⊠-not-negative, over-≼, over-⊞, over-⊠, within-refl, within-wider, within-same, within-to, within-⊞}
+use Rattle.arctan.specs.Series.{G}
 use Rattle.arctan.specs.Whole.{product, series}
 use Rattle.arctan.specs.Tangent.{stretched, nearer, rounds, refined}
 use Rattle.arctan.proofs.Horner.{rest-low, part}
 use Rattle.arctan.proofs.Rise.{In, 1/2, nested, G-proper, G-high, third, within-rest}
-use Rattle.arctan.proofs.Bounds.{product-not-above, product-right}
-use Rattle.arctan.proofs.Whole.{Counts, product-near, series-near, series-small}
+use Rattle.arctan.proofs.Bounds.{product-not-above}
+use Rattle.arctan.proofs.Whole.{Counts, product-near, series-near}
 use Rattle.arctan.proofs.Pieces.{u, unit-proper, difference}
 use Rattle.arctan.proofs.Bent.{cancel, in-order, gained, no-less, off, off-proper, rise, under-slope, G-same}
 
@@ -38,7 +38,7 @@ unit-sum a b = over-⊞ a b (2 ^ 60)
 
 -- ---- the series and the step, against the exact ones
 
-pub series-off : (w : ℕ) → w ≤ 2 ^ 59 → Within (u 1000) (u (series w)) (G (u w))
+series-off : (w : ℕ) → w ≤ 2 ^ 59 → Within (u 1000) (u (series w)) (G (u w))
 series-off w h =
     let W = unit-in w h in
     within-to (G-proper (W .proper)) (≈-sym (nested (u w) (W .proper))) (series-near w h (W .low) (W .high) (within-refl (W .proper) (unit-low 400)))
@@ -326,7 +326,7 @@ next (suc (suc zero)) h s = round (lit≤ tt) s 3814107298990 17743881 1 (lit≤
 next (suc (suc (suc zero))) h s = round (lit≤ tt) s 22182358 1 1 (lit≤ tt) (lit≤ tt) (lit≤ tt) (lit≤ tt) (lit≤ tt)
 next (suc (suc (suc (suc k)))) h s = absurd (omega arith)
 
-pub refined-stage : {n w : ℕ} (k i : ℕ) → k + i ≡ rounds → Stage (highs i) (shorts i) n w → Stage (highs rounds) (shorts rounds) n (refined k n w)
+refined-stage : {n w : ℕ} (k i : ℕ) → k + i ≡ rounds → Stage (highs i) (shorts i) n w → Stage (highs rounds) (shorts rounds) n (refined k n w)
 unfolding refined
 refined-stage {n} {w} zero i k s = let all : i ≡ rounds = omega arith in subst (λ (j : ℕ). Stage (highs j) (shorts j) n w) all s
 refined-stage (suc k) i l s = refined-stage k (suc i) (omega arith) (next i (omega arith) s)

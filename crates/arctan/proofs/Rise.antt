@@ -155,7 +155,7 @@ pub level : (n k : ℕ) {y : Fraction} → In 1/2 y → In (odd k) (H n k y)
 level n k Y = record { proper = H-proper n k (Y .proper); low = H-low (Y .proper) (Y .low) (Y .high) n k; high = H-high (Y .proper) (Y .low) (Y .high) n k }
 
 -- the levels below the k-th: c_(k+1) is at most 1/3
-pub below : (n k : ℕ) {y : Fraction} → In 1/2 y → In 1/2 (H n (suc k) y)
+below : (n k : ℕ) {y : Fraction} → In 1/2 y → In 1/2 (H n (suc k) y)
 below n k Y = wider (odd-proper (suc k)) (over-≼ 1 (2 * suc k + 1) 1 2 .1 (omega arith)) (level n (suc k) Y)
 
 -- of 1 at most y is taken off

@@ -1,36 +1,33 @@
 -- What Newton's steps find is the tangent (`solved-leads`): A leads back from it to within 2 ^ -45 of the angle. Assumes nothing.
-use mathlib.Core.Path.{_≡_, refl, sym, ap, _∙_, subst}
+use mathlib.Core.Path.{_≡_, refl, sym}
 use mathlib.Core.Logic.{_⊎_, inl, inr}
 use mathlib.Core.Bool.{Bool, true, false, not, cond}
-use Prim.Native.Nat.{ℕ, zero, suc, _+_, _-_, _*_, _^_, _≤_, _<_, min}
-use native.Mathlib.Nat.{le-trans, min-eq-left, min-eq-right, mul-le-mul-left, mul-le-mul-right, le-of-mul-le-mul-right, mul-pos, add-sub-of-le, lt-of-mul-lt-mul-right}
+use Prim.Native.Nat.{ℕ, _+_, _-_, _*_, _^_, _≤_, _<_, min}
+use native.Mathlib.Nat.{le-trans, min-eq-left, min-eq-right, mul-le-mul-right, mul-pos, add-sub-of-le, lt-of-mul-lt-mul-right}
 use native.Mathlib.Omega.{arith}
-use lib.Dec.{T, lit≤, lit<}
-use lib.IntN.{pos}
-use lib.Pow.{pow-pos}
+use lib.Dec.{T, lit≤}
 use lib.Ieee.{Float, binary64, fits, round, lt, le, ofInt, ofBits}
 use lib.Ieee.Fits.{sub-fits}
 use lib.Ieee.Scale.{finite}
 use lib.Ieee.Positive.{num, den, den-pos}
-use Rattle.exact.specs.F64.{f64, _⊖_, _⊘_}
+use Rattle.exact.specs.F64.{_⊖_, _⊘_}
 use Rattle.exact.specs.Fraction.{Fraction, Proper, Within, over, whole, exactly, opposite, power, _≼_, _≺_, _≈_, _⊞_, _⊟_, _⊠_, _⧄_}
-use Rattle.exact.proofs.Fractions.{over-proper, whole-proper, exactly-proper, ⊞-proper, opposite-proper, ⊟-proper, ⊠-proper, ⧄-proper, ≼-refl, ≼-trans, ≼-total, ≼-or-≺, ≼-≺-trans, ≺-≼-trans, ≺→≼, ≺-not-≼, ≈-≼, ≼-≈, ≈→≼, ≈-sym, ≈-refl, ≈-trans, ⊞-comm, ⊞-assoc, ⊞-zero, ⊞-mono, ⊞-cong, ⊟-mono, opposite-cong, move, ⊠-comm, ⊠-mono, ⧄-≼, ≼-⧄, over-≼, over-≈, over-⊞, over-⊠, le-≼, within-sym, within-refl, within-wider, within-trans, within-same, within-to, within-⊞, within-opposite}
+use Rattle.exact.proofs.Fractions.{over-proper, whole-proper, exactly-proper, ⊞-proper, opposite-proper, ⊟-proper, ⊠-proper, ⧄-proper, ≼-refl, ≼-trans, ≼-total, ≼-or-≺, ≼-≺-trans, ≺-≼-trans, ≺→≼, ≺-not-≼, ≈-≼, ≈→≼, ≈-sym, ≈-refl, ≈-trans, ⊞-comm, ⊞-assoc, ⊞-zero, ⊞-mono, ⊞-cong, ⊟-mono, opposite-cong, move, ⊠-comm, ⊠-mono, over-≼, over-≈, over-⊠, within-sym, within-refl, within-wider, within-to, within-⊞}
 use Rattle.exact.proofs.Laws.{rounding-monotone}
 use Rattle.arctan.specs.Series.{A, G, P, upToOne, sum, term, limit, tangentBound}
 use Rattle.arctan.specs.Owed.{Leads}
 use Rattle.arctan.specs.Arctangent.{one, counted, Countable}
-use Rattle.arctan.specs.Tangent.{rounds, refined, solution, ratio, seam, quarterEnd, halfEnd, unity, two-fifths-cut, three-sevenths-cut, Acute, lower, Between, solved}
-use Rattle.arctan.proofs.Horner.{rest-low}
-use Rattle.arctan.proofs.Rise.{In, 1/2, G-proper, G-high, within-rest}
-use Rattle.arctan.proofs.Rounds.{plain, plain-finite, plain-exactly, plain-low, above-plain, over-≺, apart, together, over-difference, over-quotient, in-order, PlainNear, round-near, difference-is, difference-near, quotient-near, num-above}
+use Rattle.arctan.specs.Tangent.{rounds, refined, solution, ratio, leaving, seam, quarterEnd, halfEnd, unity, two-fifths-cut, three-sevenths-cut, Acute, lower, Between, solved}
+use Rattle.arctan.proofs.Rise.{G-proper, G-high, within-rest}
+use Rattle.arctan.proofs.Rounds.{plain, plain-finite, plain-exactly, plain-low, above-plain, over-≺, apart, together, over-difference, over-quotient, in-order, PlainNear, round-near, difference-is, difference-near, quotient-near}
 use Rattle.arctan.proofs.Counts.{counted-near}
 use Rattle.arctan.proofs.Compared.{one-plain, one-is, lt-says, lt-denies, le-says, le-denies}
 use Rattle.arctan.proofs.Reduced as reduced
 use Rattle.arctan.proofs.Pieces.{u, unit-proper, both}
 use Rattle.arctan.proofs.Cases.{P-proper, quotient-proper, A-low, A-mid, A-up, A-past}
-use Rattle.arctan.proofs.Growth.{A-proper, growth, up-growth, past-fifths, past-one, q, middle, middle-proper, mirror, reach, reach-proper, up-proper}
+use Rattle.arctan.proofs.Growth.{A-proper, growth, past-fifths, past-one, q, middle, middle-proper, mirror, reach-proper, up-proper}
 use Rattle.arctan.proofs.Tested.{limit-proper}
-use Rattle.arctan.proofs.Bent.{monotone, G-same, no-less}
+use Rattle.arctan.proofs.Bent.{monotone, G-same}
 use Rattle.arctan.proofs.Newton.{unit-in, unit-low, unit-≼, ≼-unit, unit-sum, refined-near}
 
 -- ---- the solution, of what lies up to top
@@ -97,7 +94,7 @@ under-two a c b d p k C D h m l K =
     let l' : a * d < 2 * (b * c) = lt-of-mul-lt-mul-right k (omega (arith, mul-le-mul-right (b * c) h, mul-pos (mul-pos B C) K)) in
     omega arith
 
-pub ratio-near : (p k : ℕ) → p ≤ k → 2 ^ 59 ≤ k → k < 2 ^ 61 → PlainNear (ratio p k) (u 1152) (over p k)
+ratio-near : (p k : ℕ) → p ≤ k → 2 ^ 59 ≤ k → k < 2 ^ 61 → PlainNear (ratio p k) (u 1152) (over p k)
 unfolding ratio ofInt
 ratio-near p k h l m =
     let x = round binary64 false p 1 in
@@ -212,10 +209,10 @@ past-sixty-fourth {s} S h = elim (≼-or-≺ s (over 1 64)) [
 ]
 
 -- ---- what the tangent s of an x up to a quarter of pi is to it
-pub record Close (x s : Float) : Type 0 where
-  pub plain : T (plain s)
-  pub within : Within (u 6100) (A (exactly s)) (exactly x)
-  pub low : over 1 60 ≼ exactly x → over 1 64 ≺ exactly s
+record Close (x s : Float) : Type 0 where
+  plain : T (plain s)
+  within : Within (u 6100) (A (exactly s)) (exactly x)
+  low : over 1 60 ≼ exactly x → over 1 64 ≺ exactly s
 
 module _ (x : Float) (f : T (fits binary64 x)) (a : Acute x) where
   px : Proper (exactly x)
@@ -365,7 +362,8 @@ module _ (x : Float) (f : T (fits binary64 x)) (a : Acute x) where
           | inr h ↦ rw (A-mid h τ-one) (within-to left-of same (within-refl (middle-proper τ-proper τ-low) (unit-low 1)))
         ]
 
-    high-close : Close x (ratio (unity - v) (unity + v))
+    high-close : Close x (leaving v)
+    unfolding leaving
     high-close =
         let s = ratio (unity - v) (unity + v) in
         let near = both 4610 1 (A-near 1152 (plain-low s (turned-z .plain)) (over-≼ 0 1 (unity - v) (unity + v) .1 (omega arith)) (turned-z .near)) piece in
@@ -377,7 +375,7 @@ module _ (x : Float) (f : T (fits binary64 x)) (a : Acute x) where
           low = λ h. past-sixty-fourth (exactly-proper s) (≼-trans (over-proper 2 5 (lit≤ tt)) (over-≼ 1 60 2 5 .1 (lit≤ tt)) (≼-trans (⊞-proper (exactly-proper s) (unit-proper 1152)) s-low (⊞-mono (≼-refl (exactly s)) (unit-≼ (lit≤ tt)))));
         }
 
-  pub lower-close : Close x (lower x)
+  lower-close : Close x (lower x)
   unfolding lower
   lower-close = either (λ s. Close x s) (lt x seam) low-close high-close
 

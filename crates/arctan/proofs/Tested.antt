@@ -30,7 +30,7 @@ itself nan n = absurd n
 itself (inf s) n = absurd n
 itself (fin s m e) n = same-itself s m e
 
-pub arctangent-good : (x : Float) → T (fits binary64 x) → T (finite x) → T (le (f64 0) x) → Good (A (exactly x)) (arctangent x)
+arctangent-good : (x : Float) → T (fits binary64 x) → T (finite x) → T (le (f64 0) x) → Good (A (exactly x)) (arctangent x)
 arctangent-good x f n h =
     subst (λ (r : Float). Good (A (exactly x)) r) (sym (when-not-below x (not-lt x n h) (itself x n)))
     (forward-finite x f n (rw at-zero at (le-≼ (f64 0) x finite-zero n .0 h)))

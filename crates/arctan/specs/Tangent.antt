@@ -46,7 +46,7 @@ cosine theta =
 unfoldable pub stretched : ℕ → ℕ → ℕ
 stretched w e = e + product (product w w) e
 
--- Newton's step from a w below the solution, which it never passes; from a w above there is none
+-- Newton's step from a w below the solution, which it passes by 1300 units at most; from a w above there is none
 unfoldable pub nearer : ℕ → ℕ → ℕ
 nearer n w = w + stretched w (n - series w)
 
@@ -61,9 +61,17 @@ refined (suc k) n w = refined k n (nearer n w)
 unfoldable pub solution : ℕ → ℕ → ℕ
 solution top n = min (refined rounds n n) top
 
--- p / q
+-- 1
+abbrev pub unity : ℕ
+unity = 2 ^ 60
+
+-- p / q, each rounded and their quotient
 unfoldable pub ratio : ℕ → ℕ → Float
 ratio p q = ofInt binary64 (pos p) ⊘ ofInt binary64 (pos q)
+
+-- (1 - w) / (1 + w)
+unfoldable pub leaving : ℕ → Float
+leaving w = ratio (unity - w) (unity + w)
 
 -- where A's own pieces meet: the angle of 2/5, and a quarter of pi; and half of pi. The nearest f64 of each
 abbrev pub seam : Float
@@ -75,10 +83,7 @@ quarterEnd = f64 0x3fe9_21fb_5444_2d18
 abbrev pub halfEnd : Float
 halfEnd = f64 0x3ff9_21fb_5444_2d18
 
--- 1, and 2/5 and 3/7, cut
-abbrev pub unity : ℕ
-unity = 2 ^ 60
-
+-- 2/5 and 3/7, cut
 abbrev pub two-fifths-cut : ℕ
 two-fifths-cut = 461168601842738790
 
@@ -91,11 +96,11 @@ pub record Acute (x : Float) : Type 0 where
   pub low : whole 0 ≼ exactly x
   pub high : exactly x ≼ exactly quarterEnd
 
--- its tangent: w, or (1 - w) / (1 + w) where w belongs to what is left of the quarter
+-- its tangent: w, or that of what w's angle leaves of the quarter
 unfoldable pub lower : Float → Float
 lower x =
     cond (lt x seam) (ratio (solution two-fifths-cut (counted x)) unity)
-    (let w = solution three-sevenths-cut (counted (quarterEnd ⊖ x)) in ratio (unity - w) (unity + w))
+    (leaving (solution three-sevenths-cut (counted (quarterEnd ⊖ x))))
 
 -- an angle from 2 ^ -20 to the limit
 pub record Between (theta : Float) : Type 0 where

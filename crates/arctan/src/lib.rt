@@ -12,7 +12,7 @@ ghost use Rattle.arctan.specs.Series.{Arctangent};
 ghost use Rattle.arctan.specs.Whole.{product, nested, reciprocals, series};
 ghost use Rattle.arctan.specs.Arctangent.{Countable, counted, angle, back, forward, arctangent};
 ghost use Rattle.arctan.specs.Tangent.{close, sine, cosine, stretched, nearer, rounds, refined, solution, ratio};
-ghost use Rattle.arctan.specs.Tangent.{Acute, lower, Between, solved, steep, tangent};
+ghost use Rattle.arctan.specs.Tangent.{leaving, Acute, lower, Between, solved, steep, tangent};
 ghost use Rattle.arctan.specs.Owed.{Tangent};
 
 // The odd reciprocals 1, 1/3, 1/5, .., 1/47, counted in 2^-60 and cut: 2^60 / (2k + 1).
@@ -194,7 +194,7 @@ fn stretched(w: u64, e: u64) -> u64
 }
 
 // One step of Newton's from w towards the solution of series(w) = n. The series bends down, so that a step from below
-// doesn't pass the solution but for a few units; past it there is no step.
+// ends below, but for the units lost on the way; from above there is no step.
 fn nearer(n: u64, w: u64) -> u64
     requires { ⌜ (n ≤ 2 ^ 59) × (w ≤ 2 ^ 59) ⌝ }
     ensures { λ r. ⌜ r ≡ nearer n w ⌝ }
@@ -206,7 +206,7 @@ fn nearer(n: u64, w: u64) -> u64
     w
 }
 
-// How many steps are made.
+// How many steps are made: each leaves about the square of what was missing.
 const ROUNDS: u64 = 4;
 
 // The solution, but for a few units, from n itself on.
@@ -242,9 +242,18 @@ fn ratio(p: u64, q: u64) -> f64
     std::num::nearest_u64_to_f64(p) / std::num::nearest_u64_to_f64(q)
 }
 
-// 1, and 2/5 and 3/7 cut, counted in 2^-60.
+// 1, counted in 2^-60.
 const UNITY: u64 = 1152921504606846976;
 
+// (1 - w) / (1 + w): the tangent of what w's angle leaves of a quarter of pi.
+fn leaving(w: u64) -> f64
+    requires { ⌜ w ≤ 2 ^ 59 ⌝ }
+    ensures { λ r. ⌜ r ≡ leaving w ⌝ }
+{
+    ratio(UNITY - w, UNITY + w)
+}
+
+// 2/5 and 3/7, cut.
 const TWO_FIFTHS: u64 = 461168601842738790;
 
 const THREE_SEVENTHS: u64 = 494109216260077275;
@@ -256,7 +265,7 @@ const QUARTER_END: f64 = 0.7853981633974483;
 
 const HALF_END: f64 = 1.5707963267948966;
 
-// The tangent of an angle from 0 to a quarter of pi: w, or (1 - w) / (1 + w) where w is the tangent of what is left.
+// The tangent of an angle from 0 to a quarter of pi: w, or that of what w's angle leaves.
 fn lower(x: f64) -> f64
     requires { ⌜ Acute x ⌝ }
     ensures { λ r. ⌜ r ≡ lower x ⌝ }
@@ -264,8 +273,7 @@ fn lower(x: f64) -> f64
     if x < SEAM {
         return ratio(solution(TWO_FIFTHS, counted(x)), UNITY);
     }
-    let w = solution(THREE_SEVENTHS, counted(QUARTER_END - x));
-    ratio(UNITY - w, UNITY + w)
+    leaving(solution(THREE_SEVENTHS, counted(QUARTER_END - x)))
 }
 
 // The tangent of a theta from 2^-20 to the limit, whatever the guess was.

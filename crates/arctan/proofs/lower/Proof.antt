@@ -1,13 +1,11 @@
 -- `arctan::lower` meets its contract: what is counted is at most 13/32, as proofs/Solving.antt says. Assumes nothing.
-use mathlib.Core.Path.{_≡_, sym, ap, _∙_, subst}
-use mathlib.Core.Bool.{Bool, true, false, not}
-use Prim.Native.Nat.{ℕ, _+_, _-_, _*_, _^_, _≤_}
-use native.Mathlib.Omega.{arith}
+use mathlib.Core.Path.{sym, ap, _∙_, subst}
+use Prim.Native.Nat.{ℕ}
 use lib.Dec.{T}
 use lib.Ieee.{binary64, fits}
 use borrow.Author.Needs.{needs}
-use Rattle.arctan.specs.Tangent.{solution, ratio, unity, two-fifths-cut, three-sevenths-cut}
-use Rattle.arctan.proofs.Choice.{lower-first, lower-second}
+use Rattle.arctan.specs.Tangent.{solution, ratio, leaving, unity, two-fifths-cut, three-sevenths-cut}
+use Rattle.arctan.proofs.Choice.{so, so-not, lower-first, lower-second}
 use Rattle.arctan.proofs.Solving.{ready-low, few-low, ready-high, few-high}
 use Rattle.arctan.proofs.lower.Statement.{statement}
 use Rattle.arctan.proofs.lower.Tie as tie
@@ -15,12 +13,6 @@ use Rattle.arctan.proofs.lower.Tie as tie
 -- what holding an f64 tells: the format holds it
 held : (c : tie.Start) → T (fits binary64 (c .args .x))
 held c = subst T (sym (c .good .0 .1)) tt
-
-so : {b : Bool} → b ≡ true → T b
-so e = subst T (sym e) tt
-
-so-not : {b : Bool} → b ≡ false → T (not b)
-so-not e = subst (λ (t : Bool). T (not t)) (sym e) tt
 
 counted-requires : tie.Need-counted-requires
 counted-requires c κs = let s = c .before in ready-low (s .args .x) (held s) (s .pre) (so (c .if1 .taken))
@@ -42,19 +34,13 @@ counted-requires-2 c κs = let s = c .before in ready-high (s .args .x) (held s)
 solution-requires-2 : tie.Need-solution-requires-2
 solution-requires-2 c κs = let s = c .before .before in rw (c .counted2 .ensures) (few-high (s .args .x) (held s) (s .pre) (so-not (c .before .if1 .left)))
 
-sub-ratio : tie.Need-sub-ratio
-sub-ratio c = search needs
-
-add-ratio : tie.Need-add-ratio
-add-ratio c = search needs
-
-ratio-requires-2 : tie.Need-ratio-requires-2
-ratio-requires-2 c κs = search needs
+leaving-requires : tie.Need-leaving-requires
+leaving-requires c κs = search needs
 
 returns-2 : tie.Need-returns-2
 returns-2 c =
     let d = c .before .before .before in
-    c .ratio2 .ensures ∙ ap (λ (w : ℕ). ratio (unity - w) (unity + w)) (c .before .solution2 .ensures .0 ∙ ap (solution three-sevenths-cut) (c .before .before .counted2 .ensures)) ∙ lower-second (d .before .args .x) (d .if1 .left)
+    c .leaving .ensures ∙ ap leaving (c .before .solution2 .ensures .0 ∙ ap (solution three-sevenths-cut) (c .before .before .counted2 .ensures)) ∙ lower-second (d .before .args .x) (d .if1 .left)
 
 pub lower-spec : {M : Type 1} → statement M
 lower-spec =
@@ -66,7 +52,5 @@ lower-spec =
     returns
     counted-requires-2
     solution-requires-2
-    sub-ratio
-    add-ratio
-    ratio-requires-2
+    leaving-requires
     returns-2)

@@ -1,6 +1,5 @@
 -- `arctan::ratio` meets its contract. Assumes nothing.
 use mathlib.Core.Path.{ap, _∙_}
-use Prim.Native.Nat.{ℕ}
 use lib.IntN.{pos}
 use lib.Ieee.{Float, binary64, ofInt}
 use borrow.Author.Needs.{needs}

@@ -1,11 +1,10 @@
 -- `arctan::solved` meets its contract: the angle that `lower` is asked for lies between 0 and a quarter of pi (proofs/Solving.antt). Assumes nothing.
-use mathlib.Core.Path.{_≡_, sym, ap, _∙_, subst}
-use mathlib.Core.Bool.{Bool, true, false, not}
+use mathlib.Core.Path.{sym, ap, _∙_, subst}
 use lib.Dec.{T}
 use lib.Ieee.{Float, binary64, fits}
 use Rattle.exact.specs.F64.{_⊘_}
 use Rattle.arctan.specs.Arctangent.{one}
-use Rattle.arctan.proofs.Choice.{solved-first, solved-second}
+use Rattle.arctan.proofs.Choice.{so, so-not, solved-first, solved-second}
 use Rattle.arctan.proofs.Solving.{acute-low, acute-high}
 use Rattle.arctan.proofs.solved.Statement.{statement}
 use Rattle.arctan.proofs.solved.Tie as tie
@@ -13,12 +12,6 @@ use Rattle.arctan.proofs.solved.Tie as tie
 -- what holding an f64 tells: the format holds it
 held : (c : tie.Start) → T (fits binary64 (c .args .theta))
 held c = subst T (sym (c .good .0 .1)) tt
-
-so : {b : Bool} → b ≡ true → T b
-so e = subst T (sym e) tt
-
-so-not : {b : Bool} → b ≡ false → T (not b)
-so-not e = subst (λ (t : Bool). T (not t)) (sym e) tt
 
 lower-requires : tie.Need-lower-requires
 lower-requires c κs = let s = c .before in acute-low (s .args .theta) (held s) (s .pre) (so (c .if1 .taken))

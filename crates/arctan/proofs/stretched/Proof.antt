@@ -1,5 +1,5 @@
 -- `arctan::stretched` meets its contract: w * w is at most 2 ^ 60, and a product at most its second factor (proofs/Bounds.antt). Assumes nothing.
-use mathlib.Core.Path.{_≡_, sym, ap, _∙_}
+use mathlib.Core.Path.{_≡_, ap, _∙_}
 use Prim.Native.Nat.{ℕ, _+_, _^_, _≤_}
 use native.Mathlib.Nat.{le-trans}
 use native.Mathlib.Omega.{arith}

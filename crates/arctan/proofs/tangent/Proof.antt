@@ -1,6 +1,6 @@
 -- `arctan::tangent` meets its contract: it is the definition by the same tests, and the definition owes what specs/Owed.antt says (proofs/Answers.antt). Assumes nothing.
 use mathlib.Core.Path.{_≡_, refl, sym, ap, _∙_, subst}
-use mathlib.Core.Bool.{Bool, true, false, not}
+use mathlib.Core.Bool.{Bool, false}
 use lib.Dec.{T}
 use lib.Ieee.{Float, nan, binary64, fits, neg, lt, le, div, ofBits}
 use borrow.Author.Needs.{needs}
@@ -10,7 +10,7 @@ use Rattle.arctan.specs.Owed.{Tangent}
 use Rattle.arctan.specs.Tangent.{steep, limitEnd, tangent}
 use Rattle.arctan.specs.declared.Slope.{Slope}
 use Rattle.arctan.specs.declared.Slope.the-variants.{Is, TooSteep}
-use Rattle.arctan.proofs.Choice.{tangent-tiny, tangent-minus, tangent-plus, tangent-refused, tangent-none}
+use Rattle.arctan.proofs.Choice.{so, so-not, tangent-tiny, tangent-minus, tangent-plus, tangent-refused, tangent-none}
 use Rattle.arctan.proofs.Answers.{number-between, between, tangent-near}
 use Rattle.arctan.proofs.tangent.Statement.{statement}
 use Rattle.arctan.proofs.tangent.Tie as tie
@@ -39,12 +39,6 @@ steep-of c = c .steep .ensures ∙ ap steep (c .before .before .before .magnitud
 no-number : f64 0 ⊘ f64 0 ≡ nan
 unfolding div ofBits
 no-number = refl
-
-so : {b : Bool} → b ≡ true → T b
-so e = subst T (sym e) tt
-
-so-not : {b : Bool} → b ≡ false → T (not b)
-so-not e = subst (λ (t : Bool). T (not t)) (sym e) tt
 
 magnitude-requires : tie.Need-magnitude-requires
 magnitude-requires c κs = search needs
