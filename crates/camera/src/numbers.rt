@@ -14,7 +14,7 @@ pub const LAST: u8 = 3;
 pub const MOST: usize = 12;
 
 // How many parameters a model has.
-pub fn count(model: u8) -> usize
+pub fn count(model: u8) -> u8
     ensures { λ r. ⌜ r ≡ count model ⌝ }
 {
     if model == 0 {

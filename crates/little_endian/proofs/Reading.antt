@@ -8,14 +8,14 @@ use lib.ListN.{length, getD, take, drop, length-drop, drop-of-length-le}
 use lib.Seq.{getD-drop, drop-cons, take-all}
 use Rattle.little_endian.specs.Bytes.{value}
 
--- four bytes by pairs
-by-pairs : (l : List ℕ) → (getD l 3 0 * 256 + getD l 2 0) * 65536 + (getD l 1 0 * 256 + getD l 0 0) ≡ value (take 4 l)
+-- four bytes, one by one
+one-by-one : (l : List ℕ) → getD l 0 0 + getD l 1 0 * 256 + getD l 2 0 * 65536 + getD l 3 0 * 16777216 ≡ value (take 4 l)
 unfolding value
-by-pairs [] = refl
-by-pairs (a ∷ []) = omega arith
-by-pairs (a ∷ b ∷ []) = omega arith
-by-pairs (a ∷ b ∷ c ∷ []) = omega arith
-by-pairs (a ∷ b ∷ c ∷ d ∷ l) = omega arith
+one-by-one [] = refl
+one-by-one (a ∷ []) = omega arith
+one-by-one (a ∷ b ∷ []) = omega arith
+one-by-one (a ∷ b ∷ c ∷ []) = omega arith
+one-by-one (a ∷ b ∷ c ∷ d ∷ l) = omega arith
 
 pub four-is :
     (bs : List ℕ) (k : ℕ) (b₀ b₁ b₂ b₃ : ℕ) →
@@ -23,14 +23,15 @@ pub four-is :
     b₂ ≡ getD bs (k + 2) 0 →
     b₁ ≡ getD bs (k + 1) 0 →
     b₀ ≡ getD bs k 0 →
-    (b₃ * 256 + b₂) * 65536 + (b₁ * 256 + b₀) ≡ value (take 4 (drop k bs))
+    b₀ + b₁ * 256 + b₂ * 65536 + b₃ * 16777216 ≡ value (take 4 (drop k bs))
 four-is bs k b₀ b₁ b₂ b₃ e₃ e₂ e₁ e₀ =
     let f₃ : b₃ ≡ getD (drop k bs) 3 0 = e₃ ∙ sym (getD-drop k bs 3 0) in
     let f₂ : b₂ ≡ getD (drop k bs) 2 0 = e₂ ∙ sym (getD-drop k bs 2 0) in
     let f₁ : b₁ ≡ getD (drop k bs) 1 0 = e₁ ∙ sym (getD-drop k bs 1 0) in
     let f₀ : b₀ ≡ getD (drop k bs) 0 0 = e₀ ∙ ap (λ (j : ℕ). getD bs j 0) (sym (add-zero k)) ∙ sym (getD-drop k bs 0 0) in
-    let g : (getD (drop k bs) 3 0 * 256 + getD (drop k bs) 2 0) * 65536 + (getD (drop k bs) 1 0 * 256 + getD (drop k bs) 0 0) ≡ value (take 4 (drop k bs)) =
-    by-pairs (drop k bs) in
+    let g :
+    getD (drop k bs) 0 0 + getD (drop k bs) 1 0 * 256 + getD (drop k bs) 2 0 * 65536 + getD (drop k bs) 3 0 * 16777216 ≡ value (take 4 (drop k bs)) =
+    one-by-one (drop k bs) in
     omega (arith, f₃, f₂, f₁, f₀, g)
 
 -- eight bytes by fours

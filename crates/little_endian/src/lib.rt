@@ -18,9 +18,8 @@ fn four(bytes: &[u8], at: usize, k: usize) -> u64
     requires { ⌜ at + (k + 4) ≤ length (now bytes) ⌝ }
     ensures { λ r. ⌜ (r ≡ value (take 4 (drop k (drop at (now (bytes .entry)))))) × (r < 4294967296) ⌝ }
 {
-    let high = byte(bytes, at, k + 3) as u64 * 256 + byte(bytes, at, k + 2) as u64;
-    let low = byte(bytes, at, k + 1) as u64 * 256 + byte(bytes, at, k) as u64;
-    high * 65536 + low
+    let low = byte(bytes, at, k) as u64 + byte(bytes, at, k + 1) as u64 * 256;
+    low + byte(bytes, at, k + 2) as u64 * 65536 + byte(bytes, at, k + 3) as u64 * 16777216
 }
 
 // The number of all bytes from place at on, where they are fewer than eight.
