@@ -24,7 +24,8 @@ use Rattle.camera.specs.Camera.{distort, undistort, dx-distort-x, dx-distort-pa
 use Rattle.camera.specs.declared.Camera.{Camera}
 use Rattle.given.specs.Given.{Given, given, flag-number}
 use Rattle.given.proofs.Laws.{both, Untouched, refused-kept, filled}
-use Rattle.camera_bytes.specs.Reading.{count, camera-of, read}
+use Rattle.camera.specs.Numbers.{count}
+use Rattle.camera_bytes.specs.Reading.{camera-of, read}
 use Rattle.camera_bytes.specs.declared.Asked.{Asked}
 use Rattle.camera_bytes.specs.declared.Asked.the-variants.{Of}
 use Rattle.camera_bytes.proofs.Counted.{read-camera}

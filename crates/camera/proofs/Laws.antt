@@ -1,9 +1,9 @@
 -- What a caller may rely on, of the definitions of specs/ and of the contracts of src/. Assumes nothing.
 use mathlib.Core.Path.{_≡_, refl, sym, ap, _∙_}
-use mathlib.Core.Bool.{true, false, _&&_}
+use mathlib.Core.Bool.{Bool, true, false, cond, _&&_}
 use mathlib.Core.Logic.{_↔_}
-use Prim.Native.Nat.{_≤_}
-use lib.Dec.{T, lit≤}
+use Prim.Native.Nat.{ℕ, _≤_}
+use lib.Dec.{T, lit≤, eqb}
 use lib.Ieee.{Float, nan, le, add, sub, mul, div, ofBits, ofInt}
 use lib.Ieee.Scale.{finite}
 use Rattle.exact.specs.Determined.{Determined}
@@ -36,7 +36,8 @@ use Rattle.kannala_brandt.specs.declared.KannalaBrandtParams.{KannalaBrandtPara
 use Rattle.kannala_brandt.proofs.Fits.{angle-fits}
 use Rattle.kannala_brandt.proofs.Laws as kb-laws
 use Rattle.brown_conrady.specs.BrownConrady as bc
-use Rattle.camera.specs.Camera.{zero-focal, judged, pixel-of, distort, point-of, finite-point, undistort-judged, undistort, limit, slopes, dx-distort-x, judged-params, parameter-slopes, dx-distort-params}
+use Rattle.camera.specs.Camera.{parameters, zero-focal, judged, pixel-of, distort, point-of, finite-point, undistort-judged, undistort, limit, slopes, dx-distort-x, judged-params, parameter-slopes, dx-distort-params}
+use Rattle.camera.specs.Numbers as numbers
 use Rattle.camera.specs.Rows.{not-finite, steep, too-steep, point-not-finite, distort-rows, undistort-rows, dx-distort-x-rows, dx-distort-params-rows}
 use Rattle.lens.specs.Distorted.{told-pixel, finite-pixel}
 use Rattle.camera.specs.declared.Camera.{Camera}
@@ -56,6 +57,10 @@ use Rattle.camera.proofs.distort.Reads as distort-contract
 use Rattle.camera.proofs.undistort.Reads as undistort-contract
 use Rattle.camera.proofs.dx_distort_x.Reads as dx-distort-x-contract
 use Rattle.camera.proofs.dx_distort_params.Reads as dx-distort-params-contract
+use Rattle.camera.proofs.numbers.count.Reads as count-contract
+use Rattle.camera.proofs.numbers.camera_of.Reads as camera-of-contract
+use Rattle.camera.proofs.numbers.model_number.Reads as model-number-contract
+use Rattle.camera.proofs.numbers.twelve.Reads as twelve-contract
 
 -- ---- each contract permits one answer
 
@@ -81,6 +86,43 @@ determined-parts = (
   λ κ a s s' r r' p q. told-one-to-one r r' (p ∙ sym q),
   λ κ a s s' r r' p q. p ∙ sym q,
 )
+
+-- and for the four of `numbers`.
+pub determined-numbers :
+    Determined count-contract.Post × Determined camera-of-contract.Post
+    × Determined model-number-contract.Post × Determined twelve-contract.Post
+determined-numbers = (
+  λ κ a s s' r r' p q. p ∙ sym q,
+  λ κ a s s' r r' p q. p ∙ sym q,
+  λ κ a s s' r r' p q. p ∙ sym q,
+  λ κ a s s' r r' p q. p ∙ sym q,
+)
+
+-- ---- the order of the parameters
+
+-- A camera is the one of its model's number and its parameters, with zeros behind them or without.
+pub camera-back :
+    (camera : Camera) →
+    (numbers.camera-of (numbers.model-number camera) (numbers.at (parameters camera)) ≡ camera)
+    × (numbers.camera-of (numbers.model-number camera) (numbers.at (numbers.twelve camera)) ≡ camera)
+camera-back (Affine p) = (refl, refl)
+camera-back (EnhancedUnified p) = (refl, refl)
+camera-back (KannalaBrandt p) = (refl, refl)
+camera-back (BrownConrady p) = (refl, refl)
+
+module _ (n : ℕ → Float) where
+  by-model :
+      (a b c : Bool) →
+      parameters (cond a (numbers.affine n) (cond b (numbers.enhanced-unified n) (cond c (numbers.kannala-brandt n) (numbers.brown-conrady n))))
+      ≡ numbers.first-of (cond a 4 (cond b 6 (cond c 8 12))) n
+  by-model true b c = refl
+  by-model false true c = refl
+  by-model false false true = refl
+  by-model false false false = refl
+
+  -- The parameters of the camera of a model and numbers are the numbers, in order, as many as the model has.
+  pub parameters-are : (model : ℕ) → parameters (numbers.camera-of model n) ≡ numbers.first-of (numbers.count model) n
+  parameters-are model = by-model (eqb model 0) (eqb model 1) (eqb model 2)
 
 -- ---- the refusals: the number told is that of the first row that holds, and 0 if none does
 

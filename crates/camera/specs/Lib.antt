@@ -1,2 +1,3 @@
 pub mod Camera
+pub mod Numbers
 pub mod Rows

@@ -18,6 +18,8 @@ use lens::Point;
 use lens::Refusal;
 use lens::Undistorted;
 
+pub mod numbers;
+
 // A camera: its model, with the model's parameters.
 pub enum Camera {
     Affine(AffineParams),

@@ -7,7 +7,8 @@ use borrow.Author.Tests.{le-leb, lt-leb, eq-eqb, ne-eqb}
 use lib.Dec.{eqb}
 use lib.ListN.{length}
 use Rattle.lens.specs.declared.Refusal.the-variants.{UnknownModel, WrongCount}
-use Rattle.camera_bytes.specs.Reading.{count, camera-of, read}
+use Rattle.camera.specs.Numbers.{count}
+use Rattle.camera_bytes.specs.Reading.{camera-of, read}
 use Rattle.camera_bytes.specs.declared.Asked.{Asked}
 use Rattle.camera_bytes.specs.declared.Asked.the-variants.{Of, Refused}
 

@@ -16,7 +16,8 @@ use Rattle.lens.proofs.Laws.{number-one-to-one, number-within}
 use Rattle.camera.specs.declared.Camera.{Camera}
 use Rattle.camera_file.specs.Text.{CameraFile, text-of, Form}
 use Rattle.camera_file.specs.Reading.{is-file, file-of, read}
-use Rattle.camera_file.specs.Asked.{model, count, camera-of, asked-of, asked, asked-if, parsed, ToldFile, told-file}
+use Rattle.camera.specs.Numbers.{count}
+use Rattle.camera_file.specs.Asked.{model, camera-of, asked-of, asked, asked-if, parsed, ToldFile, told-file}
 use Rattle.camera_file.specs.Rows.{is-unknown, wrong-count, file-rows}
 use Rattle.camera_file.specs.declared.Named.{Named}
 use Rattle.camera_file.specs.declared.Named.the-variants.{Known, Unknown}

@@ -6,13 +6,12 @@ use Prim.Native.Nat.{ℕ}
 use borrow.Author.Tests.{eq-eqb, ne-eqb}
 use lib.ListN.{length}
 use Rattle.lens.specs.declared.Refusal.the-variants.{UnknownModel, WrongCount}
+use Rattle.camera.specs.Numbers.{count}
 use Rattle.camera.specs.declared.Camera.{Camera}
 use Rattle.decimal.specs.Text.{same}
 use Rattle.params_line.specs.Params.{many, params-of}
 use Rattle.params_line.proofs.Params.{params-length}
-use Rattle.camera_file.specs.Asked.{affine-word, eucm-word, kb-word, bc-word, model, count, counted, camera-of, asked-of}
-use Rattle.camera_file.specs.declared.Model.{Model}
-use Rattle.camera_file.specs.declared.Model.the-variants.{Affine, EnhancedUnified, KannalaBrandt, BrownConrady}
+use Rattle.camera_file.specs.Asked.{affine-word, eucm-word, kb-word, bc-word, model, counted, camera-of, asked-of}
 use Rattle.camera_file.specs.declared.Named.{Named}
 use Rattle.camera_file.specs.declared.Named.the-variants.{Known, Unknown}
 use Rattle.camera_file.specs.declared.Parsed.{Parsed}
@@ -31,7 +30,7 @@ module _ (line : List ℕ) (width height : ℕ) {named : Named} where
   pub asked-unknown : named ≡ Unknown → Refused UnknownModel ≡ asked-of named width height (params-of line)
   asked-unknown e = ap (λ (n : Named). asked-of n width height (params-of line)) (sym e)
 
-  module _ {m : Model} (e : named ≡ Known m) {n k : ℕ} (f : n ≡ many line) (g : k ≡ count m) where
+  module _ {m : ℕ} (e : named ≡ Known m) {n k : ℕ} (f : n ≡ many line) (g : k ≡ count m) where
     known : asked-of (Known m) width height (params-of line) ≡ asked-of named width height (params-of line)
     known = ap (λ (x : Named). asked-of x width height (params-of line)) (sym e)
 
@@ -45,21 +44,21 @@ module _ (line : List ℕ) (width height : ℕ) {named : Named} where
 -- ---- the model of a name, once it is compared so far
 
 module _ (name : List ℕ) where
-  pub is-affine : same name affine-word ≡ true → Known Affine ≡ model name
+  pub is-affine : same name affine-word ≡ true → Known 0 ≡ model name
   unfolding model
   is-affine a = simp a
 
   module _ (a : same name affine-word ≡ false) where
-    pub is-eucm : same name eucm-word ≡ true → Known EnhancedUnified ≡ model name
+    pub is-eucm : same name eucm-word ≡ true → Known 1 ≡ model name
     unfolding model
     is-eucm b = simp (a, b)
 
     module _ (b : same name eucm-word ≡ false) where
-      pub is-kb : same name kb-word ≡ true → Known KannalaBrandt ≡ model name
+      pub is-kb : same name kb-word ≡ true → Known 2 ≡ model name
       unfolding model
       is-kb c = simp (a, b, c)
 
-      pub is-bc : same name kb-word ≡ false → same name bc-word ≡ true → Known BrownConrady ≡ model name
+      pub is-bc : same name kb-word ≡ false → same name bc-word ≡ true → Known 3 ≡ model name
       unfolding model
       is-bc c d = simp (a, b, c, d)
 

@@ -10,19 +10,18 @@ use Rattle.decimal.specs.Text.{same}
 use Rattle.lens.specs.Constants.{zeros}
 use Rattle.lens.specs.Refusal.{number}
 use Rattle.lens.specs.declared.Refusal.the-variants.{UnknownModel, WrongCount, NotTheForm}
+use Rattle.camera.specs.Numbers as numbers
 use Rattle.camera.specs.declared.Camera.{Camera}
 use Rattle.camera.specs.declared.Camera.the-variants as cameras
 use Rattle.params_line.specs.Params.{at}
 use Rattle.camera_file.specs.Text.{CameraFile}
 use Rattle.camera_file.specs.Reading.{read}
-use Rattle.camera_file.specs.declared.Model.{Model}
-use Rattle.camera_file.specs.declared.Model.the-variants.{Affine, EnhancedUnified, KannalaBrandt, BrownConrady}
 use Rattle.camera_file.specs.declared.Named.{Named}
 use Rattle.camera_file.specs.declared.Named.the-variants.{Known, Unknown}
 use Rattle.camera_file.specs.declared.Parsed.{Parsed}
 use Rattle.camera_file.specs.declared.Parsed.the-variants.{Asked, Refused}
 
--- ---- 1: the names `affine`, `eucm`, `kb`, `bc`
+-- ---- 1: the names `affine`, `eucm`, `kb`, `bc`, of the models 0 to 3
 
 abbrev pub affine-word : List ℕ
 affine-word = 97 ∷ 102 ∷ 102 ∷ 105 ∷ 110 ∷ 101 ∷ []
@@ -38,61 +37,23 @@ bc-word = 98 ∷ 99 ∷ []
 
 unfoldable pub model : List ℕ → Named
 model name =
-    cond (same name affine-word) (Known Affine)
-    (cond (same name eucm-word) (Known EnhancedUnified)
-    (cond (same name kb-word) (Known KannalaBrandt)
-    (cond (same name bc-word) (Known BrownConrady) Unknown)))
+    cond (same name affine-word) (Known 0)
+    (cond (same name eucm-word) (Known 1)
+    (cond (same name kb-word) (Known 2)
+    (cond (same name bc-word) (Known 3) Unknown)))
 
 -- ---- 3: the model's count
-
-abbrev pub count : Model → ℕ
-count Affine = 4
-count EnhancedUnified = 6
-count KannalaBrandt = 8
-count BrownConrady = 12
 
 abbrev pub counted : ℕ → List ℕ → Parsed → Parsed
 counted count params answer = cond (eqb (length params) count) answer (Refused WrongCount)
 
 -- ---- the camera of its parameters, in order
 
-abbrev pub affine : List ℕ → Camera
-affine p = cameras.Affine record { fx = at p 0; fy = at p 1; cx = at p 2; cy = at p 3 }
-
-abbrev pub enhanced-unified : List ℕ → Camera
-enhanced-unified p =
-    cameras.EnhancedUnified record { fx = at p 0; fy = at p 1; cx = at p 2; cy = at p 3; alpha = at p 4; beta = at p 5 }
-
-abbrev pub kannala-brandt : List ℕ → Camera
-kannala-brandt p =
-    cameras.KannalaBrandt
-    record { fx = at p 0; fy = at p 1; cx = at p 2; cy = at p 3; k0 = at p 4; k1 = at p 5; k2 = at p 6; k3 = at p 7 }
-
-abbrev pub brown-conrady : List ℕ → Camera
-brown-conrady p =
-    cameras.BrownConrady record {
-      fx = at p 0;
-      fy = at p 1;
-      cx = at p 2;
-      cy = at p 3;
-      k1 = at p 4;
-      k2 = at p 5;
-      p1 = at p 6;
-      p2 = at p 7;
-      k3 = at p 8;
-      k4 = at p 9;
-      k5 = at p 10;
-      k6 = at p 11;
-    }
-
-abbrev pub camera-of : Model → List ℕ → Camera
-camera-of Affine params = affine params
-camera-of EnhancedUnified params = enhanced-unified params
-camera-of KannalaBrandt params = kannala-brandt params
-camera-of BrownConrady params = brown-conrady params
+abbrev pub camera-of : ℕ → List ℕ → Camera
+camera-of model params = numbers.camera-of model (at params)
 
 abbrev pub asked-of : Named → ℕ → ℕ → List ℕ → Parsed
-asked-of (Known m) width height params = counted (count m) params (Asked (camera-of m params) width height)
+asked-of (Known m) width height params = counted (numbers.count m) params (Asked (camera-of m params) width height)
 asked-of Unknown width height params = Refused UnknownModel
 
 abbrev pub asked : CameraFile → Parsed

@@ -7,7 +7,8 @@ use lib.Dec.{eqb}
 use lib.ListN.{length}
 use Rattle.lens.specs.Rows.{Row, _when_}
 use Rattle.camera_file.specs.Reading.{is-file, file-of}
-use Rattle.camera_file.specs.Asked.{model, count}
+use Rattle.camera.specs.Numbers.{count}
+use Rattle.camera_file.specs.Asked.{model}
 use Rattle.camera_file.specs.declared.Named.{Named}
 use Rattle.camera_file.specs.declared.Named.the-variants.{Known, Unknown}
 

@@ -2,17 +2,15 @@
 // The code goes through the text once, a function for each field.
 ghost use mathlib.Core.Path.{_≡_};
 ghost use Rattle.decimal.specs.Text.{all};
-ghost use Rattle.params_line.specs.Params.{params-of};
+ghost use Rattle.params_line.specs.Params.{at, params-of};
+ghost use Rattle.camera.specs.Numbers.{first-of};
 ghost use Rattle.camera_file.specs.Text.{letter};
 ghost use Rattle.camera_file.specs.Reading.{place, is-name};
-ghost use Rattle.camera_file.specs.Asked.{model, count, affine, enhanced-unified, kannala-brandt, brown-conrady, camera-of, asked-of, parsed, told-file};
+ghost use Rattle.camera_file.specs.Asked.{model, camera-of, asked-of, parsed, told-file};
 ghost use Rattle.camera_file.specs.Steps.{Starts, from-params, from-height, from-width, from-name};
-use affine::AffineParams;
-use brown_conrady::BrownConradyParams;
 use camera::Camera;
+use camera::numbers::MOST;
 use decimal::Number;
-use enhanced_unified::EnhancedUnifiedParams;
-use kannala_brandt::KannalaBrandtParams;
 use lens::Refusal;
 
 // The most bytes that a text has.
@@ -28,17 +26,9 @@ pub enum Parsed {
     Refused(Refusal),
 }
 
-// The four models.
-enum Model {
-    Affine,
-    EnhancedUnified,
-    KannalaBrandt,
-    BrownConrady,
-}
-
-// What a name stands for.
+// What a name stands for: a model's number, or none.
 enum Named {
-    Known(Model),
+    Known(u8),
     Unknown,
 }
 
@@ -107,101 +97,45 @@ fn model_of(name: &[u8]) -> Named
     ensures { λ r. ⌜ r ≡ model (now (name .entry)) ⌝ }
 {
     if check::same(name, b"affine") {
-        return Named::Known(Model::Affine);
+        return Named::Known(0);
     }
     if check::same(name, b"eucm") {
-        return Named::Known(Model::EnhancedUnified);
+        return Named::Known(1);
     }
     if check::same(name, b"kb") {
-        return Named::Known(Model::KannalaBrandt);
+        return Named::Known(2);
     }
     if check::same(name, b"bc") {
-        return Named::Known(Model::BrownConrady);
+        return Named::Known(3);
     }
     Named::Unknown
 }
 
-// Each of these four says where its model's parameters stand.
-fn affine_of(line: &[u8]) -> Camera
-    ensures { λ r. ⌜ r ≡ affine (params-of (now (line .entry))) ⌝ }
+// The first twelve parameters of a line, zeros for those that are missing.
+fn numbers(line: &[u8]) -> [f64; MOST]
+    ensures { λ r. ⌜ r ≡ first-of 12 (at (params-of (now (line .entry)))) ⌝ }
 {
-    Camera::Affine(AffineParams {
-        fx: params_line::at(line, 0),
-        fy: params_line::at(line, 1),
-        cx: params_line::at(line, 2),
-        cy: params_line::at(line, 3),
-    })
+    [
+        params_line::at(line, 0),
+        params_line::at(line, 1),
+        params_line::at(line, 2),
+        params_line::at(line, 3),
+        params_line::at(line, 4),
+        params_line::at(line, 5),
+        params_line::at(line, 6),
+        params_line::at(line, 7),
+        params_line::at(line, 8),
+        params_line::at(line, 9),
+        params_line::at(line, 10),
+        params_line::at(line, 11),
+    ]
 }
 
-fn enhanced_unified_of(line: &[u8]) -> Camera
-    ensures { λ r. ⌜ r ≡ enhanced-unified (params-of (now (line .entry))) ⌝ }
-{
-    Camera::EnhancedUnified(EnhancedUnifiedParams {
-        fx: params_line::at(line, 0),
-        fy: params_line::at(line, 1),
-        cx: params_line::at(line, 2),
-        cy: params_line::at(line, 3),
-        alpha: params_line::at(line, 4),
-        beta: params_line::at(line, 5),
-    })
-}
-
-fn kannala_brandt_of(line: &[u8]) -> Camera
-    ensures { λ r. ⌜ r ≡ kannala-brandt (params-of (now (line .entry))) ⌝ }
-{
-    Camera::KannalaBrandt(KannalaBrandtParams {
-        fx: params_line::at(line, 0),
-        fy: params_line::at(line, 1),
-        cx: params_line::at(line, 2),
-        cy: params_line::at(line, 3),
-        k0: params_line::at(line, 4),
-        k1: params_line::at(line, 5),
-        k2: params_line::at(line, 6),
-        k3: params_line::at(line, 7),
-    })
-}
-
-fn brown_conrady_of(line: &[u8]) -> Camera
-    ensures { λ r. ⌜ r ≡ brown-conrady (params-of (now (line .entry))) ⌝ }
-{
-    Camera::BrownConrady(BrownConradyParams {
-        fx: params_line::at(line, 0),
-        fy: params_line::at(line, 1),
-        cx: params_line::at(line, 2),
-        cy: params_line::at(line, 3),
-        k1: params_line::at(line, 4),
-        k2: params_line::at(line, 5),
-        p1: params_line::at(line, 6),
-        p2: params_line::at(line, 7),
-        k3: params_line::at(line, 8),
-        k4: params_line::at(line, 9),
-        k5: params_line::at(line, 10),
-        k6: params_line::at(line, 11),
-    })
-}
-
-// How many parameters a model has.
-fn count(model: Model) -> usize
-    ensures { λ r. ⌜ r ≡ count model ⌝ }
-{
-    match model {
-        Model::Affine => 4,
-        Model::EnhancedUnified => 6,
-        Model::KannalaBrandt => 8,
-        Model::BrownConrady => 12,
-    }
-}
-
-// The camera of a params line that has as many.
-fn camera_of(model: Model, line: &[u8]) -> Camera
+// The camera of a params line that has as many parameters as the model.
+fn camera_of(model: u8, line: &[u8]) -> Camera
     ensures { λ r. ⌜ r ≡ camera-of model (params-of (now (line .entry))) ⌝ }
 {
-    match model {
-        Model::Affine => affine_of(line),
-        Model::EnhancedUnified => enhanced_unified_of(line),
-        Model::KannalaBrandt => kannala_brandt_of(line),
-        Model::BrownConrady => brown_conrady_of(line),
-    }
+    camera::numbers::camera_of(model, &numbers(line))
 }
 
 // 1, then 3, or what is asked for.
@@ -211,7 +145,7 @@ fn asked(named: Named, width: usize, height: usize, line: &[u8]) -> Parsed
     let Named::Known(model) = named else {
         return Parsed::Refused(Refusal::UnknownModel);
     };
-    if params_line::many(line) == count(model) {
+    if params_line::many(line) == camera::numbers::count(model) as usize {
         let camera = camera_of(model, line);
         return Parsed::Asked {
             camera,

@@ -18,10 +18,12 @@ use Rattle.region.specs.Fits.{FourFit}
 use Rattle.region.specs.Region.{four}
 use Rattle.region.specs.declared.Region.{Region}
 use Rattle.camera.specs.Camera.{parameters}
+use Rattle.camera.specs.Numbers.{affine, enhanced-unified, kannala-brandt, brown-conrady}
 use Rattle.camera.specs.declared.Camera.{Camera}
 use Rattle.camera.specs.declared.Camera.the-variants as cameras
 use Rattle.region_bytes.specs.Box.{box-at}
-use Rattle.camera_bytes.specs.Reading.{affine, enhanced-unified, kannala-brandt, brown-conrady, camera-of}
+use Rattle.camera_bytes.specs.Reading as reading
+use Rattle.camera_bytes.specs.Reading.{camera-of}
 use Rattle.job.specs.declared.Job.{Job}
 use Rattle.job_bytes.specs.Bytes.{model-number, twelve, job-at, body, record-bytes}
 use Rattle.job_bytes.proofs.Placing.{part₀, part₁, part₂, part₃, part₄, part₅, part₆, part₇, part₈, to₁, to₂, to₃, to₄, to₅, to₆, long₀, long₁, long₂, long₃, long₄, long₅, long₆, always-twelve}
@@ -43,7 +45,7 @@ padded-fit (suc k) (suc n) [] f = (zero-fits, padded-fit k n [] tt)
 padded-fit (suc k) n (x ∷ xs) f = (f .0, padded-fit k n xs (f .1))
 
 -- a camera out of any bytes has such parameters
-by-model-fit : (p : List ℕ) (a b c : Bool) → AllFit (parameters (cond a (affine p) (cond b (enhanced-unified p) (cond c (kannala-brandt p) (brown-conrady p)))))
+by-model-fit : (p : List ℕ) (a b c : Bool) → AllFit (parameters (cond a (affine (reading.at p)) (cond b (enhanced-unified (reading.at p)) (cond c (kannala-brandt (reading.at p)) (brown-conrady (reading.at p))))))
 by-model-fit p true b c = (ofBits-fits binary64 _, (ofBits-fits binary64 _, (ofBits-fits binary64 _, (ofBits-fits binary64 _, tt))))
 by-model-fit p false true c = (ofBits-fits binary64 _, (ofBits-fits binary64 _, (ofBits-fits binary64 _, (ofBits-fits binary64 _, (ofBits-fits binary64 _, (ofBits-fits binary64 _, tt))))))
 by-model-fit p false false true = (ofBits-fits binary64 _, (ofBits-fits binary64 _, (ofBits-fits binary64 _, (ofBits-fits binary64 _, (ofBits-fits binary64 _, (ofBits-fits binary64 _, (ofBits-fits binary64 _, (ofBits-fits binary64 _, tt))))))))

@@ -14,7 +14,8 @@ use Rattle.lens.specs.declared.Judgement.the-variants.{Taken, Refused}
 use Rattle.lens.specs.declared.Refusal.the-variants.{UnknownModel, WrongCount}
 use Rattle.lens.proofs.Laws.{number-within}
 use Rattle.camera.specs.declared.Camera.{Camera}
-use Rattle.camera_bytes.specs.Reading.{count, camera-of, read}
+use Rattle.camera.specs.Numbers.{count}
+use Rattle.camera_bytes.specs.Reading.{camera-of, read}
 use Rattle.camera_bytes.specs.declared.Asked.{Asked}
 use Rattle.camera_bytes.specs.declared.Asked.the-variants as asked
 use Rattle.given.specs.Given.{Given, given, code, answered}

@@ -64,11 +64,39 @@ every-byte out₀ at count number out i rest p h =
     let none : 0 ≡ count - i = omega arith in
     ap (λ (n : ℕ). sets out (at + i) (bytes n rest)) none ∙ p .left
 
--- ---- one number after the other
+-- ---- four bytes, and eight
 
 pub sets-append : (l : List ℕ) (i : ℕ) (xs ys : List ℕ) (j : ℕ) → j ≡ i + length xs → sets (sets l i xs) j ys ≡ sets l i (xs ++ ys)
 sets-append l i [] ys j e = ap (λ (k : ℕ). sets l k ys) (omega (arith, e))
 sets-append l i (x ∷ xs) ys j e = sets-append (set l i x) (suc i) xs ys j (omega (arith, e))
+
+pub four-set :
+    (out : List ℕ) (at w : ℕ) →
+    set (set (set (set out at (w % 256)) (at + 1) (w / 256 % 256)) (at + 2) (w / 65536 % 256)) (at + 3) (w / 16777216 % 256)
+    ≡ sets out at (bytes 4 w)
+unfolding bytes
+four-set out at w =
+    let third : w / 65536 ≡ w / 256 / 256 = omega arith in
+    let fourth : w / 16777216 ≡ w / 256 / 256 / 256 = omega arith in
+    let one : at + 1 ≡ suc at = omega arith in
+    let two : at + 2 ≡ suc (suc at) = omega arith in
+    let three : at + 3 ≡ suc (suc (suc at)) = omega arith in
+    simp (third, fourth, one, two, three)
+
+pub eight-set :
+    (out : List ℕ) (at w : ℕ) (between after : List ℕ) →
+    between ≡ sets out at (bytes 4 w) →
+    after ≡ sets between (at + 4) (bytes 4 (w / 4294967296)) →
+    after ≡ sets out at (bytes 8 w)
+unfolding bytes
+eight-set out at w between after e f =
+    let rest : w / 4294967296 ≡ w / 256 / 256 / 256 / 256 = omega arith in
+    f
+    ∙ ap (λ (v : ℕ). sets between (at + 4) (bytes 4 v)) rest
+    ∙ ap (λ (l : List ℕ). sets l (at + 4) (bytes 4 (w / 256 / 256 / 256 / 256))) e
+    ∙ sets-append out at (bytes 4 w) (bytes 4 (w / 256 / 256 / 256 / 256)) (at + 4) refl
+
+-- ---- one number after the other
 
 pub record Floatwise (out₀ : List ℕ) (at : ℕ) (numbers : List Float) (out : List ℕ) (i : ℕ) : Type 0 where
   pub within : i ≤ length numbers
@@ -122,3 +150,15 @@ module _ (at : ℕ) (new bs : List ℕ) where
   pub not-fitting : length bs < at + length new → bs ≡ put at new bs
   unfolding put
   not-fitting h = simp (lt-leb (at + length new) (length bs) h)
+
+-- as many bytes written as the count says, by the writer of so many
+pub counted :
+    (n at count number : ℕ) (bs after : List ℕ) →
+    count ≡ n →
+    after ≡ sets bs at (bytes n number) →
+    at + count ≤ length bs →
+    after ≡ put at (bytes count number) bs
+counted n at count number bs after e f h =
+    f
+    ∙ ap (λ (k : ℕ). sets bs at (bytes k number)) (sym e)
+    ∙ sym (fitting at (bytes count number) bs (omega (arith, h, length-bytes count number)))

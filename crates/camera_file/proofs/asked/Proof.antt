@@ -22,6 +22,9 @@ many-requires c κs = search needs
 count-requires : tie.Need-count-requires
 count-requires c κs = search needs
 
+cast-if1 : tie.Need-cast-if1
+cast-if1 c = search needs
+
 camera-of-requires : tie.Need-camera-of-requires
 camera-of-requires c κs = search needs
 
@@ -44,6 +47,7 @@ asked-spec =
     returns
     many-requires
     count-requires
+    cast-if1
     camera-of-requires
     returns-2
     returns-3)

@@ -16,11 +16,11 @@ abbrev μ-loop : tie.MeasureT-loop
 loop-holds : tie.Need-loop-holds Inv-loop μ-loop
 loop-holds c = no-float _ _ _ (c .before .before .pre)
 
-mul-write : tie.Need-mul-write Inv-loop μ-loop
-mul-write c = omega arith
+mul-write-eight : tie.Need-mul-write-eight Inv-loop μ-loop
+mul-write-eight c = omega arith
 
-add-write : tie.Need-add-write Inv-loop μ-loop
-add-write c = omega arith
+add-write-eight : tie.Need-add-write-eight Inv-loop μ-loop
+add-write-eight c = omega arith
 
 mul-to-bits : tie.Need-mul-to-bits Inv-loop μ-loop
 mul-to-bits c = search needs
@@ -31,8 +31,8 @@ shared-slice-read-to-bits c = search needs
 to-bits-requires : tie.Need-to-bits-requires Inv-loop μ-loop
 to-bits-requires c κs = search needs
 
-write-requires : tie.Need-write-requires Inv-loop μ-loop
-write-requires c κs = omega arith
+write-eight-requires : tie.Need-write-eight-requires Inv-loop μ-loop
+write-eight-requires c κs = omega arith
 
 add-i : tie.Need-add-i Inv-loop μ-loop
 add-i c = search needs
@@ -41,7 +41,7 @@ loop-less : tie.Need-loop-less Inv-loop μ-loop
 loop-less c = search needs
 
 loop-again : tie.Need-loop-again Inv-loop μ-loop
-loop-again c = next-float _ _ _ _ _ _ _ _ (c .before .before .before .before .before .before .before .loop .inv) (c .before .before .before .before .before .before .loop-test .taken) (c .before .before .before .to-bits .ensures) (c .before .before .write .ensures)
+loop-again c = next-float _ _ _ _ _ _ _ _ (c .before .before .before .before .before .before .before .loop .inv) (c .before .before .before .before .before .before .loop-test .taken) (c .before .before .before .to-bits .ensures) (c .before .before .write-eight .ensures)
 
 same-length : tie.Need-same-length Inv-loop μ-loop
 same-length c = c .before .loop .inv .long
@@ -56,12 +56,12 @@ write-floats-spec =
     Inv-loop
     μ-loop
     loop-holds
-    mul-write
-    add-write
+    mul-write-eight
+    add-write-eight
     mul-to-bits
     shared-slice-read-to-bits
     to-bits-requires
-    write-requires
+    write-eight-requires
     add-i
     loop-less
     loop-again

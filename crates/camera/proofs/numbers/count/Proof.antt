@@ -1,7 +1,7 @@
--- `camera_bytes::count` meets its contract. Assumes nothing.
+-- `camera::numbers::count` meets its contract. Assumes nothing.
 use borrow.Author.Tests.{eq-eqb, ne-eqb}
-use Rattle.camera_bytes.proofs.count.Statement.{statement}
-use Rattle.camera_bytes.proofs.count.Tie as tie
+use Rattle.camera.proofs.numbers.count.Statement.{statement}
+use Rattle.camera.proofs.numbers.count.Tie as tie
 
 returns : tie.Need-returns
 returns c = simp (eq-eqb _ _ (c .if1 .taken))

@@ -1,0 +1,159 @@
+// The four models by number, and their parameters as numbers: what bytes and text know of a camera. Nobody else says in
+// which order a model's parameters stand.
+ghost use mathlib.Core.Path.{_≡_};
+ghost use Rattle.camera.specs.Numbers.{count, at, brown-conrady, camera-of, model-number, twelve};
+use crate::Camera;
+use affine::AffineParams;
+use brown_conrady::BrownConradyParams;
+use enhanced_unified::EnhancedUnifiedParams;
+use kannala_brandt::KannalaBrandtParams;
+
+// The highest number of a model, and the most parameters that one has.
+pub const LAST: u8 = 3;
+
+pub const MOST: usize = 12;
+
+// How many parameters a model has.
+pub fn count(model: u8) -> u8
+    ensures { λ r. ⌜ r ≡ count model ⌝ }
+{
+    if model == 0 {
+        4
+    } else if model == 1 {
+        6
+    } else if model == 2 {
+        8
+    } else {
+        12
+    }
+}
+
+fn brown_conrady_of(n: &[f64; MOST]) -> Camera
+    ensures { λ r. ⌜ r ≡ brown-conrady (at (now (n .entry))) ⌝ }
+{
+    Camera::BrownConrady(BrownConradyParams {
+        fx: n[0],
+        fy: n[1],
+        cx: n[2],
+        cy: n[3],
+        k1: n[4],
+        k2: n[5],
+        p1: n[6],
+        p2: n[7],
+        k3: n[8],
+        k4: n[9],
+        k5: n[10],
+        k6: n[11],
+    })
+}
+
+// The camera of a model, its k-th parameter the k-th number.
+pub fn camera_of(model: u8, n: &[f64; MOST]) -> Camera
+    ensures { λ r. ⌜ r ≡ camera-of model (at (now (n .entry))) ⌝ }
+{
+    let fx = n[0];
+    let fy = n[1];
+    let cx = n[2];
+    let cy = n[3];
+    if model == 0 {
+        Camera::Affine(AffineParams { fx, fy, cx, cy })
+    } else if model == 1 {
+        Camera::EnhancedUnified(EnhancedUnifiedParams {
+            fx,
+            fy,
+            cx,
+            cy,
+            alpha: n[4],
+            beta: n[5],
+        })
+    } else if model == 2 {
+        Camera::KannalaBrandt(KannalaBrandtParams {
+            fx,
+            fy,
+            cx,
+            cy,
+            k0: n[4],
+            k1: n[5],
+            k2: n[6],
+            k3: n[7],
+        })
+    } else {
+        brown_conrady_of(n)
+    }
+}
+
+// The number of a camera's model.
+pub fn model_number(camera: Camera) -> u8
+    ensures { λ r. ⌜ r ≡ model-number camera ⌝ }
+{
+    match camera {
+        Camera::Affine(_) => 0,
+        Camera::EnhancedUnified(_) => 1,
+        Camera::KannalaBrandt(_) => 2,
+        Camera::BrownConrady(_) => 3,
+    }
+}
+
+// A camera's parameters, and zeros behind them.
+pub fn twelve(camera: Camera) -> [f64; MOST]
+    ensures { λ r. ⌜ r ≡ twelve camera ⌝ }
+{
+    match camera {
+        Camera::Affine(p) => [
+            p.fx,
+            p.fy,
+            p.cx,
+            p.cy,
+            0.0,
+            0.0,
+            0.0,
+            0.0,
+            0.0,
+            0.0,
+            0.0,
+            0.0,
+        ],
+        Camera::EnhancedUnified(p) => [
+            p.fx,
+            p.fy,
+            p.cx,
+            p.cy,
+            p.alpha,
+            p.beta,
+            0.0,
+            0.0,
+            0.0,
+            0.0,
+            0.0,
+            0.0,
+        ],
+        Camera::KannalaBrandt(p) => [
+            p.fx,
+            p.fy,
+            p.cx,
+            p.cy,
+            p.k0,
+            p.k1,
+            p.k2,
+            p.k3,
+            0.0,
+            0.0,
+            0.0,
+            0.0,
+        ],
+        Camera::BrownConrady(p) => [
+            p.fx,
+            p.fy,
+            p.cx,
+            p.cy,
+            p.k1,
+            p.k2,
+            p.p1,
+            p.p2,
+            p.k3,
+            p.k4,
+            p.k5,
+            p.k6,
+        ],
+    }
+}
