@@ -45,7 +45,8 @@ def root(x):
 
 QUARTER, HALF = 905502432259640355, 1811004864519280710
 RECIPROCALS = [2**60 // (2 * k + 1) for k in range(24)]
-SMALL, NEAR, PACE, LIMIT = 2.0**-20, 2.0**-46, 2.0**-47, 1.5
+SMALL, NEAR, LIMIT = 2.0**-20, 2.0**-46, 1.5
+SEAM, QUARTER_END, HALF_END = 0.3805063771123649, 0.7853981633974483, 1.5707963267948966
 
 
 def product(a, b):
@@ -54,14 +55,17 @@ def product(a, b):
     return a1 * b1 + (a1 * b0 + a0 * b1 >> 30)
 
 
-def angle(z):
-    s = int(z * 2.0**60)
+def series(s):
     y = product(s, s)
     h = 0
     for c in reversed(RECIPROCALS):
         h = c - product(y, h)
         assert h >= 0
     return product(s, h)
+
+
+def angle(z):
+    return series(int(z * 2.0**60))
 
 
 def back(n):
@@ -107,18 +111,30 @@ def cosine(theta):
     return (((c - 0.001388888888888889) * y + 0.041666666666666664) * y - 0.5) * y + 1.0
 
 
-def found(theta):
-    low, width = 0, 2**53
-    while width > 1:
-        width >>= 1
-        if arctangent(float(low + width) * PACE) <= theta:
-            low += width
-    return low
+def solution(top, n):
+    w = n
+    for _ in range(4):
+        e = max(n - series(w), 0)
+        w += e + product(product(w, w), e)
+    return min(w, top)
+
+
+def lower(x):
+    one = 2**60
+    if x < SEAM:
+        return float(solution(2 * one // 5, int(x * 2.0**60))) / float(one)
+    w = solution(3 * one // 7, int((QUARTER_END - x) * 2.0**60))
+    return float(one - w) / float(one + w)
+
+
+def solved(theta):
+    """What the tangent is where the guess fails its test. No angle is known of which it does."""
+    return lower(theta) if theta <= QUARTER_END else 1.0 / lower(HALF_END - theta)
 
 
 def steep(theta):
     t = div(sine(theta), cosine(theta))
-    return t if close(t, theta) else float(found(theta)) * PACE
+    return t if close(t, theta) else solved(theta)
 
 
 def tangent(theta):

@@ -4,7 +4,7 @@ use crate::tables::increments_number;
 use rust_text::COUNTS;
 
 /// Whether a record ends in a check word, over the words before it.
-pub const CHECKED: bool = false;
+pub const CHECKED: bool = true;
 pub const BYTES: usize = if CHECKED { 192 } else { 184 };
 /// Where the check word stands, and what it is for words that are all 0: "LENSJOB1".
 const CHECK: usize = 184;
