@@ -10,14 +10,9 @@
 // table as it is then, two for each cell: one that was not written has 3f000000, as before the first turn.
 // A line that is not of that form, or asks for more cells than there is room for, is answered by `bad`.
 // The last line says how many were answered.
-use affine::AffineParams;
-use brown_conrady::BrownConradyParams;
-use camera::Camera;
 use distortion_table::Status;
-use enhanced_unified::EnhancedUnifiedParams;
 use job::Job;
 use job::Started;
-use kannala_brandt::KannalaBrandtParams;
 use lens::Refusal;
 use libc::STDIN_FILENO;
 use libc::STDOUT_FILENO;
@@ -33,7 +28,7 @@ const FIELDS: usize = 16;
 const LINE: usize = 272;
 
 // The parameters in a line, and the field that the first stands in.
-const PARAMS: usize = 12;
+const PARAMS: usize = camera::numbers::MOST;
 
 const FIRST: usize = 4;
 
@@ -66,65 +61,9 @@ fn params_asked(q: &[u64; FIELDS]) -> [f64; PARAMS] {
     params
 }
 
-// Each of these four says where its model's parameters stand.
-fn affine_of(p: &[f64; PARAMS]) -> Camera {
-    Camera::Affine(AffineParams {
-        fx: p[0],
-        fy: p[1],
-        cx: p[2],
-        cy: p[3],
-    })
-}
-
-fn enhanced_unified_of(p: &[f64; PARAMS]) -> Camera {
-    Camera::EnhancedUnified(EnhancedUnifiedParams {
-        fx: p[0],
-        fy: p[1],
-        cx: p[2],
-        cy: p[3],
-        alpha: p[4],
-        beta: p[5],
-    })
-}
-
-fn kannala_brandt_of(p: &[f64; PARAMS]) -> Camera {
-    Camera::KannalaBrandt(KannalaBrandtParams {
-        fx: p[0],
-        fy: p[1],
-        cx: p[2],
-        cy: p[3],
-        k0: p[4],
-        k1: p[5],
-        k2: p[6],
-        k3: p[7],
-    })
-}
-
-fn brown_conrady_of(p: &[f64; PARAMS]) -> Camera {
-    Camera::BrownConrady(BrownConradyParams {
-        fx: p[0],
-        fy: p[1],
-        cx: p[2],
-        cy: p[3],
-        k1: p[4],
-        k2: p[5],
-        p1: p[6],
-        p2: p[7],
-        k3: p[8],
-        k4: p[9],
-        k5: p[10],
-        k6: p[11],
-    })
-}
-
-// The camera of a model, 0 to 3.
-fn camera_of(model: u64, p: &[f64; PARAMS]) -> Camera {
-    match model {
-        0 => affine_of(p),
-        1 => enhanced_unified_of(p),
-        2 => kannala_brandt_of(p),
-        _ => brown_conrady_of(p),
-    }
+// The model that a field names. What is no byte is named by one that is no model.
+fn model_of(field: u64) -> u8 {
+    if field < 256 { field as u8 } else { 255 }
 }
 
 // Writes a line's first word.
@@ -288,7 +227,11 @@ fn answer_question(q: &[u64; FIELDS]) {
     let height = q[2] as usize;
     let allowance = q[3] as usize;
     let params = params_asked(q);
-    match job::fresh(camera_of(q[0], &params), width, height) {
+    match job::fresh(
+        camera::numbers::camera_of(model_of(q[0]), &params),
+        width,
+        height,
+    ) {
         Started::Refused(refusal) => {
             say_refusal(refusal);
             say_end();
