@@ -194,7 +194,8 @@ uint8_t lens_dx_distort_params(uint8_t model, const uint8_t *params, size_t para
  * and so on, the check word among them) became others. So in particular any change within one byte. A turn then
  * returns 1, 4, 5, 6, 7 or 13, never another number, and writes nothing.
  * Not caught for certain: changes in two words or more, which may cancel out in the sum, as two exchanged words of the
- * 23 do; bytes whose check word was worked out anew; a sound job of another build or of an earlier turn.
+ * 23 do, or two doubles that both change their sign; bytes whose check word was worked out anew; a sound job of another
+ * build or of an earlier turn.
  * Not checked at all: the table's floats, which no turn reads; the region handed to lens_lookup; observations. */
 
 /* What a turn answers: four uint64_t. */
