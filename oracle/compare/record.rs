@@ -3,9 +3,7 @@ use crate::judge::camera_refused;
 use crate::tables::increments_number;
 use rust_text::COUNTS;
 
-/// Whether a record ends in a check word, over the words before it.
-pub const CHECKED: bool = true;
-pub const BYTES: usize = if CHECKED { 192 } else { 184 };
+pub const BYTES: usize = 192;
 /// Where the check word stands, and what it is for words that are all 0: "LENSJOB1".
 const CHECK: usize = 184;
 const CHECK_OF_ZEROS: u64 = 0x31424f4a534e454c;
@@ -46,10 +44,8 @@ pub fn bytes_of(numbers: &[f64]) -> Vec<u8> {
 
 /// Puts the right check word behind the others.
 pub fn seal(bytes: &mut [u8]) {
-    if CHECKED {
-        let check = check_of(bytes);
-        bytes[CHECK..].copy_from_slice(&check.to_le_bytes());
-    }
+    let check = check_of(bytes);
+    bytes[CHECK..].copy_from_slice(&check.to_le_bytes());
 }
 
 fn check_of(bytes: &[u8]) -> u64 {
@@ -140,7 +136,7 @@ pub fn refusal(job: &[u8], places: usize, answer_length: usize) -> u8 {
         Some(number) => number,
         None if !sized(held.width, held.height) => 6,
         None if places as u64 != 2 * held.width as u64 * held.height as u64 || answer_length != ANSWER_BYTES => 7,
-        None if held.of_no_build() || CHECKED && word(job, CHECK) != check_of(job) => 13,
+        None if held.of_no_build() || word(job, CHECK) != check_of(job) => 13,
         None => 0,
     }
 }

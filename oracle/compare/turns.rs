@@ -193,10 +193,10 @@ fn damaged_record(r: &mut Random, held: Record) -> Vec<u8> {
         let (at, length, bits) = damage_of_record(r, &held);
         bytes[at..at + length].copy_from_slice(&bits.to_le_bytes()[..length]);
     }
-    if !record::CHECKED || r.one_in(2) {
+    if r.one_in(2) {
         record::seal(&mut bytes);
     }
-    if record::CHECKED && r.one_in(4) {
+    if r.one_in(4) {
         bytes[r.below(record::BYTES)] ^= 1 << r.below(8);
     }
     bytes
