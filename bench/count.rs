@@ -66,7 +66,7 @@ fn draw(r: &mut Random, model: usize, operation: usize, stretched: bool) -> Case
 fn write_cases(model: &str, operation: &str, updates: &str) {
     let mut r = Random(20261115);
     if model == "one" {
-        let high = if operation == "tangent" { 1.5 } else { 2.0 };
+        let high = if operation == "tangent" { 99.0 / 64.0 } else { 2.0 };
         for _ in 0..64 {
             line(&std::array::from_fn(|i| if i == 12 { r.between(0.0, high) } else { 0.0 }));
         }

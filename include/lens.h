@@ -66,7 +66,7 @@ extern "C" {
 #define LENS_REFUSED_CELL_INFINITE 12         /* a cell's pixel is finite, but too large for a float */
 #define LENS_REFUSED_IMPOSSIBLE_JOB 13        /* the job's check word is wrong, or no build can have come to this job */
 
-#define LENS_ANGLE_LIMIT 1.5
+#define LENS_ANGLE_LIMIT 1.546875 /* 99/64, which is 88.6 degrees */
 
 /* ---- models and parameters
  *
@@ -271,12 +271,12 @@ static inline uint8_t lens_observe_list(uint8_t model, const uint8_t *params, si
  * NaN; which NaN isn't said. */
 double lens_root(double x);
 
-/* The arctangent of x, within 2^-40 of the published series (docs/RULES.md, 6). A zero gives itself, NaN gives NaN;
+/* The arctangent of x, within 2^-46 of the published series (docs/RULES.md, 6). A zero gives itself, NaN gives NaN;
  * which NaN isn't said. */
 double lens_arctangent(double x);
 
 /* The tangent of theta, for a theta of size LENS_ANGLE_LIMIT or less: a double, whose arctangent by the same series is
- * within 2^-38 of theta. answer_length: LENS_TANGENT_BYTES.
+ * within 2^-44 of theta. answer_length: LENS_TANGENT_BYTES.
  * A theta that is NaN or infinite is answered with NaN, written as 7ff8000000000000.
  * Returns 0, 7 or 10. */
 #define LENS_TANGENT_BYTES 8

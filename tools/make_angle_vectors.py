@@ -19,7 +19,7 @@ are its text. No float takes part, and neither does any code of the crates. Both
 whose image under an increasing function lies within a reach of a number: for the arctangent the image
 of r is r itself, and the number A(x) or 2P; for the tangent the image of t is A(t), and the number
 theta. `ends` finds the first such f64 and the last by halving the f64s in their order. The reaches
-are sharper than what is promised, 2^-40 and 2^-38: 2^-49 for the arctangent, for which 1129/2^60 is
+are sharper than what is promised, 2^-46 and 2^-44: 2^-49 for the arctangent, for which 1129/2^60 is
 proved, and 2^-45 for the tangent. Only afterwards the platform's math.atan and math.tan are held to
 lie between the ends, and a difference stops the script.
 
@@ -46,7 +46,8 @@ from make_leaf_vectors import around, both, f64, parts, value
 # ---- the series, and what is owed
 
 TWO_FIFTHS, FIVE_HALVES = Fraction(2, 5), Fraction(5, 2)
-LIMIT = Fraction(3, 2)
+LIMIT = Fraction(99, 64)
+BEFORE = Fraction(3, 2)  # the limit before request P7
 ARCTANGENT_REACH = Fraction(1, 2**49)
 TANGENT_REACH = Fraction(1, 2**45)
 
@@ -221,25 +222,28 @@ def arctangent_kinds(rng):
 def tangent_kinds(rng):
     # the angles at which the pieces of A meet, as f64s
     two_fifths, one, five_halves = (at_least(A(x)) for x in (TWO_FIFTHS, Fraction(1), FIVE_HALVES))
-    last = at_least(LIMIT)  # 3/2 is an f64, and the last that is answered
+    last, before = at_least(LIMIT), at_least(BEFORE)  # 99/64 is an f64, and the last that is answered
     powers = [-19, -18, -16, -12, -10, -8, -6, -5, -4, -3, -2, -1, 0]
-    steep = [at_least(Fraction(99, 64)), at_least(2 * P), f64(1, 1), f64(3, 0), at_least(4 * P), f64(1, 2)]
+    steep = [at_least(Fraction(31, 20)), at_least(2 * P), f64(1, 1), f64(3, 0), at_least(4 * P), f64(1, 2)]
     steep += [f64(10, 0), f64(355, 0), f64(1, 53), f64(1, 500), at_least(Fraction(10) ** 308), LARGEST]
     return {
         **shared_kinds(rng),
         "tangent near 2/5": both(beside(A(TWO_FIFTHS), NEAR)),
         "tangent near 1": both(beside(P, NEAR)),
         "tangent near 5/2": both(beside(A(FIVE_HALVES), NEAR)),
-        "3/2, the last answered, and below": both(last - n for n in NEAR),
-        "above 3/2, refused": both(last + n for n in NEAR[1:]),
+        "beside 3/2, the last one before P7": both(before + s * n for n in NEAR for s in (-1, 1)),
+        "99/64, the last answered, and below": both(last - n for n in NEAR),
+        "above 99/64, refused": both(last + n for n in NEAR[1:]),
+        "hundredth from 3/2 on": both(at_least(Fraction(n, 100)) for n in range(151, 155)),
         "far above, refused": both(steep),
         "power of two": both(f64(1, e) for e in powers),
-        "thirty-second": [rng.bits(1) * SIGN + f64(n, -5) for n in range(1, 49)],
+        "thirty-second": [rng.bits(1) * SIGN + f64(n, -5) for n in range(1, 50)],
         "random, small": between(rng, 0, SMALL, 10),
         "random, tangent up to 2/5": between(rng, SMALL, two_fifths, 35),
         "random, tangent up to 1": between(rng, two_fifths, one, 35),
         "random, tangent up to 5/2": between(rng, one, five_halves, 35),
-        "random, up to 3/2": between(rng, five_halves, last, 35),
+        "random, up to 3/2": between(rng, five_halves, before, 25),
+        "random, up to 99/64": between(rng, before, last, 30),
         "random, refused": between(rng, last + 1, f64(1, 2), 6) + between(rng, last + 1, INF, 6),
     }
 

@@ -336,7 +336,7 @@ def by_hand(head):
 
 # Words, camera, width, height, and what the words say: the refusal's number and the unit refused.
 JOBS = [
-    ("kb 1 1 0 0 0 0 0 0, 3 by 2: sample 2 lies at an angle over 3/2",
+    ("kb 1 1 0 0 0 0 0 0, 3 by 2: sample 2 lies at an angle over 99/64",
      KB, (1.0, 1.0, 0.0, 0.0, 0.0, 0.0, 0.0, 0.0), 3, 2, 10, 2),
     ("eucm 0.5 1 0.5 0.5 0.5 1, 3 by 2: sample 11 has no finite point",
      EUCM, (0.5, 1.0, 0.5, 0.5, *HALF_EUCM), 3, 2, 11, 11),

@@ -215,6 +215,19 @@ def narrow_and_flat():
     return found + by((KB, 2, 257, [200.0, 201.0, 0.5, 127.0] + KB_EXAMPLE), 521)
 
 
+# kb lenses whose corners lie at 87.0, 87.4 and 86.7 degrees off the axis: between 3/2 and 99/64
+WIDE = [
+    (KB, 5, 3, [1.92, 1.92, 2.0, 1.0, 0.0, 0.0, 0.0, 0.0]),
+    (KB, 16, 9, [-6.1, 5.75, 7.5, 4.0, 0.01, -0.004, 0.0, 0.0]),
+    (KB, 2, 7, [2.405, 2.405, 0.5, 3.0, 0.0, 0.0, 0.0, 0.0]),
+]
+
+
+def wide():
+    """Tables that reach 87 degrees, which were refused with 10 before request P7."""
+    return [q for case in WIDE for q in by(case, 7, LARGE)]
+
+
 def refused_4():
     """A NaN or an infinity at each parameter of each model, the patterns in turn. Some have a zero focal length or a
     wrong size as well: 4 comes first."""
@@ -400,6 +413,7 @@ def kinds():
     yield "64 by 48", ordinary()
     yield "16 by 9, by sevens", by_sevens()
     yield "narrow and flat", narrow_and_flat()
+    yield "87 degrees", wide()
     yield "refused 4", refused_4()
     yield "refused 5", refused_5()
     yield "refused 6", refused_6()

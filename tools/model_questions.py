@@ -26,6 +26,7 @@ from lens_models import (
     EUCM,
     FUNCTIONS,
     KB,
+    LIMIT,
     MODELS,
     OPERATIONS,
     SMALL,
@@ -257,11 +258,29 @@ def eps_edge():
 
 
 def limit_edge():
-    """kb without k has theta = radius: 3/2 is the last that is answered. And larger radii, which are not."""
-    radii = [math.nextafter(1.5, 0), 1.5, math.nextafter(1.5, 2), 1.50001, 1.57, 3.0, 1e10, 1e150]
+    """kb without k has theta = radius: 99/64 is the last that is answered, as 3/2 was before request P7. And larger
+    radii, which are not."""
+    radii = [math.nextafter(1.5, 0), 1.5, math.nextafter(1.5, 2), 1.50001, 1.518, 1.53, 1.546]
+    radii += [math.nextafter(LIMIT, 0), LIMIT, math.nextafter(LIMIT, 2), 1.54688, 1.57, 3.0, 1e10, 1e150]
     found = [(KB, UNDISTORT, unit(KB), s * r, 0.0) for r in radii for s in (1, -1)]
     # theta starts at its end, so the first step is small
     return found + [(KB, UNDISTORT, unit(KB), 1.0, 0.0), (KB, UNDISTORT, unit(KB), 0.0, -1.0000001)]
+
+
+# Degrees off the axis: past the old limit, 85.94, up to the new one, 88.63
+WIDE = (86.0, 86.5, 87.0, 87.25, 87.5, 88.0, 88.5, 88.6)
+
+
+def wide_kb(rng):
+    """A wheel's teeth at 87 degrees and around it: a point there by three operations, and the pixel it is seen at."""
+    for degrees in WIDE:
+        for params in (unit(KB), lens(rng, KB)[:4] + [uniform(rng, -s, s) for s in (0.02, 0.005, 0.002, 0.0005)]):
+            turned = uniform(rng, 0.0, 2 * math.pi)
+            x, y = (math.tan(math.radians(degrees)) * f(turned) for f in (math.cos, math.sin))
+            pixel = answer(KB, DISTORT, params, x, y)[1]
+            assert answer(KB, UNDISTORT, params, *pixel)[0] == 0
+            yield KB, UNDISTORT, params, *pixel
+            yield from ((KB, o, params, x, y) for o in (DISTORT, BY_POINT, BY_PARAMS))
 
 
 # With these two as the coefficients of the second and the fourth power, kb's first step and bc's at radius 1
@@ -380,7 +399,8 @@ def kinds():
     yield "by hand", by_hand()
     yield "zeros", zeros(Splitmix(10))
     yield "kb at EPS", eps_edge()
-    yield "kb at 3/2", limit_edge()
+    yield "kb at 99/64", limit_edge()
+    yield "kb at 86 to 88.6 degrees", wide_kb(Splitmix(14))
     yield "equal to EPS, or 0", equality_edge()
     yield "eucm's edges", eucm_edge()
     yield "infinite on the way", passing_overflow()
@@ -551,7 +571,7 @@ def test_edges():
     u, k1 = RESIDUAL_IS_EPS
     assert norm(bc_distortion_impl([k1] + [0.0] * 7, u, 0.0)[0] - u, 0.0) == EPS
     assert kb_newton(0.25, *ENDS_AT_ZERO, 0.0) == (0.0, 20, False)
-    last, past = (answer(KB, UNDISTORT, unit(KB), r, 0.0)[0] for r in (1.5, math.nextafter(1.5, 2)))
+    last, past = (answer(KB, UNDISTORT, unit(KB), r, 0.0)[0] for r in (LIMIT, math.nextafter(LIMIT, 2)))
     assert (last, past) == (0, 10)
     small, large = (answer(KB, UNDISTORT, unit(KB, 0.1), r, 0.0)[1][2] for r in (0.001, math.nextafter(0.001, 1)))
     assert small == 0 < large

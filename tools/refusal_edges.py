@@ -63,10 +63,10 @@ def refusal_5_among_others():
 
 
 def refusal_10():
-    """Newton's last theta is finite and past 3/2. Without bend Newton ends at the pixel's radius. At the radius 0.001
+    """Newton's last theta is finite and past 99/64. Without bend Newton ends at the pixel's radius. At the radius 0.001
     the last lens is all but flat where Newton starts: the first step leads far out, and 20 do not lead back; but up to
     a squared radius of EPS no step is made."""
-    last = bits(1.5)
+    last = bits(99 / 64)
     yield UNDISTORT, "kb 1 1 0 0 0 0 0 0 at (X, 0)", {last: 0, last + 1: 10, SIGN + last: 0, SIGN + last + 1: 10}
     yield UNDISTORT, "kb 1 1 0 0 0 0 0 0 at (0, X)", {last: 0, last + 1: 10}
     yield UNDISTORT, "kb 1 1 0 0 -333.3333 0 0 0 at (X, 0)", {0x3F50624DD2F1A9FC: 0, 0x3F50624DD2F1A9FD: 10}
@@ -74,7 +74,7 @@ def refusal_10():
 
 def between_10_and_11():
     """The largest pixel whose last theta is finite, and the next: theta's eighth power overflows on the way, and NaN
-    is not past 3/2. No pixel could be refused both: where theta is past 3/2 there is no answer to judge."""
+    is not past 99/64. No pixel could be refused both: where theta is past 99/64 there is no answer to judge."""
     yield UNDISTORT, "kb 1 1 0 0 0 0 0 0 at (X, 0)", {0x47EFFFFFFFFFFFFF: 10, 0x47F0000000000000: 11}
 
 
@@ -107,7 +107,7 @@ def refusal_11_distort():
 
 def refusal_11_undistort():
     """x or y is NaN or infinite. eucm: the z of the ray is zero at the pixel 2 alone, and near it the point is far out.
-    kb: the lens bends so much that Newton's first step overflows; up to there 20 steps lead to an angle below 3/2,
+    kb: the lens bends so much that Newton's first step overflows; up to there 20 steps lead to an angle below 99/64,
     though not to the right one, and the answer says that it did not settle."""
     yield from halves(UNDISTORT, "affine 0.5 1 0 0 at (X, 0)")
     two = bits(2.0)

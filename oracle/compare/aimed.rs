@@ -2,7 +2,7 @@
 // formula, and counted: a kind that is never met is an error of the oracle.
 use crate::cases::{valid, valid_camera, wild_place, Place, Random};
 use crate::judge::{Question, Trace};
-use crate::Oracle;
+use crate::{Oracle, LIMIT};
 
 const KINDS: [&str; 12] = [
     "eucm k above 0 by at most 1e-9",
@@ -12,7 +12,7 @@ const KINDS: [&str; 12] = [
     "bc 1/determinant above 1e9 at a later step",
     "bc determinant 0",
     "kb last theta below 0, answered",
-    "kb last theta below -3/2, refused 10",
+    "kb last theta below -99/64, refused 10",
     "kb last theta 0",
     "bc k4 k5 k6 all +0",
     "bc k4 k5 k6 all -0",
@@ -43,7 +43,7 @@ fn kinds(q: &Question, number: u8, trace: &Trace) -> [bool; 12] {
         near(trace.inverse[1]),
         trace.inverse.iter().any(|x| x.is_infinite()),
         theta < 0.0 && number == 0,
-        theta < -1.5 && number == 10,
+        theta < -LIMIT && number == 10,
         theta == 0.0,
         zeros && minus == 0,
         zeros && minus == 3,

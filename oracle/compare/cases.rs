@@ -1,4 +1,5 @@
 // Random cameras and points, valid and wild.
+use crate::LIMIT;
 
 /// splitmix64.
 pub struct Random(pub u64);
@@ -32,7 +33,7 @@ impl Random {
 
 /// Thresholds of the rules, and of root, arctangent and tangent.
 const THRESHOLDS: [f64; 12] =
-    [1e-6, 1e-3, 2e-3, 0.1, 0.2, 0.4, 0.5, 1.0, 1.5, 2.0, std::f64::consts::FRAC_PI_2, 1.3407807929942596e154];
+    [1e-6, 1e-3, 2e-3, 0.1, 0.2, 0.4, 0.5, 1.0, LIMIT, 2.0, std::f64::consts::FRAC_PI_2, 1.3407807929942596e154];
 
 /// Any finite number, the awkward ones often.
 pub fn wild(r: &mut Random) -> f64 {
@@ -97,13 +98,13 @@ pub fn valid(r: &mut Random, model: usize) -> Place {
     }
 }
 
-/// Points where a branch of the rules turns: kb's radius at the root of EPS, its angle at 3/2, zero and one axis.
+/// Points where a branch of the rules turns: kb's radius at the root of EPS, its angle at the tangent's limit, zero and one axis.
 fn edge(r: &mut Random, params: &[f64; 12]) -> [f64; 2] {
     let size = match r.below(4) {
         0 => r.near(&[1e-3]),
         1 => {
-            // the distorted angle of about 3/2
-            let t = if r.one_in(2) { r.near(&[1.5]) } else { 1.5 + r.between(-1e-9, 1e-9) };
+            // the distorted angle of about the limit
+            let t = if r.one_in(2) { r.near(&[LIMIT]) } else { LIMIT + r.between(-1e-9, 1e-9) };
             let t2 = t * t;
             t * (1.0 + t2 * (params[4] + t2 * (params[5] + t2 * (params[6] + t2 * params[7]))))
         }

@@ -25,6 +25,10 @@ const OPERATIONS: [&str; 4] = ["distort", "undistort", "dx_distort_x", "dx_disto
 /// Differences beyond this many are counted and not printed.
 const SHOWN: u64 = 20;
 
+/// The largest angle that has a tangent (docs/RULES.md 6.5), and what it was before request P7.
+const LIMIT: f64 = 99.0 / 64.0;
+const LIMIT_BEFORE: f64 = 1.5;
+
 /// Pixels that the second run's answers may differ by.
 const TOLERANCE: f64 = 1e-6;
 
@@ -107,13 +111,6 @@ impl Oracle {
         }
     }
 
-    /// Asks both, and gives our answer.
-    fn compare(&mut self, q: &Question) -> Given {
-        let ours = q.ask_ours();
-        self.hold(q, ours, q.owed());
-        ours
-    }
-
     fn hold(&mut self, q: &Question, ours: Given, owed: Given) {
         if ours != owed {
             let floats = |g: &Given| {
@@ -152,7 +149,12 @@ impl Oracle {
             if class == Class::Damaged {
                 damage::damage(&mut self.random, &mut q);
             }
-            let ours = self.compare(&q);
+            let ours = q.ask_ours();
+            let (owed, trace) = q.traced();
+            self.hold(&q, ours, owed);
+            if trace.theta.is_finite() && trace.theta.abs() > LIMIT_BEFORE {
+                tally.past_before[(ours.number != 0) as usize] += 1;
+            }
             tally.numbers[operation][ours.number as usize & 15] += 1;
             if ours.number == 0 && class != Class::Damaged && self.second_run(&q, &ours, class) {
                 tally.outliers[operation][class as usize] += 1;
@@ -179,6 +181,11 @@ impl Oracle {
                 wild
             );
         }
+        if model == 2 {
+            let [answered, refused] = tally.past_before;
+            println!("kb last theta past 3/2, refused 10 before request P7: answered now {}, refused still {}", answered, refused);
+            self.met("kb last theta past 3/2", &tally.past_before, &[0, 1]);
+        }
     }
 
     /// Root, arctangent and tangent by themselves: root by its bits, the other two by their bounds, with the platform's
@@ -197,16 +204,16 @@ impl Oracle {
             let (angle, platform) = (lens::arctangent(x), x.atan());
             let apart = (angle - platform).abs();
             arctangent_worst = arctangent_worst.max(apart);
-            if !(apart <= 2f64.powi(-40) + slack || x.is_nan() && angle.is_nan()) || x == 0.0 && angle.to_bits() != x.to_bits() {
+            if !(apart <= 2f64.powi(-46) + slack || x.is_nan() && angle.is_nan()) || x == 0.0 && angle.to_bits() != x.to_bits() {
                 self.differs(format!("arctangent of {:016x}: {:016x}", x.to_bits(), angle.to_bits()));
             }
             let right = match lens::tangent(x) {
-                Err(number) => number == 10 && x.is_finite() && x.abs() > 1.5,
+                Err(number) => number == 10 && x.is_finite() && x.abs() > LIMIT,
                 Ok(t) if !x.is_finite() => t.to_bits() == 0x7ff8 << 48,
                 Ok(t) => {
                     let apart = (t.atan() - x).abs();
                     tangent_worst = tangent_worst.max(apart);
-                    x.abs() <= 1.5 && apart <= 2f64.powi(-38) + slack && (x != 0.0 || t.to_bits() == x.to_bits())
+                    x.abs() <= LIMIT && apart <= 2f64.powi(-44) + slack && (x != 0.0 || t.to_bits() == x.to_bits())
                 }
             };
             if !right {
@@ -261,6 +268,8 @@ fn listed(numbers: &[u64; 16]) -> String {
 struct Tally {
     numbers: [[u64; 16]; 4],
     outliers: [[u64; 2]; 4],
+    /// Pixels whose last theta is past the limit before request P7: answered now, and refused.
+    past_before: [u64; 2],
 }
 
 /// Parts of a comparison, which standard error tells as they begin.

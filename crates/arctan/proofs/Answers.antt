@@ -1,4 +1,4 @@
--- The tangent owes what specs/Owed.antt says (`tangent-near`): below 2 ^ -20 the angle itself, up to 3/2 a guess that passed its test or what Newton's steps found, and past it a refusal. Assumes nothing.
+-- The tangent owes what specs/Owed.antt says (`tangent-near`): below 2 ^ -20 the angle itself, up to the limit a guess that passed its test or what Newton's steps found, and past it a refusal. Assumes nothing.
 use mathlib.Core.Path.{_≡_, refl, sym, _∙_, subst}
 use mathlib.Core.Bool.{Bool, true, false, not, cond, true≢false, false≢true}
 use Prim.Native.Nat.{ℕ, zero, suc, _*_, _^_}
@@ -26,7 +26,7 @@ use Rattle.arctan.proofs.Choice.{so, so-not, steep-guess, steep-solved,
 use Rattle.arctan.proofs.Tested.{bound, passed, guess-leads}
 use Rattle.arctan.proofs.Solving.{solved-leads}
 
--- ---- of an angle from 2 ^ -20 to 3/2
+-- ---- of an angle from 2 ^ -20 to the limit
 pub steep-leads : (theta : Float) → T (fits binary64 theta) → Between theta → Leads false (exactly theta) (steep theta)
 steep-leads theta f b = of (close t theta) refl
   where

@@ -2,17 +2,17 @@
 use mathlib.Core.Path.{_≡_, refl, sym, ap, _∙_, subst}
 use mathlib.Core.Logic.{_⊎_, inl, inr, _↔_}
 use mathlib.Core.Bool.{Bool, true, false, not, cond}
-use Prim.Native.Nat.{ℕ, zero, suc, _*_}
+use Prim.Native.Nat.{ℕ, zero, suc, _*_, _^_}
 use native.Mathlib.Omega.{arith}
-use lib.Dec.{T}
+use lib.Dec.{T, lit≤}
 use lib.IntN.{ℤ}
 use lib.Ieee.{Float, nan, inf, fin, binary64, up, down, fits, neg, lt, le, eq}
 use Rattle.exact.specs.Determined.{Determined}
 use Rattle.exact.specs.F64.{magnitude}
 use Rattle.exact.specs.Fraction.{Fraction, over, _≼_, _≺_}
-use Rattle.exact.proofs.Fractions.{≼-or-≺}
-use Rattle.arctan.specs.Series.{Arctangent, atMost, limit}
-use Rattle.arctan.specs.Owed.{slope-number, Past, Answered, Tangent, falling}
+use Rattle.exact.proofs.Fractions.{over-proper, over-≼, ≼-trans, ≼-or-≺, within-wider}
+use Rattle.arctan.specs.Series.{Arctangent, ArctangentBy, Angle, AngleBy, arctangentBound, tangentBound, atMost, limit}
+use Rattle.arctan.specs.Owed.{slope-number, Past, PastBy, Answered, AnsweredBy, Tangent, TangentBy, falling}
 use Rattle.arctan.specs.Tangent.{steep, limitEnd, tangent}
 use Rattle.arctan.specs.declared.Slope.{Slope}
 use Rattle.arctan.specs.declared.Slope.the-variants.{Is, TooSteep}
@@ -24,7 +24,7 @@ use Rattle.arctan.proofs.Answers.{with-sign, tangent-near}
 use Rattle.arctan.proofs.arctangent.Reads as arctangent-contract
 use Rattle.arctan.proofs.tangent.Reads as tangent-contract
 
--- Near the series: for every x that an f64 can be, the arctangent is NaN, or within 2 ^ -40 of A(x), of 2P at infinity, with the sign of x.
+-- Near the series: for every x that an f64 can be, the arctangent is NaN, or within 2 ^ -46 of A(x), of 2P at infinity, with the sign of x.
 pub arctangent-within : (x : Float) → T (fits binary64 x) → Arctangent x (arctangent x)
 arctangent-within = arctangent-near
 
@@ -62,8 +62,8 @@ arctangent-determined κ a s s' r r' p q = p .0 ∙ sym (q .0)
 
 -- ---- tangent
 
--- The series leads back: for every theta that an f64 can be, up to 3/2 in size, the tangent is a t of theta's sign with
--- A of its size within 2 ^ -38 of theta's; past it there is none; a NaN and the infinities give NaN.
+-- The series leads back: for every theta that an f64 can be, up to 99/64 in size, the tangent is a t of theta's sign with
+-- A of its size within 2 ^ -44 of theta's; past it there is none; a NaN and the infinities give NaN.
 pub tangent-within : (theta : Float) → T (fits binary64 theta) → Tangent theta (tangent theta)
 tangent-within = tangent-near
 
@@ -80,7 +80,7 @@ pub tangent-zero : (s : Bool) (e : ℤ) → tangent (fin s 0 e) ≡ Is (fin s 0 
 unfolding magnitude
 tangent-zero s e = sym (tangent-tiny (fin s 0 e) (zero-tiny false e))
 
--- It is refused exactly past 3/2.
+-- It is refused exactly past 99/64.
 pub tangent-refused-past : (s : Bool) (m : ℕ) (e : ℤ) → T (fits binary64 (fin s m e)) → (tangent (fin s m e) ≡ TooSteep) ↔ (limit ≺ over (m * up e) (down e))
 tangent-refused-past s m e f = (λ r. past r (≼-or-≺ a limit), λ h. owed (not-at-most h))
   where
@@ -98,7 +98,7 @@ ten : (r : Slope) → slope-number r ≡ 10 → r ≡ TooSteep
 ten (Is t) h = absurd (omega arith)
 ten TooSteep h = refl
 
--- So the number told is 10 exactly of an angle that is a number past 3/2 in size, and 0 of every other.
+-- So the number told is 10 exactly of an angle that is a number past 99/64 in size, and 0 of every other.
 pub tangent-number : (theta : Float) → T (fits binary64 theta) → (slope-number (tangent theta) ≡ 10) ↔ Past theta
 tangent-number nan f = (λ h. absurd (omega (arith, rw tangent-nan at h)), λ h. absurd h)
 tangent-number (inf s) f = (λ h. absurd (omega (arith, rw (tangent-infinite s) at h)), λ h. absurd h)
@@ -126,3 +126,48 @@ tangent-odd (fin s m e) = number-odd s m e (lt (fin false m e) tiny) refl (le (f
 -- Any two answers to one call that the contract of `tangent` permits are equal: it names the definition, beside the bound.
 pub tangent-determined : Determined tangent-contract.Post
 tangent-determined κ a s s' r r' p q = p .0 ∙ sym (q .0)
+
+-- ---- before request P7: the bounds were 2 ^ -40 and 2 ^ -38, and the limit 3/2
+
+tighter : arctangentBound ≼ over 1 (2 ^ 40)
+tighter = over-≼ 1 (2 ^ 46) 1 (2 ^ 40) .1 (lit≤ tt)
+
+tighter-back : tangentBound ≼ over 1 (2 ^ 38)
+tighter-back = over-≼ 1 (2 ^ 44) 1 (2 ^ 38) .1 (lit≤ tt)
+
+angle-still : {s : Bool} {a : Fraction} {r : Float} → Angle s a r → AngleBy (over 1 (2 ^ 40)) s a r
+angle-still h = record { number = h .number; within = within-wider (over-proper 1 (2 ^ 46) (lit≤ tt)) tighter (h .within) }
+
+arctangent-still : (x : Float) → T (fits binary64 x) → ArctangentBy (over 1 (2 ^ 40)) x (arctangent x)
+arctangent-still nan f = arctangent-near nan f
+arctangent-still (inf s) f = angle-still (arctangent-near (inf s) f)
+arctangent-still (fin s m e) f = angle-still (arctangent-near (fin s m e) f)
+
+answered-still : (s : Bool) (a : Fraction) (r : Slope) → Answered true s a r → AnsweredBy (over 1 (2 ^ 38)) true s a r
+answered-still s a (Is t) h = record { number = h .number; side = h .side; within = within-wider (over-proper 1 (2 ^ 44) (lit≤ tt)) tighter-back (h .within) }
+answered-still s a TooSteep h = h
+
+tangent-still : (theta : Float) → T (fits binary64 theta) → (PastBy (over 3 2) theta → ⊥) → TangentBy (over 3 2) (over 1 (2 ^ 38)) theta (tangent theta)
+tangent-still nan f h = tangent-near nan f
+tangent-still (inf s) f h = tangent-near (inf s) f
+tangent-still (fin s m e) f h = go (≼-or-≺ a (over 3 2))
+  where
+    a : Fraction
+    a = over (m * up e) (down e)
+
+    r : Slope
+    r = tangent (fin s m e)
+
+    go : (a ≼ over 3 2) ⊎ (over 3 2 ≺ a) → TangentBy (over 3 2) (over 1 (2 ^ 38)) (fin s m e) r
+    go (inl k) =
+        let up-to = ≼-trans (over-proper 3 2 (lit≤ tt)) k (over-≼ 3 2 99 64 .1 (lit≤ tt)) in
+        subst (λ (t : Bool). AnsweredBy (over 1 (2 ^ 38)) t s a r) (sym (at-most k))
+        (answered-still s a r (subst (λ (t : Bool). Answered t s a r) (at-most up-to) (tangent-near (fin s m e) f)))
+    go (inr k) = absurd (h k)
+
+-- What was promised then is kept: the arctangent of every f64 meets its old bound, and every theta that wasn't refused then is answered still, within the
+-- old bound; a NaN and the infinities as before.
+pub wider :
+    ((x : Float) → T (fits binary64 x) → ArctangentBy (over 1 (2 ^ 40)) x (arctangent x))
+    × ((theta : Float) → T (fits binary64 theta) → (PastBy (over 3 2) theta → ⊥) → TangentBy (over 3 2) (over 1 (2 ^ 38)) theta (tangent theta))
+wider = (arctangent-still, tangent-still)

@@ -50,23 +50,30 @@ A x = cond (atMost x (whole 1)) (upToOne x) (P ⊞ P ⊟ upToOne (whole 1 ⧄ x)
 
 -- ---- the bounds, and the tangent's limit
 abbrev pub arctangentBound : Fraction
-arctangentBound = over 1 (2 ^ 40)
+arctangentBound = over 1 (2 ^ 46)
 
 abbrev pub tangentBound : Fraction
-tangentBound = over 1 (2 ^ 38)
+tangentBound = over 1 (2 ^ 44)
 
 abbrev pub limit : Fraction
-limit = over 3 2
+limit = over 99 64
 
 -- ---- what the arctangent r of x owes
 
--- r is a number, and lies within the bound of the angle a with the sign s
-pub record Angle (s : Bool) (a : Fraction) (r : Float) : Type 0 where
+-- r is a number, and lies within ε of the angle a with the sign s
+pub record AngleBy (ε : Fraction) (s : Bool) (a : Fraction) (r : Float) : Type 0 where
   pub number : T (finite r)
-  pub within : Within arctangentBound (exactly r) (signed s a)
+  pub within : Within ε (exactly r) (signed s a)
 
--- of a NaN it is NaN; of an infinity within the bound of 2P, and of a number within that of A, with the sign of x
+-- of a NaN it is NaN; of an infinity within ε of 2P, and of a number within ε of A, with the sign of x
+abbrev pub ArctangentBy : Fraction → Float → Float → Type 0
+ArctangentBy ε nan r = r ≡ nan
+ArctangentBy ε (inf s) r = AngleBy ε s (P ⊞ P) r
+ArctangentBy ε (fin s m e) r = AngleBy ε s (A (over (m * up e) (down e))) r
+
+-- by the bound
+abbrev pub Angle : Bool → Fraction → Float → Type 0
+Angle = AngleBy arctangentBound
+
 abbrev pub Arctangent : Float → Float → Type 0
-Arctangent nan r = r ≡ nan
-Arctangent (inf s) r = Angle s (P ⊞ P) r
-Arctangent (fin s m e) r = Angle s (A (over (m * up e) (down e))) r
+Arctangent = ArctangentBy arctangentBound

@@ -116,9 +116,9 @@ solved theta = cond (le theta quarterEnd) (lower theta) (one ⊘ lower (halfEnd 
 unfoldable pub steep : Float → Float
 steep theta = let t = sine theta ⊘ cosine theta in cond (close t theta) t (solved theta)
 
--- the limit as an f64: 3/2
+-- the limit as an f64: 99/64
 abbrev pub limitEnd : Float
-limitEnd = f64 0x3ff8_0000_0000_0000
+limitEnd = f64 0x3ff8_c000_0000_0000
 
 -- a theta below 2 ^ -20 in size is its own tangent, as it is its own arctangent
 unfoldable pub tangent : Float → Slope

@@ -163,7 +163,7 @@ fn close(t: f64, theta: f64) -> bool
     false
 }
 
-// The first terms of the sine's series, for an angle of at most 3/2.
+// The first terms of the sine's series, for an angle of at most 99/64.
 fn sine(theta: f64) -> f64
     ensures { λ r. ⌜ r ≡ sine theta ⌝ }
 {
@@ -300,7 +300,7 @@ fn steep(theta: f64) -> f64
 }
 
 // The largest angle that has a tangent here.
-const LIMIT: f64 = 1.5;
+const LIMIT: f64 = 1.546875;
 
 // The tangent of theta, for an angle of at most the limit in size; a larger one is too steep, refusal 10. A NaN and the
 // infinities give a NaN, and a zero itself.
