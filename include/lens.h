@@ -110,7 +110,8 @@ static inline const uint8_t *lens_bytes_of(const double *doubles) {
 #define LENS_PIXEL_BYTES 16
 
 /* A point, the answer of lens_undistort: two doubles; how many Newton updates it took, a uint32_t; one byte, 1 if the
- * search settled and 0 if not; three zero bytes. */
+ * search settled and 0 if not; three zero bytes. Of LENS_KB it has not settled at an angle of 0 or below, whatever its
+ * last step was: distorting such a point doesn't come back to the pixel. */
 #define LENS_POINT_X 0
 #define LENS_POINT_Y 8
 #define LENS_POINT_UPDATES 16
@@ -237,7 +238,7 @@ uint8_t lens_lookup(const float *table, size_t table_length, const uint8_t *regi
 typedef struct {
     double pixel_u, pixel_v; /* read, and left as they are */
     double point_x, point_y; /* written: the point, or zeros */
-    uint8_t settled;         /* written: 1 if the search settled; 0 if not, or if there is no point */
+    uint8_t settled;         /* written: as LENS_POINT_SETTLED; 0 if there is no point */
     uint8_t number;          /* written: 0, or why this pixel has no point: 4, 10 (LENS_KB alone) or 11 */
     uint8_t unused[6];       /* left as they are */
 } lens_observation;

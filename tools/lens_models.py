@@ -282,7 +282,9 @@ def kb_undistort(params, u, v):
     if radius_undistorted is None:
         return TOO_STEEP
     sign = -1.0 if radius_undistorted <= 0 else 1.0
-    return div(sign * radius_undistorted * un, rth), div(sign * radius_undistorted * vn, rth), updates, flag
+    # below 0 lies the mirrored branch, from which distort doesn't come back
+    x, y = (div(sign * radius_undistorted * n, rth) for n in (un, vn))
+    return x, y, updates, flag and th > 0
 
 
 def kb_dx_distort_x(params, a, b):

@@ -213,7 +213,8 @@ def everywhere(model, params, places, operations=range(4)):
 
 
 def by_hand():
-    """Document 01's numbers to check by hand."""
+    """Document 01's numbers to check by hand; and a pixel that Newton takes to kb's mirrored branch, with the point's own
+    pixel, which lies on the other side of the centre."""
     kb = [1000.0, 1000.0, 320.0, 280.0, 0.0, 0.0, 0.0, 0.0]
     return [
         (AFFINE, DISTORT, [600.0, 600.0, 1.0, 0.5], 0.5, -0.25),
@@ -223,6 +224,8 @@ def by_hand():
         (EUCM, UNDISTORT, unit(EUCM, 0.5, 1.0), 2.0, 0.0),
         (KB, DISTORT, kb, 0.0, 0.0),
         (KB, UNDISTORT, kb, 320.0, 280.0),
+        (KB, UNDISTORT, unit(KB, -1.0), 0.5, 0.0),
+        (KB, DISTORT, unit(KB, -1.0), 2.5087111159896955, 0.0),
         (BC, DISTORT, unit(BC, 0.0, 0.0, 1.0), 1.0, 1.0),
         (BC, DISTORT, unit(BC, 0.0, 0.0, 0.0, 1.0), 1.0, 1.0),
         (BC, UNDISTORT, unit(BC), 3.0, 4.0),
@@ -549,6 +552,8 @@ def test_by_hand():
         (11, None),
         (0, (320.0, 280.0)),
         (0, (0.0, 0.0, 0, True)),
+        (0, (2.5087111159896955, 0.0, 11, False)),
+        (0, (-0.5000000000000178, 0.0)),
         (0, (3.0, 5.0)),
         (0, (5.0, 3.0)),
         (0, (3.0, 4.0, 0, True)),

@@ -17,6 +17,13 @@ pub struct Trace {
     pub inverse: [f64; 2],
 }
 
+impl Trace {
+    /// The flag: the last test passed, and kb's last angle, where there is one, is above 0 (docs/RULES.md 11).
+    pub fn settled(&self) -> bool {
+        self.flag && (self.theta.is_nan() || self.theta > 0.0)
+    }
+}
+
 const DIRECT: Trace = Trace { updates: 0, flag: true, steep: false, theta: f64::NAN, inverted: 0, inverse: [0.0; 2] };
 
 thread_local! {
@@ -168,7 +175,7 @@ impl Question {
             0 => {}
             1 => {
                 given.bytes[16..20].copy_from_slice(&trace.updates.to_le_bytes());
-                given.bytes[20..24].copy_from_slice(&[trace.flag as u8, 0, 0, 0]);
+                given.bytes[20..24].copy_from_slice(&[trace.settled() as u8, 0, 0, 0]);
             }
             _ => given.bytes[192..200].copy_from_slice(&(answer.columns as u64).to_le_bytes()),
         }

@@ -155,6 +155,7 @@ impl Oracle {
             if trace.theta.is_finite() && trace.theta.abs() > LIMIT_BEFORE {
                 tally.past_before[(ours.number != 0) as usize] += 1;
             }
+            tally.mirrored += (ours.number == 0 && trace.flag && !trace.settled()) as u64;
             tally.numbers[operation][ours.number as usize & 15] += 1;
             if ours.number == 0 && class != Class::Damaged && self.second_run(&q, &ours, class) {
                 tally.outliers[operation][class as usize] += 1;
@@ -185,6 +186,8 @@ impl Oracle {
             let [answered, refused] = tally.past_before;
             println!("kb last theta past 3/2, refused 10 before request P7: answered now {}, refused still {}", answered, refused);
             self.met("kb last theta past 3/2", &tally.past_before, &[0, 1]);
+            println!("kb flag yes before request P2, no now: {}", tally.mirrored);
+            self.met("kb flag changed by request P2", &[tally.mirrored], &[0]);
         }
     }
 
@@ -270,6 +273,8 @@ struct Tally {
     outliers: [[u64; 2]; 4],
     /// Pixels whose last theta is past the limit before request P7: answered now, and refused.
     past_before: [u64; 2],
+    /// Pixels answered whose flag said yes before request P2 and says no now.
+    mirrored: u64,
 }
 
 /// Parts of a comparison, which standard error tells as they begin.

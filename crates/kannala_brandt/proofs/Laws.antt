@@ -1,30 +1,31 @@
 -- What a caller may rely on, of the definitions of specs/ and of the contracts of src/. Assumes nothing.
-use mathlib.Core.Path.{_≡_, refl, sym, _∙_}
-use mathlib.Core.Logic.{_↔_}
-use mathlib.Core.Bool.{Bool, true, false, cond}
+use mathlib.Core.Path.{_≡_, refl, sym, ap, _∙_}
+use mathlib.Core.Logic.{_↔_, _⊎_, inl, inr}
+use mathlib.Core.Bool.{Bool, true, false, cond, true≢false, _&&_}
 use Prim.Native.Nat.{ℕ, _≤_}
 use native.Mathlib.Omega.{arith}
 use lib.Dec.{lit≤}
-use lib.Ieee.{Float, le, add, sub, mul, div, ofBits, ofInt}
+use lib.Ieee.{Float, lt, le, add, sub, mul, div, ofBits, ofInt}
 use Rattle.exact.specs.Determined.{Determined}
 use Rattle.exact.specs.F64.{minus}
 use Rattle.root.specs.Root.{root}
 use Rattle.arctan.specs.declared.Slope.{Slope}
 use Rattle.arctan.specs.declared.Slope.the-variants.{Is, TooSteep}
 use Rattle.lens.specs.ByHand.{halves, quarters, xy, uv}
-use Rattle.lens.specs.Constants.{eps, int}
+use Rattle.lens.specs.Constants.{zeros, eps, int}
 use Rattle.lens.specs.Radius.{squared-radius}
 use Rattle.lens.specs.Undistorted.{direct, told}
 use Rattle.lens.specs.declared.Pixel.{Pixel}
 use Rattle.lens.specs.declared.Point.{Point}
 use Rattle.lens.specs.declared.Refusal.{Refusal}
+use Rattle.lens.specs.declared.Settled.{Settled}
 use Rattle.lens.specs.declared.Refusal.the-variants.{AngleTooLarge}
 use Rattle.lens.specs.declared.Undistorted.{Undistorted}
 use Rattle.lens.specs.declared.Undistorted.the-variants.{At, Refused}
 use Rattle.lens.proofs.Laws.{told-one-to-one}
 use Rattle.lens.proofs.Passes.{passes-most}
 use Rattle.kannala_brandt.specs.AsWritten.{dx-distort-x-as-written, dx-distort-params-as-written}
-use Rattle.kannala_brandt.specs.KannalaBrandt.{camera, distort, dx-distort-x, dx-distort-params, limit, pass, start, ended, newton, outward, un-of, vn-of, rth2, undistort}
+use Rattle.kannala_brandt.specs.KannalaBrandt.{camera, distort, dx-distort-x, dx-distort-params, limit, pass, start, ended, newton, flag, flag-before, outward, outward-by, un-of, vn-of, rth2, undistort, undistort-by, undistort-before}
 use Rattle.kannala_brandt.specs.declared.KannalaBrandtParams.{KannalaBrandtParams}
 use Rattle.kannala_brandt.specs.declared.Reached.{Reached}
 use Rattle.kannala_brandt.proofs.Bent.{bent-distorted, bent-undistorted}
@@ -47,6 +48,10 @@ determined = (
 )
 
 -- ---- whatever stands for arctangent and tangent
+
+both-true : (a b : Bool) → (a && b) ≡ true → (a ≡ true) × (b ≡ true)
+both-true true b h = (refl, h)
+both-true false b h = absurd (true≢false (sym h))
 
 module _ (params : KannalaBrandtParams) where
   -- Two arctangents that agree on a point's radius give it the same pixel and the same derivatives: once the arctangent's result is given, kb's answers are.
@@ -91,6 +96,52 @@ module _ (params : KannalaBrandtParams) where
         forth true near s e h = let z : _≡_ {A = ℕ} 0 1 = cc (near-axis f near) in absurd (omega arith)
         forth false far (Is t) e h = let k = rw (far, e) at h in let z : _≡_ {A = ℕ} 0 1 = cc in absurd (omega arith)
         forth false far TooSteep e h = let k = rw (far, e) at h in (cc, far, e)
+
+    -- The flag of an answered pixel says yes exactly where the answer is the direct one, or where Newton's last step passed its test and the angle it
+    -- ended at is above 0.
+    pub flag-exactly :
+        (f : Float → Slope) (s : Settled) → undistort f params pixel ≡ At s
+        → (s .flag ≡ true) ↔ ((le (rth2 params pixel) eps ≡ true) ⊎ ((end .ended ≡ true) × (lt zeros (end .th) ≡ true)))
+    flag-exactly f s h = go (le (rth2 params pixel) eps) refl (f (end .th)) refl
+      where
+        same : told (undistort f params pixel) .settled .flag ≡ s .flag
+        same = ap (λ (u : Undistorted). told u .settled .flag) h
+
+        Exactly : Type 0
+        Exactly = (s .flag ≡ true) ↔ ((le (rth2 params pixel) eps ≡ true) ⊎ ((end .ended ≡ true) × (lt zeros (end .th) ≡ true)))
+
+        go : (b : Bool) → le (rth2 params pixel) eps ≡ b → (t : Slope) → f (end .th) ≡ t → Exactly
+        go true near t e = (λ y. inl near, λ y. sym (rw near at same))
+        go false far TooSteep e = let k = rw (far, e) at h in let z : _≡_ {A = ℕ} 0 1 = cc in absurd (omega arith)
+        go false far (Is t) e =
+            let k : flag end ≡ s .flag = rw (far, e) at same in (
+              λ y. inr (both-true (end .ended) (lt zeros (end .th)) (k ∙ y)),
+              λ y. elim y [ inl near ↦ absurd (true≢false (sym near ∙ far)) | inr p ↦ sym k ∙ rw (p .0, p .1) refl ],
+            )
+
+    -- Request P2 changed the flag and nothing else: refusals, points and updates are those of the rule before it, and where the flag says yes it did so before.
+    pub flag-only :
+        (f : Float → Slope)
+        → (told (undistort f params pixel) .number ≡ told (undistort-before f params pixel) .number)
+        × (told (undistort f params pixel) .settled .point ≡ told (undistort-before f params pixel) .settled .point)
+        × (told (undistort f params pixel) .settled .updates ≡ told (undistort-before f params pixel) .settled .updates)
+        × (told (undistort f params pixel) .settled .flag ≡ true → told (undistort-before f params pixel) .settled .flag ≡ true)
+    flag-only f = go (le (rth2 params pixel) eps) (f (end .th))
+      where
+        said : (Reached → Bool) → Bool → Slope → Undistorted
+        said settles b t =
+            cond b (At (direct (xy (un-of params pixel) (vn-of params pixel))))
+            (outward-by settles t end (root (rth2 params pixel)) (un-of params pixel) (vn-of params pixel))
+
+        go :
+            (b : Bool) (t : Slope)
+            → (told (said flag b t) .number ≡ told (said flag-before b t) .number)
+            × (told (said flag b t) .settled .point ≡ told (said flag-before b t) .settled .point)
+            × (told (said flag b t) .settled .updates ≡ told (said flag-before b t) .settled .updates)
+            × (told (said flag b t) .settled .flag ≡ true → told (said flag-before b t) .settled .flag ≡ true)
+        go true t = (refl, refl, refl, λ y. y)
+        go false TooSteep = (refl, refl, refl, λ y. y)
+        go false (Is t) = (refl, refl, refl, λ y. both-true (end .ended) (lt zeros (end .th)) y .0)
 
     -- No undistort makes more than 20 updates.
     pub updates-limit : (f : Float → Slope) → told (undistort f params pixel) .settled .updates ≤ 20

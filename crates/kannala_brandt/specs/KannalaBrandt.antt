@@ -2,10 +2,10 @@
 -- in the Rust's order; the derivatives leave out what changes no bit (AsWritten has the Rust's lines, and the law
 -- `as-written` has both equal). `select` is `cond`. The arctangent and the tangent are named by who cites a definition:
 -- `atan` and `tan` stand for any two functions. Numbers in comments are lines of that file. Definitions only.
-use mathlib.Core.Bool.{Bool, false, cond}
+use mathlib.Core.Bool.{Bool, false, cond, _&&_}
 use mathlib.Core.List.{[], _∷_}
 use Prim.Native.Nat.{ℕ, _+_}
-use lib.Ieee.{Float, le}
+use lib.Ieee.{Float, lt, le}
 use Rattle.exact.specs.F64.{minus, magnitude, _⊕_, _⊖_, _⊗_, _⊘_}
 use Rattle.root.specs.Root.{root}
 use Rattle.arctan.specs.declared.Slope.{Slope}
@@ -105,24 +105,31 @@ newton params rth = passes (pass params rth) ended limit (start rth)
 
 -- ---- undistort: the answer
 
--- 138 to 145: it settled if the last step passed its test
+-- 138 to 145: its last step passed its test, which is all that the Rust asks
+abbrev pub flag-before : Reached → Bool
+flag-before at = at .ended
+
+-- it settled if the last step passed its test and the angle is above 0: below 0 lies the lens's mirrored branch
 abbrev pub flag : Reached → Bool
-flag at = at .ended
+flag at = flag-before at && lt zeros (at .th)
 
 -- 157 to 159
 abbrev pub sign-of : Float → Float
 sign-of radius-undistorted = cond (le radius-undistorted zeros) (minus ones) ones
 
--- 155 to 167, from the tangent's result: past its limit there is no point
-abbrev pub outward : Slope → Reached → Float → Float → Float → Undistorted
-outward TooSteep at rth un vn = Refused AngleTooLarge
-outward (Is radius-undistorted) at rth un vn =
+-- 155 to 167, from the tangent's result: past its limit there is no point. `settles` is the rule for the flag
+abbrev pub outward-by : (Reached → Bool) → Slope → Reached → Float → Float → Float → Undistorted
+outward-by settles TooSteep at rth un vn = Refused AngleTooLarge
+outward-by settles (Is radius-undistorted) at rth un vn =
     let sign = sign-of radius-undistorted in
     At record {
       point = record { 0 = sign ⊗ radius-undistorted ⊗ un ⊘ rth; 1 = sign ⊗ radius-undistorted ⊗ vn ⊘ rth };
       updates = at .updates;
-      flag = flag at;
+      flag = settles at;
     }
+
+abbrev pub outward : Slope → Reached → Float → Float → Float → Undistorted
+outward = outward-by flag
 
 -- 110 to 112
 abbrev pub un-of : KannalaBrandtParams → Pixel → Float
@@ -137,15 +144,22 @@ rth2 params pixel = squared-radius (un-of params pixel) (vn-of params pixel)
 -- 114 to 119, 161. With 4 4 1 2, k0 = -2, the rest 0, and (2, 2): un = 1/4, vn = 0, rth = 1/4. Newton begins at 1/2,
 -- which bends to 1/2 · (1 - 2 · 1/4) = 1/4: the step is 0, after 1 update. If the tangent of 1/2 is 3/4, the point is
 -- (3/4, 0)
-abbrev pub undistort : (Float → Slope) → KannalaBrandtParams → Pixel → Undistorted
-undistort tan params pixel =
+abbrev pub undistort-by : (Reached → Bool) → (Float → Slope) → KannalaBrandtParams → Pixel → Undistorted
+undistort-by settles tan params pixel =
     let un = un-of params pixel in
     let vn = vn-of params pixel in
     let rth = root (rth2 params pixel) in
     let at = newton params rth in
     cond (le (rth2 params pixel) eps)
     (At (direct record { 0 = un; 1 = vn }))
-    (outward (tan (at .th)) at rth un vn)
+    (outward-by settles (tan (at .th)) at rth un vn)
+
+abbrev pub undistort : (Float → Slope) → KannalaBrandtParams → Pixel → Undistorted
+undistort = undistort-by flag
+
+-- with the flag of before request P2
+abbrev pub undistort-before : (Float → Slope) → KannalaBrandtParams → Pixel → Undistorted
+undistort-before = undistort-by flag-before
 
 -- ---- the derivatives. The Rust's c6, c8, c10 and c8 * c8 are the powers of c5.
 

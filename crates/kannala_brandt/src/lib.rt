@@ -140,11 +140,11 @@ fn newton(params: KannalaBrandtParams, rth: f64) -> Reached
     at
 }
 
-// Whether undistort settled.
+// Whether undistort settled: the last step passed its test, and not on the mirrored branch, whose angles are below 0.
 fn flag(at: Reached) -> bool
     ensures { λ r. ⌜ r ≡ flag at ⌝ }
 {
-    at.ended
+    at.ended && 0.0 < at.th
 }
 
 // Which way the point lies: a tangent that isn't above 0 has its sign turned.
