@@ -45,7 +45,8 @@ extern "C" {
  * Where several apply, the lowest number is returned, but for these:
  *   - lens_lookup judges the region's increments, 8 and then 11, before 9. So 11 may be told of a point that is also
  *     outside; of a pixel that isn't finite 11 is told only after 9.
- *   - lens_turn judges the call before any unit: 13 comes before the 8, 10, 11 or 12 of a unit. Of a job that is not
+ *   - 16 is tried before 11, of the same pixel.
+ *   - lens_turn judges the call before any unit: 13 comes before the 8, 10, 11, 12 or 16 of a unit. Of a job that is not
  *     LENS_JOB_BYTES long nothing is read: 7, before all others. */
 #define LENS_OK 0
 
@@ -65,6 +66,8 @@ extern "C" {
                                                  of a sample or a cell, its pixel, an increment */
 #define LENS_REFUSED_CELL_INFINITE 12         /* a cell's pixel is finite, but too large for a float */
 #define LENS_REFUSED_IMPOSSIBLE_JOB 13        /* the job's check word is wrong, or no build can have come to this job */
+#define LENS_REFUSED_RAY_NOT_FORWARD 16       /* LENS_EUCM undistorts a pixel whose ray has a z of 0 or below: the point
+                                                 would be mirrored, or nowhere */
 
 #define LENS_ANGLE_LIMIT 1.546875 /* 99/64, which is 88.6 degrees */
 
@@ -131,7 +134,7 @@ uint8_t lens_distort(uint8_t model, const uint8_t *params, size_t params_length,
                      uint8_t *answer, size_t answer_length);
 
 /* The point of the pixel (u, v). answer_length: LENS_POINT_BYTES.
- * Returns 0, 1, 3, 4, 5, 7, 10 (LENS_KB alone) or 11. A search that didn't settle is answered all the same. */
+ * Returns 0, 1, 3, 4, 5, 7, 10 (LENS_KB alone), 16 (LENS_EUCM alone) or 11. A search that didn't settle is answered all the same. */
 uint8_t lens_undistort(uint8_t model, const uint8_t *params, size_t params_length, double u, double v,
                        uint8_t *answer, size_t answer_length);
 
@@ -219,7 +222,7 @@ uint8_t lens_job_new(uint8_t model, const uint8_t *params, size_t params_length,
  * job_length: LENS_JOB_BYTES. table_length: LENS_TABLE_FLOATS of the job's size. answer_length: LENS_TURN_BYTES.
  * Returns 0: running or finished. Job and answer are written, and of the table the cells done in this turn.
  * Returns 1, 4, 5, 6, 7 or 13: the call is refused, and nothing was written. 1, 4, 5 and 6 are the job's.
- * Returns 8, 10, 11 or 12: the unit after those done cannot be done, ever. Job, table and answer are written, with all
+ * Returns 8, 10, 11, 12 or 16: the unit after those done cannot be done, ever. Job, table and answer are written, with all
  * units before it and status LENS_STATUS_REFUSED; each further turn of this job with an allowance above 0 returns the
  * same number and does no unit. With allowance 0 no unit is tried: that turn returns 0, its status running. */
 uint8_t lens_turn(uint8_t *job, size_t job_length, float *table, size_t table_length, uint64_t allowance,
@@ -239,7 +242,7 @@ typedef struct {
     double pixel_u, pixel_v; /* read, and left as they are */
     double point_x, point_y; /* written: the point, or zeros */
     uint8_t settled;         /* written: as LENS_POINT_SETTLED; 0 if there is no point */
-    uint8_t number;          /* written: 0, or why this pixel has no point: 4, 10 (LENS_KB alone) or 11 */
+    uint8_t number;          /* written: 0, or why this pixel has no point: 4, 10 (LENS_KB), 16 (LENS_EUCM) or 11 */
     uint8_t unused[6];       /* left as they are */
 } lens_observation;
 

@@ -150,6 +150,7 @@ def tangent(theta):
 # ---- the four models, by the Rust's names
 
 TOO_STEEP = "too steep"  # what kb's undistort gives instead of an answer: refusal 10
+MIRRORED = "mirrored"  # the same of eucm's: refusal 16
 
 
 def affine_distort(params, x, y):
@@ -188,7 +189,10 @@ def eucm_undistort(params, u, v):
     nominator = 1.0 - alpha * alpha * beta * r2
     denominator = alpha * root(1.0 - (alpha - gamma) * beta * r2) + gamma
     k = div(nominator, denominator)
-    return div(mx, k), div(my, k)
+    # the Rust goes on: docs/RULES.md, 8.3. A NaN k is no refusal of this kind
+    if k <= 0:
+        return MIRRORED
+    return div(mx, k), div(my, k), 0, True
 
 
 def eucm_dx_distort_x(params, x, y):
@@ -472,7 +476,7 @@ def direct(undistort):
 
 FUNCTIONS = (
     (affine_distort, direct(affine_undistort), affine_dx_distort_x, affine_dx_distort_params),
-    (eucm_distort, direct(eucm_undistort), eucm_dx_distort_x, eucm_dx_distort_params),
+    (eucm_distort, eucm_undistort, eucm_dx_distort_x, eucm_dx_distort_params),
     (kb_distort, kb_undistort, kb_dx_distort_x, kb_dx_distort_params),
     (bc_distort, bc_undistort, bc_dx_distort_x, None),
 )
@@ -493,6 +497,8 @@ def answer(model, operation, params, x, y):
     given = FUNCTIONS[model][operation](params, x, y)
     if given is TOO_STEEP:
         return 10, None
+    if given is MIRRORED:
+        return 16, None
     numbers = given[0] + given[1] if operation >= BY_POINT else given[:2]
     if not all(math.isfinite(z) for z in numbers):
         return 11, None

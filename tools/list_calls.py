@@ -1,5 +1,5 @@
 """The lists' part of test_camera_calls: 0, 1 and 100 observations handed to the list call, by a camera of each model that
-is taken, and by three that are refused. Each record meets every fate there is: an answer, 4, 10 or 11.
+is taken, and by three that are refused. Each record meets every fate there is: an answer, 4, 10, 16 or 11.
 
     python3 tools/list_calls.py   tests this script
 
@@ -138,7 +138,7 @@ def cover(said):
         for n in (1, MOST):
             assert said[name, n, 0, True] and said[name, n, 4, False] and said[name, n, 11, False]
             assert bool(said[name, n, 10, False]) == (model == KB)
-    assert said["bc", MOST, 0, False] and said["eucm", MOST, 11, False] > 2
+    assert said["bc", MOST, 0, False] and said["eucm", MOST, 11, False] > 2 and said["eucm", MOST, 16, False]
 
 
 # ---- the self-test

@@ -338,16 +338,18 @@ def by_hand(head):
 JOBS = [
     ("kb 1 1 0 0 0 0 0 0, 3 by 2: sample 2 lies at an angle over 99/64",
      KB, (1.0, 1.0, 0.0, 0.0, 0.0, 0.0, 0.0, 0.0), 3, 2, 10, 2),
-    ("eucm 0.5 1 0.5 0.5 0.5 1, 3 by 2: sample 11 has no finite point",
-     EUCM, (0.5, 1.0, 0.5, 0.5, *HALF_EUCM), 3, 2, 11, 11),
+    ("eucm 1 1 0.5 0.5 0.5 1, 3 by 2: the ray of sample 7 points backwards",
+     EUCM, (1.0, 1.0, 0.5, 0.5, *HALF_EUCM), 3, 2, 16, 7),
+    ("eucm 2 8 0.5 0.5 2 1, 2 by 2: sample 9 has no finite point",
+     EUCM, (2.0, 8.0, 0.5, 0.5, 2.0, 1.0), 2, 2, 11, 9),
     ("affine 1 1 1e300 0, 3 by 2: all points have one x, and the increment across is 0",
      AFFINE, (1.0, 1.0, 1e300, 0.0), 3, 2, 8, 14),
     ("affine 2e-308 1 0 0, 3 by 2: the increment across is infinite",
      AFFINE, (2e-308, 1.0, 0.0, 0.0), 3, 2, 11, 14),
     ("affine 1 2e-308 1e300 0, 3 by 2: the increment is 0 across and infinite down",
      AFFINE, (1.0, 2e-308, 1e300, 0.0), 3, 2, 8, 14),
-    ("eucm 1e38 1 2.15e38 0.5 0.5 1, 3 by 2: the pixel of cell (1, 0) is too large for an f32",
-     EUCM, (1e38, 1.0, 2.15e38, 0.5, *HALF_EUCM), 3, 2, 12, 16),
+    ("eucm 1e39 1 1e39 0.5 0.5 1, 3 by 2: the pixel of cell (1, 0) is too large for an f32",
+     EUCM, (1e39, 1.0, 1e39, 0.5, *HALF_EUCM), 3, 2, 12, 16),
     ("bc 1 1 -1 -1 1e55 0 0 0 0 0 0 0, 3 by 3: the pixel of cell (2, 0) is too large for an f32",
      BC, (1.0, 1.0, -1.0, -1.0, 1e55, *[0.0] * 7), 3, 3, 12, 19),
     ("eucm 2 2 0 0 0.4 -0.5, 3 by 2: the pixel of cell (2, 0) is NaN",
@@ -968,7 +970,7 @@ def cover(said):
         print(f"{count:6} ", *key, file=sys.stderr)
     for name, numbers in (
         ("lens_job_new", {0, 1, 3, 4, 5, 6, 7}),
-        ("lens_turn", {0, 1, 4, 5, 6, 7, 8, 10, 11, 12, 13}),
+        ("lens_turn", {0, 1, 4, 5, 6, 7, 8, 10, 11, 12, 13, 16}),
         ("lens_observe", {0, 1, 3, 4, 5, 7}),
         ("lens_lookup", {0, 4, 6, 7, 8, 9, 11}),
     ):

@@ -248,7 +248,7 @@ def updates(text):
 def self_test():
     assert printed(EXAMPLE).replace(b"\t", b" ").decode().splitlines() == LISTING.splitlines()
     given = {number for number, _, _ in REFUSED}
-    assert given == {1, 3, 4, 5, 6, 8, 10, 11, 12, 14}, given
+    assert given == {1, 3, 4, 5, 6, 8, 10, 11, 12, 14, 16}, given
     for name, text in EXAMPLES.items():
         assert printed(text).startswith(b"table\t"), name
     # Newton's models take updates, but for the bc lens that is as good as flat.

@@ -266,7 +266,7 @@ def refused_6():
 
 # Jobs that end at a refused unit: the refusal's number, that unit, and the case. `test_endings` holds them to it.
 
-# With alpha 1/2 and beta 1, eucm's k is 1 - q/4: zero at a squared radius of 4, negative beyond.
+# With alpha 1/2 and beta 1, eucm's k is 1 - q/4: zero at a squared radius of 4, negative beyond. Both are refused.
 HALF_EUCM = [0.5, 1.0]
 
 REFUSED_SAMPLES = [
@@ -278,9 +278,14 @@ REFUSED_SAMPLES = [
     (11, 1, (AFFINE, 3, 2, [1e-309, 1.0, 5.0, 0.0])),  # a quotient overflows
     (11, 7, (AFFINE, 3, 2, [1e-308, 1.0, 0.0, 0.0])),
     (11, 2, (AFFINE, 3, 2, [1.0, -1e-308, 0.0, -0.5])),
-    (11, 1, (EUCM, 3, 2, [1.0, 1.0, -2.5, -0.5] + HALF_EUCM)),
-    (11, 11, (EUCM, 3, 2, [0.5, 1.0, 0.5, 0.5] + HALF_EUCM)),  # in the middle of the left side
-    (11, 12, (EUCM, 3, 2, [0.5, 1.0, 1.5, 0.5] + HALF_EUCM)),  # in the middle of the right side
+    (16, 1, (EUCM, 3, 2, [1.0, 1.0, -2.5, -0.5] + HALF_EUCM)),  # a k of 0
+    (16, 1, (EUCM, 3, 2, [0.5, 1.0, 0.5, 0.5] + HALF_EUCM)),  # -1/4
+    (16, 7, (EUCM, 3, 2, [1.0, 1.0, 0.5, 0.5] + HALF_EUCM)),
+    (16, 9, (EUCM, 2, 2, [1.5, 8.0, 0.5, 0.5, 1.5, 1.0])),  # 0 in the middle of the left side, and not beside it
+    (16, 10, (EUCM, 2, 2, [3.0, 8.0, -0.5, 0.5, 1.5, 1.0])),  # the same on the right side
+    (16, 9, (EUCM, 2, 2, [1.1, 16.0, 0.5, 0.5, 1.1, 1.0])),  # -0
+    (11, 9, (EUCM, 2, 2, [2.0, 8.0, 0.5, 0.5, 2.0, 1.0])),  # NaN
+    (11, 1, (EUCM, 3, 2, [1.0, 1.0, 0.0, -0.5, 2.0, 1.0])),  # NaN at once
     (11, 1, (BC, 2, 2, [1.0, 1.0, 0.5, 0.5, 0.0, 0.0, 0.0, 0.0, 0.0, 1.0, 0.0, 0.0])),
     (11, 2, (BC, 3, 3, [1e-51, 1e-51, -1.0, -1.0] + [0.0] * 8)),  # the sixth power of a radius overflows
 ]
@@ -307,10 +312,10 @@ REFUSED_CELLS = [
     (12, 13, (BC, 2, 2, plain(BC, 1e60))),
     (12, 19, (BC, 3, 3, [1.0, 1.0, -1.0, -1.0, 1e55] + [0.0] * 7)),  # the end of a row
     (12, 13, (KB, 2, 2, [3.0, 3.0, 0.5, 0.5, 0.0, 0.0, 0.0, 1e60])),
-    (12, 13, (EUCM, 2, 2, [1.0, 1e38, 0.5, 4e38] + HALF_EUCM)),  # v alone is too large
-    (12, 13, (EUCM, 2, 2, [1e38, 1.0, -4e38, 0.5] + HALF_EUCM)),  # u alone, below zero
-    (12, 15, (EUCM, 2, 2, [1.0, 1e38, 0.5, 2.15e38] + HALF_EUCM)),  # a row is done, the next begins too large
-    (12, 16, (EUCM, 3, 2, [1e38, 1.0, 2.15e38, 0.5] + HALF_EUCM)),
+    (12, 13, (EUCM, 2, 2, [1.0, -1e39, 0.5, 7.5e38] + HALF_EUCM)),  # v alone is too large
+    (12, 13, (EUCM, 2, 2, [1e39, 1.0, -7.5e38, 0.5] + HALF_EUCM)),  # u alone, below zero
+    (12, 15, (EUCM, 2, 2, [1.0, 1e39, 0.5, 1e39] + HALF_EUCM)),  # a row is done, the next begins too large
+    (12, 16, (EUCM, 3, 2, [1e39, 1.0, 1e39, 0.5] + HALF_EUCM)),
     (11, 17, (BC, 3, 3, [2.2e-51, 2.2e-51, 3.0, 3.0] + [0.0] * 8)),  # the sixth power of a radius overflows
     (11, 22, (BC, 3, 3, [2.2e-51, 2.2e-51, -1.0, -1.0] + [0.0] * 8)),
     (11, 25, (BC, 3, 3, [2.5e-51, 2.5e-51, -1.0, -1.0] + [0.0] * 8)),  # the same at the last cell of all
@@ -322,13 +327,16 @@ REFUSED_CELLS = [
     (11, 35, (AFFINE, 2, 7, [1.0, BRINK, 0.0, 3.5])),  # the same in the last row
 ]
 
-# Two points of a border have zeros of unlike sign, as k changes its sign, and a third is refused. The edges told
-# are those of the points before, so they show which zero was kept. The sign of a focal length changes both.
+# Two points of a border have zeros of unlike sign, as Newton ends at an angle of 0 for the first, whose tangent isn't
+# above 0, and the second lies on the axis; and a third is refused. The edges told are those of the points before, so
+# they show which zero was kept. The sign of a focal length changes both.
+ENDS_AT_ZERO = [-22.0, 136.0, -256.0, 0.0]  # at a radius of 1/4
+
 ZERO_EDGES = [
-    (11, 3, (EUCM, 3, 3, [0.5, 1.0, -0.5, -0.5] + HALF_EUCM)),  # x: +0, then -0
-    (11, 3, (EUCM, 3, 3, [-0.5, 1.0, -0.5, -0.5] + HALF_EUCM)),  # x: -0, then +0
-    (11, 4, (EUCM, 3, 2, [0.25, 1.0, 0.5, -0.5] + HALF_EUCM)),  # y, upper edge: -0, then +0
-    (11, 4, (EUCM, 3, 2, [0.25, -1.0, 0.5, -0.5] + HALF_EUCM)),  # y, lower edge: +0, then -0
+    (10, 12, (KB, 3, 2, [3.5, 4.0, -0.5, 0.5] + ENDS_AT_ZERO)),  # x, lower edge: -0, then +0
+    (10, 12, (KB, 3, 2, [-3.5, 4.0, -0.5, 0.5] + ENDS_AT_ZERO)),  # x, upper edge: +0, then -0
+    (10, 12, (KB, 3, 2, [4.0, 1.0, 0.5, -0.5] + ENDS_AT_ZERO)),  # y, lower edge: -0, then +0
+    (10, 12, (KB, 3, 2, [4.0, -1.0, 0.5, -0.5] + ENDS_AT_ZERO)),  # y, upper edge: +0, then -0
 ]
 
 # Weak bc lenses with a border of exact points: 0 updates, and pixels halfway between two f32s.
@@ -536,6 +544,7 @@ def summary(said, count, bad):
     everywhere += [(11, "a cell"), (0, FINISHED), (0, RUNNING)]
     wanted = [(name, *ending) for name in MODELS for ending in everywhere]
     wanted += [("kb", 10, "unit 1"), ("kb", 10, "a sample"), ("affine", 11, "unit B")]
+    wanted += [("eucm", 16, "unit 1"), ("eucm", 16, "a sample")]
     wanted += [(name, *ending) for name in MODELS[1:] for ending in ((11, "cell 1"), (12, "cell 1"), (12, "a cell"))]
     for ending in wanted:
         assert said[("ending", *ending)], ending
@@ -641,8 +650,8 @@ def test_by_hand():
     job = built(((AFFINE, (BRINK, 1.0, 0.0, 0.0)), 7, 2, LARGE))[2]
     assert cell_point(job.region, 7, 2, 6, 0)[0] == math.inf > max(increments(job.region, 7, 2))
     # zeros as edges: which sign was kept
-    kept = [[spelled(z)[0] for z in built(((m, tuple(p)), w, h, LARGE))[2].edges] for _, _, (m, w, h, p) in ZERO_EDGES]
-    assert [kept[0][0], kept[0][2], kept[1][0], kept[1][2], kept[2][3], kept[3][1]] == list("008880")
+    kept = [built(((m, tuple(p)), w, h, LARGE))[2].edges for _, _, (m, w, h, p) in ZERO_EDGES]
+    assert [spelled(kept[n][place]) for n, place in enumerate((0, 2, 1, 3))] == ["8" + "0" * 15, "0" * 16] * 2
     assert list(map(spelled, extended((0.0, -0.0, 0.0, -0.0), -0.0, 0.0))) == list(map(spelled, (0.0, -0.0, 0.0, -0.0)))
     for model, w, h, params in MOST_UPDATES:
         status, _, job, _, _ = built(((model, tuple(params)), w, h, LARGE))

@@ -222,6 +222,7 @@ def by_hand():
         (EUCM, DISTORT, unit(EUCM, 0.5, 1.0), 2.0, 2.0),
         (EUCM, UNDISTORT, unit(EUCM, 0.5, 1.0), 1.0, 1.0),
         (EUCM, UNDISTORT, unit(EUCM, 0.5, 1.0), 2.0, 0.0),
+        (EUCM, UNDISTORT, unit(EUCM, 0.5, 1.0), 2.0, 2.0),
         (KB, DISTORT, kb, 0.0, 0.0),
         (KB, UNDISTORT, kb, 320.0, 280.0),
         (KB, UNDISTORT, unit(KB, -1.0), 0.5, 0.0),
@@ -306,7 +307,7 @@ def equality_edge():
 
 
 def eucm_edge():
-    """alpha 0 and 1 and beyond, beta 0 and below, a vanishing k, a mirrored point, the root of a negative."""
+    """alpha 0 and 1 and beyond, beta 0 and below, a k of zero and below, the root of a negative."""
     places = [(2.0, 2.0), (2.0, 0.0), (-2.0, 0.0), (1.0, 1.0), (0.001, 0.0), (1e-9, -1e-9), (30.0, -40.0)]
     found = []
     for alpha in (0.0, -0.0, 0.5, 1.0, 1.5, -0.5):
@@ -426,6 +427,8 @@ def kinds():
         for o in operations:
             # affine's Jacobians copy what they are given, which is finite
             some = {0: 8} if model == AFFINE and o >= BY_POINT else wanted
+            if (model, o) == (EUCM, UNDISTORT):
+                some = wanted | {16: 8}
             yield f"{name}, wild {OPERATIONS[o]}", searched(rng, lambda r: wild(r, model, o), some)
     yield "kb, strong", by_ending(Splitmix(40), strong_kb, 2, 8000)
     yield "kb, mirrored", by_ending(Splitmix(41), mirrored_kb, 3, 300)
@@ -486,7 +489,7 @@ def summary(said, count):
     for key, n in said.items():
         if key[0] == "kind":
             say(f"{n:5} {key[1]}")
-    numbers = (0, 2, 4, 5, 10, 11)
+    numbers = (0, 2, 4, 5, 10, 16, 11)
     say(f"\n{'refusal':24}" + "".join(f"{n:6}" for n in numbers))
     for name in MODELS:
         for operation in OPERATIONS:
@@ -507,7 +510,7 @@ def summary(said, count):
                 continue
             assert said[name, operation, 0] and said[name, operation, 4] and said[name, operation, 5]
             assert said[name, operation, 11] or model == AFFINE and o >= BY_POINT
-    assert said["kb", "undistort", 10] and count >= 1000
+    assert said["kb", "undistort", 10] and said["eucm", "undistort", 16] and count >= 1000
 
 
 # ---- the self-test
@@ -549,7 +552,8 @@ def test_by_hand():
         (0, (0.5, -0.25, 0, True)),
         (0, (1.0, 1.0)),
         (0, (2.0, 2.0, 0, True)),
-        (11, None),
+        (16, None),
+        (16, None),
         (0, (320.0, 280.0)),
         (0, (0.0, 0.0, 0, True)),
         (0, (2.5087111159896955, 0.0, 11, False)),

@@ -78,6 +78,21 @@ def between_10_and_11():
     yield UNDISTORT, "kb 1 1 0 0 0 0 0 0 at (X, 0)", {0x47EFFFFFFFFFFFFF: 10, 0x47F0000000000000: 11}
 
 
+def refusal_16():
+    """eucm's z is zero or negative. With alpha 0.5 it falls to 0 at the pixel 2 and is negative beyond, so that the point
+    of 2 would be infinite too: 16 comes before 11. With alpha above 1 the quotient for z is all but 0 / 0 at one pixel:
+    +0 at 1.5, -0 at 1.1, and at 2 NaN, which is refused with 11; z is positive on both sides. 4 and 5 come before."""
+    two = bits(2.0)
+    around_two = {two - 1: 0, two: 16, two + 1: 16}
+    yield UNDISTORT, "eucm 1 1 0 0 0.5 1 at (X, 0)", around_two | {SIGN + z: told for z, told in around_two.items()}
+    yield UNDISTORT, "eucm 1 1 0 0 0.5 1 at (0, X)", around_two
+    yield UNDISTORT, "eucm -1 1 0 0 0.5 1 at (X, 0)", around_two
+    for alpha, z, told in (("1.5", bits(2 / 3), 16), ("1.1", 0x3FED1745D1745D17, 16), ("2", bits(0.5), 11)):
+        yield UNDISTORT, f"eucm 1 1 0 0 {alpha} 1 at (X, 0)", {z - 1: 0, z: told, z + 1: 0}
+    yield UNDISTORT, "eucm 1 1 0 0 0.5 1 at (3, X)", {INF: 4, LARGEST: 11}
+    yield UNDISTORT, "eucm X 1 0 0 0.5 1 at (3, 3)", {NAN: 4, 0: 5, SIGN: 5, 1.0: 16}
+
+
 # the sixth power of X overflows, and a coefficient of 0 times that is NaN
 OVERFLOWN = "bc 1 1 0 0 0 0 0 0 0 0 0 0 at (X, 0)", {0x4A9965FEA53D6E3C: 0, 0x4A9965FEA53D6E3D: 11}
 
@@ -106,12 +121,11 @@ def refusal_11_distort():
 
 
 def refusal_11_undistort():
-    """x or y is NaN or infinite. eucm: the z of the ray is zero at the pixel 2 alone, and near it the point is far out.
-    kb: the lens bends so much that Newton's first step overflows; up to there 20 steps lead to an angle below 99/64,
-    though not to the right one, and the answer says that it did not settle."""
+    """x or y is NaN or infinite. eucm: the largest pixel whose squared radius is finite has a negative z; the next one's
+    squared radius is infinite, and z is NaN. kb: the lens bends so much that Newton's first step overflows; up to there
+    20 steps lead to an angle below 99/64, though not to the right one, and the answer says that it did not settle."""
     yield from halves(UNDISTORT, "affine 0.5 1 0 0 at (X, 0)")
-    two = bits(2.0)
-    yield UNDISTORT, "eucm 1 1 0 0 0.5 1 at (X, 0)", {two - 1: 0, two: 11, two + 1: 0}
+    yield UNDISTORT, LEVEL[0], {0x5FEFFFFFFFFFFFFF: 16, 0x5FF0000000000000: 11}
     yield UNDISTORT, "kb 1 1 0 0 0 0 0 1e299 at (X, 0)", {0x405C7AF03E0A18F3: 0, 0x405C7AF03E0A18F4: 11}
     yield UNDISTORT, *OVERFLOWN
 
@@ -142,7 +156,8 @@ def by_hand():
     yield UNDISTORT, "affine 600 600 1 0.5 at (X, -149.5)", {301.0: 0}
     yield DISTORT, "eucm 1 1 0 0 0.5 1 at (X, 2)", {2.0: 0}
     yield UNDISTORT, "eucm 1 1 0 0 0.5 1 at (X, 1)", {1.0: 0}
-    yield UNDISTORT, "eucm 1 1 0 0 0.5 1 at (X, 0)", {2.0: 11}
+    yield UNDISTORT, "eucm 1 1 0 0 0.5 1 at (X, 0)", {2.0: 16}
+    yield UNDISTORT, "eucm 1 1 0 0 0.5 1 at (X, 2)", {2.0: 16}
     yield DISTORT, "kb 1000 1000 320 280 0 0 0 0 at (X, 0)", {0: 0}
     yield UNDISTORT, "kb 1000 1000 320 280 0 0 0 0 at (X, 280)", {320.0: 0}
     yield DISTORT, "bc 1 1 0 0 0 0 1 0 0 0 0 0 at (X, 1)", {1.0: 0}
@@ -157,6 +172,7 @@ SECTIONS = (
     refusal_5_among_others,
     refusal_10,
     between_10_and_11,
+    refusal_16,
     refusal_11_distort,
     refusal_11_undistort,
     refusal_11_jacobians,

@@ -6,8 +6,8 @@ use crate::{Oracle, LIMIT};
 
 const KINDS: [&str; 12] = [
     "eucm k above 0 by at most 1e-9",
-    "eucm k below 0 by at most 1e-9",
-    "eucm k 0",
+    "eucm k below 0 by at most 1e-9, refused 16",
+    "eucm k 0, refused 16",
     "bc 1/determinant above 1e9 at the first step",
     "bc 1/determinant above 1e9 at a later step",
     "bc determinant 0",
@@ -37,8 +37,8 @@ fn kinds(q: &Question, number: u8, trace: &Trace) -> [bool; 12] {
     let minus = q.params[9..].iter().filter(|x| x.is_sign_negative()).count();
     [
         0.0 < k && k <= 1e-9,
-        -1e-9 <= k && k < 0.0,
-        k == 0.0,
+        -1e-9 <= k && k < 0.0 && number == 16,
+        k == 0.0 && number == 16,
         near(trace.inverse[0]),
         near(trace.inverse[1]),
         trace.inverse.iter().any(|x| x.is_infinite()),

@@ -15,6 +15,8 @@ pub struct Trace {
     /// How many matrices were inverted, and the largest size that 1 over a determinant had: of the first, of later ones.
     pub inverted: u32,
     pub inverse: [f64; 2],
+    /// What was divided by last: in eucm's undistort the Rust's k, the z of the ray.
+    pub divisor: f64,
 }
 
 impl Trace {
@@ -24,7 +26,7 @@ impl Trace {
     }
 }
 
-const DIRECT: Trace = Trace { updates: 0, flag: true, steep: false, theta: f64::NAN, inverted: 0, inverse: [0.0; 2] };
+const DIRECT: Trace = Trace { updates: 0, flag: true, steep: false, theta: f64::NAN, inverted: 0, inverse: [0.0; 2], divisor: f64::NAN };
 
 thread_local! {
     static TRACE: Cell<Trace> = const { Cell::new(DIRECT) };
@@ -64,6 +66,9 @@ impl Angles for PutIn {
         if first {
             change(|_| DIRECT)
         }
+    }
+    fn divided(by: f64) {
+        change(|t| Trace { divisor: by, ..t })
     }
     fn scaled(factor: f64) {
         change(|t| {
@@ -163,6 +168,9 @@ impl Question {
     fn told(&self, answer: &Answer, trace: Trace) -> Given {
         if trace.steep {
             return Given::untouched(10);
+        }
+        if self.model == 1 && self.operation == 1 && trace.divisor <= 0.0 {
+            return Given::untouched(16);
         }
         if answer.used().iter().any(|x| !x.is_finite()) {
             return Given::untouched(11);

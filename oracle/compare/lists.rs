@@ -5,7 +5,7 @@ use crate::judge::{handed, Question};
 use crate::lens;
 use crate::memory::{Lent, STRIP};
 use crate::record::bytes_of;
-use crate::{input, listed, Oracle};
+use crate::{input, listed, Oracle, NUMBERS};
 
 const RECORD: usize = 40;
 const MOST_RECORDS: usize = 40;
@@ -43,8 +43,8 @@ fn list(r: &mut Random, model: usize) -> (Lent<u8>, Vec<[f64; 2]>) {
 
 #[derive(Default)]
 struct Tally {
-    calls: [u64; 16],
-    records: [u64; 16],
+    calls: [u64; NUMBERS],
+    records: [u64; NUMBERS],
     settled: u64,
 }
 

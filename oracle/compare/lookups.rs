@@ -6,7 +6,7 @@ use crate::memory::{Lent, STRIP};
 use crate::record::{bytes_of, sized, REGION_BYTES};
 use crate::tables::increments_number;
 use crate::turns::Table;
-use crate::{listed, Oracle};
+use crate::{listed, Oracle, NUMBERS};
 
 const ANSWER: usize = 16;
 
@@ -134,7 +134,7 @@ fn damage(r: &mut Random, q: &mut Question) {
 pub struct Tally {
     lookups: u64,
     tables: u64,
-    numbers: [u64; 16],
+    numbers: [u64; NUMBERS],
 }
 
 impl Tally {

@@ -25,6 +25,9 @@ const OPERATIONS: [&str; 4] = ["distort", "undistort", "dx_distort_x", "dx_disto
 /// Differences beyond this many are counted and not printed.
 const SHOWN: u64 = 20;
 
+/// Room for every refusal's number.
+const NUMBERS: usize = 17;
+
 /// The largest angle that has a tangent (docs/RULES.md 6.5), and what it was before request P7.
 const LIMIT: f64 = 99.0 / 64.0;
 const LIMIT_BEFORE: f64 = 1.5;
@@ -156,7 +159,7 @@ impl Oracle {
                 tally.past_before[(ours.number != 0) as usize] += 1;
             }
             tally.mirrored += (ours.number == 0 && trace.flag && !trace.settled()) as u64;
-            tally.numbers[operation][ours.number as usize & 15] += 1;
+            tally.numbers[operation][ours.number as usize % NUMBERS] += 1;
             if ours.number == 0 && class != Class::Damaged && self.second_run(&q, &ours, class) {
                 tally.outliers[operation][class as usize] += 1;
             }
@@ -235,7 +238,7 @@ impl Oracle {
     }
 
     fn tables(&mut self, tables: u64, printer: &[String]) {
-        let (mut cells, mut numbers) = (0, [0; 16]);
+        let (mut cells, mut numbers) = (0, [0; NUMBERS]);
         for _ in 0..tables {
             let asked = tables::Asked::random(&mut self.random);
             let (owed, printed) = (asked.owed(), asked.printed(printer));
@@ -261,15 +264,15 @@ impl Oracle {
 }
 
 /// Each number that was given, with how often.
-fn listed(numbers: &[u64; 16]) -> String {
-    let given: Vec<String> = (1..16).filter(|&n| numbers[n] > 0).map(|n| format!("{}: {}", n, numbers[n])).collect();
+fn listed(numbers: &[u64; NUMBERS]) -> String {
+    let given: Vec<String> = (1..NUMBERS).filter(|&n| numbers[n] > 0).map(|n| format!("{}: {}", n, numbers[n])).collect();
     given.join(", ")
 }
 
 /// How often each number was given, and the outliers, by operation.
 #[derive(Default)]
 struct Tally {
-    numbers: [[u64; 16]; 4],
+    numbers: [[u64; NUMBERS]; 4],
     outliers: [[u64; 2]; 4],
     /// Pixels whose last theta is past the limit before request P7: answered now, and refused.
     past_before: [u64; 2],

@@ -79,6 +79,7 @@ impl Lens for Noting {
         let trace = trace();
         let number = match () {
             _ if trace.steep => 10,
+            _ if self.model == 1 && trace.divisor <= 0.0 => 16,
             _ if !finite(point) => 11,
             _ => 0,
         };

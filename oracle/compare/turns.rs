@@ -6,7 +6,7 @@ use crate::lens;
 use crate::memory::{Lent, STRIP};
 use crate::record::{self, Record};
 use crate::tables::{Asked, Built};
-use crate::{damage, listed, Oracle};
+use crate::{damage, listed, Oracle, NUMBERS};
 use rust_text::linalg::VecF64;
 use rust_text::region::BoxRegion;
 use rust_text::COUNTS;
@@ -41,9 +41,9 @@ pub struct Tally {
     units: u64,
     largest: u64,
     /// Builds that a unit refused, their turns that said so, calls refused before any unit, damaged records that were taken.
-    units_refused: [u64; 16],
-    turns_refused: [u64; 16],
-    calls_refused: [u64; 16],
+    units_refused: [u64; NUMBERS],
+    turns_refused: [u64; NUMBERS],
+    calls_refused: [u64; NUMBERS],
     taken: u64,
 }
 
@@ -383,7 +383,7 @@ impl Oracle {
             listed(&tally.units_refused)
         );
         println!("turns before any unit: refused {}; damaged records taken {}", listed(&tally.calls_refused), tally.taken);
-        self.met("turns refused at a unit", &tally.turns_refused, &[8, 10, 11, 12]);
+        self.met("turns refused at a unit", &tally.turns_refused, &[8, 10, 11, 12, 16]);
         self.met("turns before any unit", &tally.calls_refused, &[1, 4, 5, 6, 7, 13]);
         self.met("finished tables of 640 by 480", &[0, tally.largest], &[1]);
         self.met("damaged records taken", &[0, tally.taken], &[1]);
@@ -391,7 +391,7 @@ impl Oracle {
 
     /// Fresh jobs asked for with anything wrong.
     pub fn jobs(&mut self, jobs: u64) {
-        let mut numbers = [0; 16];
+        let mut numbers = [0; NUMBERS];
         for _ in 0..jobs {
             let r = &mut self.random;
             let mut q = damage::damaged_camera(r);

@@ -22,6 +22,8 @@ pub trait Angles: Copy + Debug + 'static {
     fn selected(_first: bool) {}
     /// A matrix was scaled: bc's inverse, by 1 over its determinant, and nothing else.
     fn scaled(_factor: f64) {}
+    /// Something was divided by this.
+    fn divided(_by: f64) {}
 }
 
 pub trait IsMask {
@@ -100,7 +102,15 @@ macro_rules! operator {
 operator!(Add, add, +);
 operator!(Sub, sub, -);
 operator!(Mul, mul, *);
-operator!(Div, div, /);
+
+impl<A: Angles> Div for Num<A> {
+    type Output = Self;
+    #[inline(always)]
+    fn div(self, other: Self) -> Self {
+        A::divided(other.0);
+        Num::of(self.0 / other.0)
+    }
+}
 
 impl<A> Neg for Num<A> {
     type Output = Self;

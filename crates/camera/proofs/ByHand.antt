@@ -16,7 +16,7 @@ use Rattle.lens.specs.declared.Judgement.{Judgement}
 use Rattle.lens.specs.declared.Judgement.the-variants.{Taken}
 use Rattle.lens.specs.declared.Pixel.{Pixel}
 use Rattle.lens.specs.declared.Point.{Point}
-use Rattle.lens.specs.declared.Refusal.the-variants.{AnswerNotFinite}
+use Rattle.lens.specs.declared.Refusal.the-variants.{RayNotForward}
 use Rattle.lens.specs.declared.Undistorted.{Undistorted}
 use Rattle.lens.specs.declared.Undistorted.the-variants as found
 use Rattle.affine.specs.Affine as affine
@@ -64,14 +64,18 @@ affines = (
 abbrev eucm-camera : Camera
 eucm-camera = EnhancedUnified (eucm.camera (int 1) (int 1) (int 0) (int 0) (halves 1) (int 1))
 
-pub eucms : Both eucm-camera (xy (int 2) (int 2)) (uv (int 1) (int 1)) × (undistort eucm-camera (uv (int 2) (int 0)) ≡ found.Refused AnswerNotFinite)
+pub eucms :
+    Both eucm-camera (xy (int 2) (int 2)) (uv (int 1) (int 1))
+    × (undistort eucm-camera (uv (int 2) (int 0)) ≡ found.Refused RayNotForward)
+    × (undistort eucm-camera (uv (int 2) (int 2)) ≡ found.Refused RayNotForward)
 unfolding judged all-finite isZero div ofInt
 eucms = (
   (
     sends eucm-camera (xy (int 2) (int 2)) _ refl (eucm-laws.by-hand .0) refl,
-    finds eucm-camera (uv (int 1) (int 1)) _ _ refl (ap found.At (eucm-laws.by-hand .1)) refl,
+    finds eucm-camera (uv (int 1) (int 1)) _ _ refl (eucm-laws.by-hand .1) refl,
   ),
-  finds eucm-camera (uv (int 2) (int 0)) _ _ refl (ap found.At (eucm-laws.by-hand .2)) refl,
+  finds eucm-camera (uv (int 2) (int 0)) _ _ refl (eucm-laws.by-hand .2) refl,
+  finds eucm-camera (uv (int 2) (int 2)) _ _ refl (eucm-laws.by-hand .3) refl,
 )
 
 abbrev kb-camera : Camera

@@ -4,7 +4,7 @@ use mathlib.Core.Bool.{Bool, true, false, cond, _&&_}
 use mathlib.Core.Logic.{_↔_}
 use Prim.Native.Nat.{ℕ, _≤_}
 use lib.Dec.{T, lit≤, eqb}
-use lib.Ieee.{Float, nan, le, add, sub, mul, div, ofBits, ofInt}
+use lib.Ieee.{Float, nan, le, add, sub, mul, div, ofBits, ofInt, lt, isNan}
 use lib.Ieee.Scale.{finite}
 use Rattle.exact.specs.Determined.{Determined}
 use Rattle.exact.specs.F64.{f64, minus, magnitude, isZero}
@@ -22,7 +22,7 @@ use Rattle.lens.specs.Rows.{first}
 use Rattle.lens.specs.Undistorted.{told}
 use Rattle.lens.specs.declared.Pixel.{Pixel}
 use Rattle.lens.specs.declared.Point.{Point}
-use Rattle.lens.specs.declared.Refusal.the-variants.{AnswerNotFinite}
+use Rattle.lens.specs.declared.Refusal.the-variants.{AnswerNotFinite, RayNotForward}
 use Rattle.lens.specs.declared.Settled.{Settled}
 use Rattle.lens.specs.declared.Undistorted.{Undistorted}
 use Rattle.lens.specs.declared.Undistorted.the-variants as found
@@ -31,23 +31,25 @@ use Rattle.affine.specs.Affine as affine
 use Rattle.affine.specs.declared.AffineParams.{AffineParams}
 use Rattle.enhanced_unified.specs.EnhancedUnified as eucm
 use Rattle.enhanced_unified.specs.declared.EnhancedUnifiedParams.{EnhancedUnifiedParams}
+use Rattle.enhanced_unified.proofs.Laws as eucm-laws
+use Rattle.enhanced_unified.proofs.Sides.{not-above}
 use Rattle.kannala_brandt.specs.KannalaBrandt as kb
 use Rattle.kannala_brandt.specs.declared.KannalaBrandtParams.{KannalaBrandtParams}
 use Rattle.kannala_brandt.proofs.Fits.{angle-fits}
 use Rattle.kannala_brandt.proofs.Laws as kb-laws
 use Rattle.brown_conrady.specs.BrownConrady as bc
-use Rattle.camera.specs.Camera.{parameters, zero-focal, judged, pixel-of, distort, point-of, finite-point, undistort-judged, undistort, limit, slopes, dx-distort-x, judged-params, parameter-slopes, dx-distort-params}
+use Rattle.camera.specs.Camera.{parameters, zero-focal, judged, pixel-of, distort, point-of, finite-point, undistort-judged, undistort, limit, slopes, dx-distort-x, judged-params, parameter-slopes, dx-distort-params, point-before, undistort-before}
 use Rattle.camera.specs.Numbers as numbers
-use Rattle.camera.specs.Rows.{not-finite, steep, too-steep, point-not-finite, distort-rows, undistort-rows, dx-distort-x-rows, dx-distort-params-rows}
+use Rattle.camera.specs.Rows.{not-finite, steep, too-steep, point-not-finite, distort-rows, undistort-rows, dx-distort-x-rows, dx-distort-params-rows, mirrored}
 use Rattle.lens.specs.Distorted.{told-pixel, finite-pixel}
 use Rattle.camera.specs.declared.Camera.{Camera}
 use Rattle.camera.specs.declared.Camera.the-variants.{Affine, EnhancedUnified, KannalaBrandt, BrownConrady}
 use Rattle.lens.specs.declared.Judgement.the-variants as Judged
 use Rattle.lens.specs.declared.Distorted.the-variants.{At, Refused}
 use Rattle.camera.proofs.ByHand.{at-once, affines, eucms, kbs, bcs}
-use Rattle.camera.proofs.Past.{steep-past, first-is-10}
+use Rattle.camera.proofs.Past.{steep-past, first-is-10, first-is-16}
 use Rattle.camera.proofs.Steep as far-out
-use Rattle.camera.proofs.Told.{before, behind, given, pixel-number, point-number, answer-number, agree, jacobian-number, distort-own, undistort-own, jacobian-own, kept, most, flagged}
+use Rattle.camera.proofs.Told.{before, behind, given, pixel-number, point-number, answer-number, agree, jacobian-number, distort-own, undistort-own, jacobian-own, kept, most, found-own, as-before, undistort-as-before}
 use Rattle.camera.proofs.finite_parameters.Reads as finite-parameters-contract
 use Rattle.camera.proofs.zero_focal.Reads as zero-focal-contract
 use Rattle.camera.proofs.distort_judged.Reads as distort-judged-contract
@@ -134,11 +136,11 @@ distort-number camera point =
     let answer = behind pixel-number (At pixel) (Refused AnswerNotFinite) refl refl (finite (pixel .0) && finite (pixel .1)) in
     before pixel-number Refused (finite-pixel pixel) (λ r. refl) answer (given camera (point .0) (point .1)) (zero-focal camera)
 
--- Undistort gives 4, 5, 10 or 11 exactly when the table says so, the lowest first.
+-- Undistort gives 4, 5, 10, 16 or 11 exactly when the table says so, tried in this order.
 pub undistort-number : (camera : Camera) (pixel : Pixel) → told (undistort camera pixel) .number ≡ first (undistort-rows camera pixel)
 unfolding judged
 undistort-number camera pixel =
-    let answer = answer-number (point-of camera pixel) (too-steep camera pixel) (agree camera pixel) in
+    let answer = answer-number (point-of camera pixel) (point-before camera pixel) (too-steep camera pixel) (mirrored camera pixel) (agree camera pixel) in
     before point-number found.Refused (finite-point (point-of camera pixel)) (λ r. refl) answer (given camera (pixel .0) (pixel .1)) (zero-focal camera)
 
 -- where kb's Newton ends, for a pixel
@@ -158,13 +160,43 @@ pub refused-10 :
 refused-10 p pixel =
     let camera = KannalaBrandt p in
     let says = undistort-number camera pixel in
-    let infinite = point-not-finite (point-of camera pixel) in
+    let infinite = point-not-finite (point-before camera pixel) in
     let beyond = steep (tangent (theta p pixel)) in
-    let rows = first-is-10 (not-finite camera (pixel .0) (pixel .1)) (zero-focal camera) (le (kb.rth2 p pixel) eps) beyond infinite in
+    let rows = first-is-10 (not-finite camera (pixel .0) (pixel .1)) (zero-focal camera) (le (kb.rth2 p pixel) eps) beyond false infinite in
     let past = steep-past (theta p pixel) (angle-fits p (root (kb.rth2 p pixel))) in (
       λ h. let r = rows .0 (sym says ∙ h) in (r .0, r .1, r .2, past .0 (r .3) .0, past .0 (r .3) .1),
       λ h. says ∙ rows .1 (h .0, h .1, h .2, past .1 (h .3, h .4)),
     )
+
+-- Undistort of eucm refuses with 16 exactly if neither 4 nor 5 does, and the z of the pixel's ray is a number and not above 0. A NaN z leaves it to 11.
+pub mirrored-exactly :
+    (p : EnhancedUnifiedParams) (pixel : Pixel)
+    → (told (undistort (EnhancedUnified p) pixel) .number ≡ 16)
+    ↔ ((not-finite (EnhancedUnified p) (pixel .0) (pixel .1) ≡ false)
+    × (zero-focal (EnhancedUnified p) ≡ false)
+    × (isNan (eucm.ray-z p pixel) ≡ false)
+    × (lt zeros (eucm.ray-z p pixel) ≡ false))
+mirrored-exactly p pixel =
+    let camera = EnhancedUnified p in
+    let says = undistort-number camera pixel in
+    let z = not-above (eucm.ray-z p pixel) in
+    let infinite = point-not-finite (point-before camera pixel) in
+    let rows = first-is-16 (not-finite camera (pixel .0) (pixel .1)) (zero-focal camera) (mirrored camera pixel) infinite in (
+      λ h. let r = rows .0 (sym says ∙ h) in (r .0, r .1, z .0 (r .2) .0, z .0 (r .2) .1),
+      λ h. says ∙ rows .1 (h .0, h .1, z .1 (h .2, h .3)),
+    )
+
+-- Wherever 16 isn't given, answer and refusal are those of before request P6, of every camera.
+pub elsewhere-as-before :
+    (camera : Camera) (pixel : Pixel) → (told (undistort camera pixel) .number ≡ 16 → ⊥) → undistort camera pixel ≡ undistort-before camera pixel
+elsewhere-as-before camera pixel =
+    undistort-as-before (judged camera (pixel .0) (pixel .1)) (point-of camera pixel) (point-before camera pixel) (as-before camera pixel)
+
+-- A point that undistort of eucm answers lies on the pixel's side of the centre, zeros aside.
+pub same-side :
+    (p : EnhancedUnifiedParams) (pixel : Pixel) (s : Settled)
+    → undistort (EnhancedUnified p) pixel ≡ found.At s → eucm-laws.SameSide p pixel (s .point)
+same-side p pixel s h = eucm-laws.same-side p pixel s (found-own s (judged (EnhancedUnified p) (pixel .0) (pixel .1)) (point-of (EnhancedUnified p) pixel) h)
 
 -- The derivative by the point gives 4, 5 or 11 exactly when the table says so, the lowest first.
 pub dx-distort-x-number : (camera : Camera) (point : Point) → dx-distort-x camera point .number ≡ first (dx-distort-x-rows camera point)
@@ -222,8 +254,9 @@ pub settled :
     → (undistort (Affine a) pixel ≡ found.At s → (s .updates ≡ 0) × (s .flag ≡ true))
     × (undistort (EnhancedUnified e) pixel ≡ found.At s → (s .updates ≡ 0) × (s .flag ≡ true))
 settled pixel s a e = (
-  λ h. rw (flagged s (judged (Affine a) (pixel .0) (pixel .1)) (affine.undistort a pixel) h) (refl, refl),
-  λ h. rw (flagged s (judged (EnhancedUnified e) (pixel .0) (pixel .1)) (eucm.undistort e pixel) h) (refl, refl),
+  λ h. let f = found-own s (judged (Affine a) (pixel .0) (pixel .1)) (point-of (Affine a) pixel) h in
+      let t : Undistorted → Settled = λ u. told u .settled in (sym (ap (λ (u : Undistorted). t u .updates) f), sym (ap (λ (u : Undistorted). t u .flag) f)),
+  λ h. eucm-laws.settled e pixel s (found-own s (judged (EnhancedUnified e) (pixel .0) (pixel .1)) (point-of (EnhancedUnified e) pixel) h),
 )
 
 -- ---- each refusal is reached
@@ -254,14 +287,16 @@ pub distort-reached :
 unfolding judged all-finite isZero add mul ofBits
 distort-reached = (refl, refl, refl)
 
--- Undistort with 4, 5, 10 and 11.
+-- Undistort with 4, 5, 10, 16 and 11.
 pub undistort-reached :
     (told (undistort flat (uv nan zeros)) .number ≡ 4)
     × (told (undistort flat (uv zeros zeros)) .number ≡ 5)
     × (told (undistort (KannalaBrandt far-out.lens) far-out.pixel) .number ≡ 10)
+    × (told (undistort (EnhancedUnified (eucm.camera (int 1) (int 1) (int 0) (int 0) (halves 1) (int 1))) (uv (int 2) (int 0))) .number ≡ 16)
     × (told (undistort (Affine (affine.camera (f64 0x0000_0000_0000_0001) ones zeros zeros)) (uv ones zeros)) .number ≡ 11)
 unfolding judged all-finite isZero add sub mul div ofBits ofInt
-undistort-reached = (refl, refl, ap (λ (u : Undistorted). told (finite-point u) .number) far-out.refused, refl)
+undistort-reached =
+    (refl, refl, ap (λ (u : Undistorted). told (finite-point u) .number) far-out.refused, ap (λ (u : Undistorted). told u .number) (eucms .1), refl)
 
 -- The derivative by the point with 4, 5 and 11.
 pub dx-distort-x-reached : (dx-distort-x flat nowhere .number ≡ 4) × (dx-distort-x flat far .number ≡ 5) × (dx-distort-x plain far .number ≡ 11)
@@ -288,7 +323,8 @@ pub by-hand :
     ≡ at-once (xy (halves 1) (minus (quarters 1))))
     × (distort (EnhancedUnified (eucm.camera (int 1) (int 1) (int 0) (int 0) (halves 1) (int 1))) (xy (int 2) (int 2)) ≡ At (uv (int 1) (int 1)))
     × (undistort (EnhancedUnified (eucm.camera (int 1) (int 1) (int 0) (int 0) (halves 1) (int 1))) (uv (int 1) (int 1)) ≡ at-once (xy (int 2) (int 2)))
-    × (undistort (EnhancedUnified (eucm.camera (int 1) (int 1) (int 0) (int 0) (halves 1) (int 1))) (uv (int 2) (int 0)) ≡ found.Refused AnswerNotFinite)
+    × (undistort (EnhancedUnified (eucm.camera (int 1) (int 1) (int 0) (int 0) (halves 1) (int 1))) (uv (int 2) (int 0)) ≡ found.Refused RayNotForward)
+    × (undistort (EnhancedUnified (eucm.camera (int 1) (int 1) (int 0) (int 0) (halves 1) (int 1))) (uv (int 2) (int 2)) ≡ found.Refused RayNotForward)
     × (distort (KannalaBrandt (kb.camera (int 1000) (int 1000) (int 320) (int 280) (int 0) (int 0) (int 0) (int 0))) (xy (int 0) (int 0))
     ≡ At (uv (int 320) (int 280)))
     × (undistort (KannalaBrandt (kb.camera (int 1000) (int 1000) (int 320) (int 280) (int 0) (int 0) (int 0) (int 0))) (uv (int 320) (int 280))
@@ -312,6 +348,7 @@ by-hand = (
   eucms .0 .0,
   eucms .0 .1,
   eucms .1,
+  eucms .2,
   kbs .0,
   kbs .1,
   kb-laws.by-hand-bent,

@@ -38,17 +38,30 @@ steep-past (fin s m e) f = (
   λ p. ap steep (tangent-refused-past s m e f .1 (p .1)),
 )
 
--- ---- which row of undistort's gives 10: b says 4, z says 5, s says 10, n says 11
+-- ---- which row of undistort's gives 10, and which 16: b says 4, z says 5, s says 10, m says 16, n says 11
 
 pub first-is-10 :
-    (b z near s n : Bool) → (first ((4 when b) ∷ (5 when z) ∷ (10 when not near && s) ∷ (11 when n) ∷ []) ≡ 10) ↔ ((b ≡ false) × (z ≡ false) × (near ≡ false) × (s ≡ true))
-first-is-10 b z near s n = (forth b z near s n, λ h. rw (h .0, h .1, h .2, h .3) refl)
+    (b z near s m n : Bool)
+    → (first ((4 when b) ∷ (5 when z) ∷ (10 when not near && s) ∷ (16 when m) ∷ (11 when n) ∷ []) ≡ 10) ↔ ((b ≡ false) × (z ≡ false) × (near ≡ false) × (s ≡ true))
+first-is-10 b z near s m n = (forth b z near s m n, λ h. rw (h .0, h .1, h .2, h .3) refl)
   where
-    forth : (b z near s n : Bool) → first ((4 when b) ∷ (5 when z) ∷ (10 when not near && s) ∷ (11 when n) ∷ []) ≡ 10 → (b ≡ false) × (z ≡ false) × (near ≡ false) × (s ≡ true)
-    forth true z near s n h = absurd (omega arith)
-    forth false true near s n h = absurd (omega arith)
-    forth false false false true n h = (refl, refl, refl, refl)
-    forth false false false false true h = absurd (omega arith)
-    forth false false false false false h = absurd (omega arith)
-    forth false false true s true h = absurd (omega arith)
-    forth false false true s false h = absurd (omega arith)
+    forth : (b z near s m n : Bool) → first ((4 when b) ∷ (5 when z) ∷ (10 when not near && s) ∷ (16 when m) ∷ (11 when n) ∷ []) ≡ 10 → (b ≡ false) × (z ≡ false) × (near ≡ false) × (s ≡ true)
+    forth true z near s m n h = absurd (omega arith)
+    forth false true near s m n h = absurd (omega arith)
+    forth false false false true m n h = (refl, refl, refl, refl)
+    forth false false false false true n h = absurd (omega arith)
+    forth false false false false false true h = absurd (omega arith)
+    forth false false false false false false h = absurd (omega arith)
+    forth false false true s true n h = absurd (omega arith)
+    forth false false true s false true h = absurd (omega arith)
+    forth false false true s false false h = absurd (omega arith)
+
+pub first-is-16 : (b z m n : Bool) → (first ((4 when b) ∷ (5 when z) ∷ (10 when false) ∷ (16 when m) ∷ (11 when n) ∷ []) ≡ 16) ↔ ((b ≡ false) × (z ≡ false) × (m ≡ true))
+first-is-16 b z m n = (forth b z m n, λ h. rw (h .0, h .1, h .2) refl)
+  where
+    forth : (b z m n : Bool) → first ((4 when b) ∷ (5 when z) ∷ (10 when false) ∷ (16 when m) ∷ (11 when n) ∷ []) ≡ 16 → (b ≡ false) × (z ≡ false) × (m ≡ true)
+    forth true z m n h = absurd (omega arith)
+    forth false true m n h = absurd (omega arith)
+    forth false false true n h = (refl, refl, refl)
+    forth false false false true h = absurd (omega arith)
+    forth false false false false h = absurd (omega arith)

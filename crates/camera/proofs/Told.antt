@@ -1,7 +1,8 @@
 -- What a camera tells of a call, put together from what is judged before, the model's answer, and what is judged behind. Assumes nothing.
-use mathlib.Core.Path.{_≡_, refl}
+use mathlib.Core.Path.{_≡_, refl, sym, ap, _∙_}
 use mathlib.Core.Bool.{Bool, true, false, not, cond, _&&_}
 use mathlib.Core.List.{[], _∷_}
+use mathlib.Core.Logic.{_⊎_, inl, inr}
 use Prim.Native.Nat.{ℕ, _≤_}
 use native.Mathlib.Omega.{arith}
 use lib.Ieee.{Float, le}
@@ -10,7 +11,7 @@ use Rattle.root.specs.Root.{root}
 use Rattle.arctan.specs.Tangent.{tangent}
 use Rattle.arctan.specs.declared.Slope.{Slope}
 use Rattle.arctan.specs.declared.Slope.the-variants.{Is, TooSteep}
-use Rattle.lens.specs.Constants.{eps}
+use Rattle.lens.specs.Constants.{zeros, eps}
 use Rattle.lens.specs.Finite.{all-finite}
 use Rattle.lens.specs.Judgement.{decided}
 use Rattle.lens.specs.Refusal.{number}
@@ -20,17 +21,18 @@ use Rattle.lens.specs.declared.Jacobian.{Jacobian}
 use Rattle.lens.specs.declared.Pixel.{Pixel}
 use Rattle.lens.specs.declared.Point.{Point}
 use Rattle.lens.specs.declared.Refusal.{Refusal}
-use Rattle.lens.specs.declared.Refusal.the-variants.{NotFinite, ZeroFocalLength, AnswerNotFinite}
+use Rattle.lens.specs.declared.Refusal.the-variants.{NotFinite, ZeroFocalLength, AnswerNotFinite, RayNotForward}
 use Rattle.lens.specs.declared.Settled.{Settled}
 use Rattle.lens.specs.declared.Undistorted.{Undistorted}
 use Rattle.lens.specs.declared.Undistorted.the-variants as found
 use Rattle.lens.proofs.Laws.{number-within}
+use Rattle.enhanced_unified.specs.EnhancedUnified as eucm
 use Rattle.kannala_brandt.specs.KannalaBrandt as kb
 use Rattle.kannala_brandt.proofs.Laws as kb-laws
 use Rattle.brown_conrady.proofs.Laws as bc-laws
 use Rattle.kannala_brandt.specs.declared.Reached.{Reached}
-use Rattle.camera.specs.Camera.{parameters, zero-focal, judged, point-of, finite-point, limit, finite-jacobian, refused}
-use Rattle.camera.specs.Rows.{not-finite, steep, too-steep, point-not-finite}
+use Rattle.camera.specs.Camera.{parameters, zero-focal, judged, point-of, point-before, finite-point, limit, finite-jacobian, refused}
+use Rattle.camera.specs.Rows.{not-finite, steep, too-steep, mirrored, point-not-finite}
 use Rattle.lens.specs.Distorted.{told-pixel}
 use Rattle.camera.specs.declared.Camera.{Camera}
 use Rattle.camera.specs.declared.Camera.the-variants.{Affine, EnhancedUnified, KannalaBrandt, BrownConrady}
@@ -63,25 +65,30 @@ pixel-number d = told-pixel d .number
 abbrev pub point-number : Undistorted → ℕ
 point-number u = told u .number
 
--- what the model finds, and b that it found no tangent, say the same
-abbrev Agree : Undistorted → Bool → Type 0
-Agree (found.At s) b = b ≡ false
-Agree (found.Refused r) b = (number r ≡ 10) × (b ≡ true)
+-- what the model finds, v that it found before request P6, b that it found no tangent and m that its ray isn't forward, say the same
+abbrev Agree : Undistorted → Undistorted → Bool → Bool → Type 0
+Agree (found.At s) v b m = (b ≡ false) × (m ≡ false) × (v ≡ found.At s)
+Agree (found.Refused r) v b m = ((number r ≡ 10) × (b ≡ true)) ⊎ ((number r ≡ 16) × (b ≡ false) × (m ≡ true))
 
-pub answer-number : (u : Undistorted) (b : Bool) → Agree u b → point-number (finite-point u) ≡ first ((10 when b) ∷ (11 when point-not-finite u) ∷ [])
-answer-number (found.At s) b e = rw e (behind point-number (found.At s) (found.Refused AnswerNotFinite) refl refl (finite (s .point .0) && finite (s .point .1)))
-answer-number (found.Refused r) b e = rw (e .1) (e .0)
+pub answer-number : (u v : Undistorted) (b m : Bool) → Agree u v b m → point-number (finite-point u) ≡ first ((10 when b) ∷ (16 when m) ∷ (11 when point-not-finite v) ∷ [])
+answer-number (found.At s) v b m e = rw (e .0, e .1, e .2) (behind point-number (found.At s) (found.Refused AnswerNotFinite) refl refl (finite (s .point .0) && finite (s .point .1)))
+answer-number (found.Refused r) v b m (inl e) = rw (e .1) (e .0)
+answer-number (found.Refused r) v b m (inr e) = rw (e .1, e .2) (e .0)
 
-kb-agree : (near : Bool) (slope : Slope) (point : Settled) (at : Reached) (rth un vn : Float) → Agree (cond near (found.At point) (kb.outward slope at rth un vn)) (not near && steep slope)
-kb-agree true slope point at rth un vn = refl
-kb-agree false (Is t) point at rth un vn = refl
-kb-agree false TooSteep point at rth un vn = (refl, refl)
+eucm-agree : (m : Bool) (s : Settled) → Agree (cond m (found.Refused RayNotForward) (found.At s)) (found.At s) false m
+eucm-agree true s = inr (refl, refl, refl)
+eucm-agree false s = (refl, refl, refl)
 
-pub agree : (camera : Camera) (pixel : Pixel) → Agree (point-of camera pixel) (too-steep camera pixel)
-agree (Affine p) pixel = refl
-agree (EnhancedUnified p) pixel = refl
+kb-agree : (near : Bool) (slope : Slope) (point : Settled) (at : Reached) (rth un vn : Float) → Agree (cond near (found.At point) (kb.outward slope at rth un vn)) (cond near (found.At point) (kb.outward slope at rth un vn)) (not near && steep slope) false
+kb-agree true slope point at rth un vn = (refl, refl, refl)
+kb-agree false (Is t) point at rth un vn = (refl, refl, refl)
+kb-agree false TooSteep point at rth un vn = inl (refl, refl)
+
+pub agree : (camera : Camera) (pixel : Pixel) → Agree (point-of camera pixel) (point-before camera pixel) (too-steep camera pixel) (mirrored camera pixel)
+agree (Affine p) pixel = (refl, refl, refl)
+agree (EnhancedUnified p) pixel = eucm-agree (le (eucm.ray-z p pixel) zeros) (eucm.undistort-before p pixel)
 agree (KannalaBrandt p) pixel = kb-agree (le (kb.rth2 p pixel) eps) (tangent (kb.newton p (root (kb.rth2 p pixel)) .th)) _ _ _ _ _
-agree (BrownConrady p) pixel = refl
+agree (BrownConrady p) pixel = (refl, refl, refl)
 
 abbrev pub slope-number : Differentiated → ℕ
 slope-number d = d .number
@@ -133,16 +140,35 @@ kept Judged.Taken (found.At s) {n} h = go (finite (s .point .0) && finite (s .po
     go true = h
     go false = omega arith
 
+eucm-most : (m : Bool) (s : Settled) → s .updates ≡ 0 → told (cond m (found.Refused RayNotForward) (found.At s)) .settled .updates ≤ 0
+eucm-most true s e = omega arith
+eucm-most false s e = omega arith
+
 pub most : (camera : Camera) (pixel : Pixel) → told (point-of camera pixel) .settled .updates ≤ limit camera
 most (Affine p) pixel = omega arith
-most (EnhancedUnified p) pixel = omega arith
+most (EnhancedUnified p) pixel = eucm-most (le (eucm.ray-z p pixel) zeros) (eucm.undistort-before p pixel) refl
 most (KannalaBrandt p) pixel = kb-laws.updates-limit p pixel tangent
 most (BrownConrady p) pixel = bc-laws.updates-limit p pixel
 
-pub flagged : (s : Settled) (j : Judgement) (t : Settled) → decided j found.Refused (finite-point (found.At t)) ≡ found.At s → s ≡ t
-flagged s (Judged.Refused r) t e = let z : _≡_ {A = ℕ} 0 1 = cc in absurd (omega arith)
-flagged s Judged.Taken t e = go (finite (t .point .0) && finite (t .point .1)) e
+-- what a camera answers, its model found
+pub found-own : (s : Settled) (j : Judgement) (u : Undistorted) → decided j found.Refused (finite-point u) ≡ found.At s → u ≡ found.At s
+found-own s j u e = sym (undistort-own j u (ap point-number e)) ∙ e
+
+-- ---- before request P6
+
+-- a model that refuses nothing with 16 is as it was
+pub as-before : (camera : Camera) (pixel : Pixel) → (point-number (finite-point (point-of camera pixel)) ≡ 16 → ⊥) → point-of camera pixel ≡ point-before camera pixel
+as-before (Affine p) pixel n = refl
+as-before (EnhancedUnified p) pixel n = go (le (eucm.ray-z p pixel) zeros) n
   where
-    go : (f : Bool) → cond f (found.At t) (found.Refused AnswerNotFinite) ≡ found.At s → s ≡ t
-    go true e = cc
-    go false e = let z : _≡_ {A = ℕ} 0 1 = cc in absurd (omega arith)
+    go : (m : Bool) → (point-number (finite-point (cond m (found.Refused RayNotForward) (found.At (eucm.undistort-before p pixel)))) ≡ 16 → ⊥)
+        → cond m (found.Refused RayNotForward) (found.At (eucm.undistort-before p pixel)) ≡ found.At (eucm.undistort-before p pixel)
+    go true n = absurd (n refl)
+    go false n = refl
+as-before (KannalaBrandt p) pixel n = refl
+as-before (BrownConrady p) pixel n = refl
+
+pub undistort-as-before : (j : Judgement) (u v : Undistorted) → ((point-number (finite-point u) ≡ 16 → ⊥) → u ≡ v)
+    → (point-number (decided j found.Refused (finite-point u)) ≡ 16 → ⊥) → decided j found.Refused (finite-point u) ≡ decided j found.Refused (finite-point v)
+undistort-as-before (Judged.Refused r) u v f n = refl
+undistort-as-before Judged.Taken u v f n = ap finite-point (f n)

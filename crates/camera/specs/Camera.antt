@@ -71,11 +71,11 @@ distort-judged camera point = finite-pixel (pixel-of camera point)
 abbrev pub distort : Camera → Point → Distorted
 distort camera point = decided (judged camera (point .0) (point .1)) pixels.Refused (distort-judged camera point)
 
--- ---- undistort: the model's point, or kb's 10, or 11
+-- ---- undistort: the model's point, or kb's 10, or eucm's 16, or 11
 
 abbrev pub point-of : Camera → Pixel → Undistorted
 point-of (Affine p) pixel = found.At (affine.undistort p pixel)
-point-of (EnhancedUnified p) pixel = found.At (eucm.undistort p pixel)
+point-of (EnhancedUnified p) pixel = eucm.undistort p pixel
 point-of (KannalaBrandt p) pixel = kb.undistort tangent p pixel
 point-of (BrownConrady p) pixel = found.At (bc.undistort p pixel)
 
@@ -89,6 +89,17 @@ undistort-judged camera pixel = finite-point (point-of camera pixel)
 
 abbrev pub undistort : Camera → Pixel → Undistorted
 undistort camera pixel = decided (judged camera (pixel .0) (pixel .1)) found.Refused (undistort-judged camera pixel)
+
+-- before request P6: eucm's point whatever the z of the ray, and no 16
+abbrev pub point-before : Camera → Pixel → Undistorted
+point-before (Affine p) pixel = point-of (Affine p) pixel
+point-before (EnhancedUnified p) pixel = found.At (eucm.undistort-before p pixel)
+point-before (KannalaBrandt p) pixel = point-of (KannalaBrandt p) pixel
+point-before (BrownConrady p) pixel = point-of (BrownConrady p) pixel
+
+abbrev pub undistort-before : Camera → Pixel → Undistorted
+undistort-before camera pixel =
+    decided (judged camera (pixel .0) (pixel .1)) found.Refused (finite-point (point-before camera pixel))
 
 -- the most updates that it makes
 abbrev pub limit : Camera → ℕ

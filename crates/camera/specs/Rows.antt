@@ -8,15 +8,16 @@ use Rattle.root.specs.Root.{root}
 use Rattle.arctan.specs.Tangent.{tangent}
 use Rattle.arctan.specs.declared.Slope.{Slope}
 use Rattle.arctan.specs.declared.Slope.the-variants.{Is, TooSteep}
-use Rattle.lens.specs.Constants.{eps}
+use Rattle.lens.specs.Constants.{zeros, eps}
 use Rattle.lens.specs.Finite.{all-finite}
 use Rattle.lens.specs.Rows.{Row, _when_}
 use Rattle.lens.specs.declared.Pixel.{Pixel}
 use Rattle.lens.specs.declared.Point.{Point}
 use Rattle.lens.specs.declared.Undistorted.{Undistorted}
 use Rattle.lens.specs.declared.Undistorted.the-variants.{At, Refused}
+use Rattle.enhanced_unified.specs.EnhancedUnified as eucm
 use Rattle.kannala_brandt.specs.KannalaBrandt as kb
-use Rattle.camera.specs.Camera.{parameters, zero-focal, pixel-of, point-of, slopes, parameter-slopes}
+use Rattle.camera.specs.Camera.{parameters, zero-focal, pixel-of, point-before, slopes, parameter-slopes}
 use Rattle.camera.specs.declared.Camera.{Camera}
 use Rattle.camera.specs.declared.Camera.the-variants.{Affine, EnhancedUnified, KannalaBrandt, BrownConrady}
 
@@ -43,7 +44,15 @@ too-steep (KannalaBrandt p) pixel =
     not (le (kb.rth2 p pixel) eps) && steep (tangent (kb.newton p (root (kb.rth2 p pixel)) .th))
 too-steep (BrownConrady p) pixel = false
 
--- 11: a number of the answer is NaN or infinite
+-- 16: the z of eucm's ray is zero, of either sign, or negative; NaN is neither
+abbrev pub mirrored : Camera → Pixel → Bool
+mirrored (Affine p) pixel = false
+mirrored (EnhancedUnified p) pixel = le (eucm.ray-z p pixel) zeros
+mirrored (KannalaBrandt p) pixel = false
+mirrored (BrownConrady p) pixel = false
+
+-- 11: a number of the answer is NaN or infinite. Of eucm's the answer is that of whatever z, so that 16 and 11 may both
+-- hold
 abbrev pub point-not-finite : Undistorted → Bool
 point-not-finite (At settled) = not (finite (settled .point .0) && finite (settled .point .1))
 point-not-finite (Refused refusal) = false
@@ -61,7 +70,8 @@ undistort-rows camera pixel =
     (4 when not-finite camera (pixel .0) (pixel .1))
     ∷ (5 when zero-focal camera)
     ∷ (10 when too-steep camera pixel)
-    ∷ (11 when point-not-finite (point-of camera pixel)) ∷ []
+    ∷ (16 when mirrored camera pixel)
+    ∷ (11 when point-not-finite (point-before camera pixel)) ∷ []
 
 abbrev pub dx-distort-x-rows : Camera → Point → List Row
 dx-distort-x-rows camera point =

@@ -127,19 +127,19 @@ pub fn distort(camera: Camera, point: Point) -> Distorted
     }
 }
 
-// The model's point, finite or not, or kb's 10.
+// The model's point, finite or not, or kb's 10, or eucm's 16.
 fn point_of(camera: Camera, pixel: Pixel) -> Undistorted
     ensures { λ r. ⌜ r ≡ point-of camera pixel ⌝ }
 {
     match camera {
         Camera::Affine(p) => Undistorted::At(affine::undistort(p, pixel)),
-        Camera::EnhancedUnified(p) => Undistorted::At(enhanced_unified::undistort(p, pixel)),
+        Camera::EnhancedUnified(p) => enhanced_unified::undistort(p, pixel),
         Camera::KannalaBrandt(p) => kannala_brandt::undistort(p, pixel),
         Camera::BrownConrady(p) => Undistorted::At(brown_conrady::undistort(p, pixel)),
     }
 }
 
-// 11 for a point that isn't finite. A refusal stays: 10 comes before 11.
+// 11 for a point that isn't finite. A refusal stays: 10 and 16 come before 11.
 fn finite_point(found: Undistorted) -> Undistorted
     ensures { λ r. ⌜ r ≡ finite-point found ⌝ }
 {

@@ -102,7 +102,7 @@ module _
             plans.built-admitted (Held Float) (λ h. Unit {0}) held-plan held-state Called turn-serves (first camera width height table) tt
             (f32-sound camera width height) table refl allowances last calls takes
 
-        -- so that none is refused with 4, 5, 6, 7 or 13, but with 8, 10, 11 or 12 if at all,
+        -- so that none is refused with 4, 5, 6, 7 or 13, but with 8, 10, 11, 12 or 16 if at all,
         pub build-refusals :
             (a : ℕ) (said : Said) (then : Held Float) → Called last a said then → one-of (said-number said) (0 ∷ unit-numbers) ≡ true
         build-refusals a said then c =

@@ -1,7 +1,8 @@
 -- The four operations of enhanced_unified.rs by its local names: each product, sum, difference and quotient rounds
 -- once, in the Rust's order. Numbers in comments are lines of that file. Definitions only.
+use mathlib.Core.Bool.{Bool, cond}
 use mathlib.Core.List.{[], _∷_}
-use lib.Ieee.{Float}
+use lib.Ieee.{Float, le}
 use Rattle.exact.specs.F64.{minus, _⊕_, _⊖_, _⊗_, _⊘_}
 use Rattle.root.specs.Root.{root}
 use Rattle.lens.specs.Constants.{zeros, ones, int}
@@ -11,7 +12,10 @@ use Rattle.lens.specs.Undistorted.{direct}
 use Rattle.lens.specs.declared.Jacobian.{Jacobian}
 use Rattle.lens.specs.declared.Pixel.{Pixel}
 use Rattle.lens.specs.declared.Point.{Point}
+use Rattle.lens.specs.declared.Refusal.the-variants.{RayNotForward}
 use Rattle.lens.specs.declared.Settled.{Settled}
+use Rattle.lens.specs.declared.Undistorted.{Undistorted}
+use Rattle.lens.specs.declared.Undistorted.the-variants.{At, Refused}
 use Rattle.enhanced_unified.specs.declared.EnhancedUnifiedParams.{EnhancedUnifiedParams}
 
 -- a camera by its numbers
@@ -51,14 +55,33 @@ k-of alpha beta r2 =
     let denominator = alpha ⊗ root (ones ⊖ (alpha ⊖ gamma) ⊗ beta ⊗ r2) ⊕ gamma in
     nominator ⊘ denominator
 
-abbrev pub undistort : EnhancedUnifiedParams → Pixel → Settled
+-- 105 and 106: a pixel's offsets from the centre, over the focal lengths
+abbrev pub mx-of : EnhancedUnifiedParams → Pixel → Float
+mx-of params pixel = (pixel .0 ⊖ params .cx) ⊘ params .fx
+
+abbrev pub my-of : EnhancedUnifiedParams → Pixel → Float
+my-of params pixel = (pixel .1 ⊖ params .cy) ⊘ params .fy
+
+-- 108 to 114: the z of a pixel's ray
+abbrev pub ray-z : EnhancedUnifiedParams → Pixel → Float
+ray-z params pixel =
+    k-of (params .alpha) (params .beta) (squared-radius (mx-of params pixel) (my-of params pixel))
+
+-- 105 to 116, whatever the z: as the Rust has it, and as undistort was before request P6
+abbrev pub undistort-before : EnhancedUnifiedParams → Pixel → Settled
+undistort-before params pixel =
+    let k = ray-z params pixel in
+    direct record { 0 = mx-of params pixel ⊘ k; 1 = my-of params pixel ⊘ k }
+
+-- a z of zero, be it -0, whose ray meets the plane z = 1 nowhere, or a negative one, whose ray meets it behind the
+-- camera and on the wrong side of the centre. A NaN isn't ≤ 0
+abbrev pub not-forward : Float → Bool
+not-forward k = le k zeros
+
+-- With 1 1 0 0 0.5 1 and (2, 2): r2 = 8, and k = (1 - 0.25 · 8) / 1 = -1
+abbrev pub undistort : EnhancedUnifiedParams → Pixel → Undistorted
 undistort params pixel =
-    -- 105 and 106
-    let mx = (pixel .0 ⊖ params .cx) ⊘ params .fx in
-    let my = (pixel .1 ⊖ params .cy) ⊘ params .fy in
-    -- 108 to 116
-    let k = k-of (params .alpha) (params .beta) (squared-radius mx my) in
-    direct record { 0 = mx ⊘ k; 1 = my ⊘ k }
+    cond (not-forward (ray-z params pixel)) (Refused RayNotForward) (At (undistort-before params pixel))
 
 -- ---- the derivatives
 

@@ -1,12 +1,14 @@
 // enhanced_unified.rs: the ray bent towards a sphere (alpha) that may be stretched (beta). Its four operations, in the
-// Rust's order and by its names. None refuses: what isn't finite is for the camera to judge. There is no branch: not at
-// alpha 0 and not near the axis.
+// Rust's order and by its names. Undistort refuses a ray that doesn't point forwards, where the Rust goes on.
+// What isn't finite is for the camera to judge. There is no other branch: not at alpha 0 and not near the axis.
 ghost use mathlib.Core.Path.{_≡_};
+ghost use Rattle.lens.specs.Undistorted.{told};
 ghost use Rattle.enhanced_unified.specs.EnhancedUnified.{rho-of, norm-of, distort, k-of, undistort, dnorm-of, turned, dx-distort-x, dx-distort-params};
 use lens::Jacobian;
 use lens::Pixel;
 use lens::Point;
-use lens::Settled;
+use lens::Refusal;
+use lens::Undistorted;
 
 // The six parameters, in the Rust's order.
 pub struct EnhancedUnifiedParams {
@@ -53,14 +55,18 @@ fn k_of(alpha: f64, beta: f64, r2: f64) -> f64
     nominator / denominator
 }
 
-// The point of a pixel, found with no update.
-pub fn undistort(params: EnhancedUnifiedParams, pixel: Pixel) -> Settled
-    ensures { λ r. ⌜ r ≡ undistort params pixel ⌝ }
+// The point of a pixel, found with no update. Refused with 16 where the ray's z is zero or negative: the quotient would
+// be nowhere, or a point on the wrong side of the centre. A NaN z passes, and the camera refuses what comes of it.
+pub fn undistort(params: EnhancedUnifiedParams, pixel: Pixel) -> Undistorted
+    ensures { λ r. ⌜ told r ≡ told (undistort params pixel) ⌝ }
 {
     let mx = (pixel.0 - params.cx) / params.fx;
     let my = (pixel.1 - params.cy) / params.fy;
     let k = k_of(params.alpha, params.beta, lens::squared_radius(mx, my));
-    lens::direct(Point(mx / k, my / k))
+    if k <= 0.0 {
+        return Undistorted::Refused(Refusal::RayNotForward);
+    }
+    Undistorted::At(lens::direct(Point(mx / k, my / k)))
 }
 
 // The derivative of norm by the coordinate x.

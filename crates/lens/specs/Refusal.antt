@@ -1,7 +1,7 @@
 -- The number of each refusal. Definitions only.
 use Prim.Native.Nat.{ℕ}
 use Rattle.lens.specs.declared.Refusal.{Refusal}
-use Rattle.lens.specs.declared.Refusal.the-variants.{UnknownModel, NoParameterJacobian, WrongCount, NotFinite, ZeroFocalLength, WrongSize, WrongLength, IncrementNotPositive, OutsideTable, AngleTooLarge, AnswerNotFinite, CellInfinite, ImpossibleRecord, NotTheForm}
+use Rattle.lens.specs.declared.Refusal.the-variants.{UnknownModel, NoParameterJacobian, WrongCount, NotFinite, ZeroFocalLength, WrongSize, WrongLength, IncrementNotPositive, OutsideTable, AngleTooLarge, AnswerNotFinite, CellInfinite, ImpossibleRecord, NotTheForm, RayNotForward}
 
 abbrev pub number : Refusal → ℕ
 number UnknownModel = 1
@@ -18,3 +18,4 @@ number AnswerNotFinite = 11
 number CellInfinite = 12
 number ImpossibleRecord = 13
 number NotTheForm = 14
+number RayNotForward = 16

@@ -88,6 +88,8 @@ pub enum Refusal {
     ImpossibleRecord,
     // a program can't read its input
     NotTheForm,
+    // the ray of a pixel doesn't point forwards: its point would be mirrored, or nowhere
+    RayNotForward,
 }
 
 // EPS as a call, so that a contract ties the constant to the definition.
@@ -116,6 +118,7 @@ pub fn number(refusal: Refusal) -> u8
         Refusal::CellInfinite => 12,
         Refusal::ImpossibleRecord => 13,
         Refusal::NotTheForm => 14,
+        Refusal::RayNotForward => 16,
     }
 }
 

@@ -135,7 +135,7 @@ blank-unless-0 camera o = go (undistort camera (o .pixel))
     go (At s) h = absurd (h refl)
     go (Refused r) h = (refl, refl)
 
--- A record's number is the one that the refusal table gives: 4, 5, 10 or 11, the first whose row holds, or 0.
+-- A record's number is the one that the refusal table gives: 4, 5, 10, 16 or 11, the first whose row holds, or 0.
 pub record-number : (camera : Camera) (o : Observation) → observed camera o .number ≡ first (undistort-rows camera (o .pixel))
 unfolding observed
 record-number camera o = undistort-number camera (o .pixel)

@@ -44,7 +44,7 @@ use Rattle.printer.proofs.Short.{refused-short, table-short, region-lon
 abbrev Short : List (List ℕ) → Type 0
 Short lines = length (joined lines) ≤ most-printed
 
-refusal-short : (n : ℕ) → n ≤ 14 → Short (refusal-lines n)
+refusal-short : (n : ℕ) → n ≤ 16 → Short (refusal-lines n)
 unfolding joined
 refusal-short n h = omega (arith, length-append (refused-line n) [], refused-short n (omega arith))
 

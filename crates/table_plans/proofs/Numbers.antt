@@ -13,19 +13,20 @@ use Rattle.arctan.specs.Tangent.{tangent}
 use Rattle.arctan.specs.declared.Slope.{Slope}
 use Rattle.arctan.specs.declared.Slope.the-variants.{Is, TooSteep}
 use Rattle.narrow.specs.Narrow.{narrowed}
-use Rattle.lens.specs.Constants.{eps}
+use Rattle.lens.specs.Constants.{zeros, eps}
 use Rattle.lens.specs.Refusal.{number}
 use Rattle.lens.specs.declared.Distorted.the-variants as pixels
 use Rattle.lens.specs.declared.Judgement.{Judgement}
 use Rattle.lens.specs.declared.Judgement.the-variants as judged
 use Rattle.lens.specs.declared.Pixel.{Pixel}
-use Rattle.lens.specs.declared.Refusal.the-variants.{IncrementNotPositive, AnswerNotFinite}
+use Rattle.lens.specs.declared.Refusal.the-variants.{IncrementNotPositive, AnswerNotFinite, RayNotForward}
 use Rattle.lens.specs.declared.Settled.{Settled}
 use Rattle.lens.specs.declared.Undistorted.{Undistorted}
 use Rattle.lens.specs.declared.Undistorted.the-variants as found
 use Rattle.region.specs.Region.{increments, flat, wrong}
 use Rattle.region.specs.declared.Increments.{Increments}
 use Rattle.region.specs.declared.Region.{Region}
+use Rattle.enhanced_unified.specs.EnhancedUnified as eucm
 use Rattle.kannala_brandt.specs.KannalaBrandt as kb
 use Rattle.kannala_brandt.specs.declared.Reached.{Reached}
 use Rattle.camera.specs.Camera.{pixel-of, point-of, finite-point, distort-judged}
@@ -56,7 +57,7 @@ by-each P (x ∷ xs) n e p = go (λ h. by-each P xs n h (p .1)) (eqb n x) refl e
 abbrev pub Known : ℕ → Type 0
 Known n = one-of n unit-numbers ≡ true
 
--- ---- a sample: 10 or 11
+-- ---- a sample: 10, 16 or 11
 
 abbrev FoundKnown : Undistorted → Type 0
 FoundKnown (found.At s) = Unit {0}
@@ -67,9 +68,13 @@ kb-known true slope point at rth un vn = tt
 kb-known false (Is t) point at rth un vn = tt
 kb-known false TooSteep point at rth un vn = refl
 
+eucm-known : (mirrored : Bool) (s : Settled) → FoundKnown (cond mirrored (found.Refused RayNotForward) (found.At s))
+eucm-known true s = refl
+eucm-known false s = tt
+
 point-known : (camera : Camera) (pixel : Pixel) → FoundKnown (point-of camera pixel)
 point-known (Affine p) pixel = tt
-point-known (EnhancedUnified p) pixel = tt
+point-known (EnhancedUnified p) pixel = eucm-known (le (eucm.ray-z p pixel) zeros) (eucm.undistort-before p pixel)
 point-known (KannalaBrandt p) pixel = kb-known (le (kb.rth2 p pixel) eps) (tangent (kb.newton p (root (kb.rth2 p pixel)) .th)) _ _ _ _ _
 point-known (BrownConrady p) pixel = tt
 
@@ -132,7 +137,7 @@ module _ (camera : Camera) (width height : ℕ) where
     cells = λ region u v n e. subst ContentKnown e (cell-known camera region (increments region width height) u v);
   }
 
-  -- A turn that a unit refuses is refused with 8, 10, 11 or 12.
+  -- A turn that a unit refuses is refused with 8, 10, 11, 12 or 16.
   pub turn-known : (a : ℕ) (s : State Float) → Told Known (turn (next (f32-table camera width height)) a s .said)
   turn-known = turn-says (f32-table camera width height) Known refusing
 

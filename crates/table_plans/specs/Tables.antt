@@ -82,11 +82,11 @@ sweep-of camera width height = sweep-by camera (engine-of camera) (corners-twice
 abbrev pub f32-table : Camera → ℕ → ℕ → Plan Float
 f32-table camera width height = table-by (sweep-of camera width height) (engine-of camera) f32
 
--- ---- what refuses a unit of it: 8, 10, 11, 12
+-- ---- what refuses a unit of it: 8, 10, 11, 12, 16
 
 abbrev pub one-of : ℕ → List ℕ → Bool
 one-of n [] = false
 one-of n (x ∷ xs) = eqb n x || one-of n xs
 
 abbrev pub unit-numbers : List ℕ
-unit-numbers = 8 ∷ 10 ∷ 11 ∷ 12 ∷ []
+unit-numbers = 8 ∷ 10 ∷ 11 ∷ 12 ∷ 16 ∷ []

@@ -72,7 +72,7 @@ status-of said job =
 
 -- a unit's number is not 0
 not-zero : (n : ℕ) → Known n → eqb n 0 ≡ false
-not-zero n k = by-each (λ m. eqb m 0 ≡ false) unit-numbers n k (refl, (refl, (refl, (refl, tt))))
+not-zero n k = by-each (λ m. eqb m 0 ≡ false) unit-numbers n k (refl, (refl, (refl, (refl, (refl, tt)))))
 
 said-back : (said : Said) (job : Job) (cells : List Float) → Told Known said → bytes-said (written record { said = said; job = job; cells = cells }) ≡ said
 said-back finished job cells k = ap (λ (n : ℕ). cond (eqb n 1) finished running) (status-of finished job)

@@ -66,18 +66,18 @@ module _ (bs : List ℕ) (cells : List Float) (allowance : ℕ) (lent : List ℕ
   unfolding turn-bytes
   taken-written z = taken bs cells lent (turn-of (job-at bs) cells allowance) before z
 
-  -- Its number is 0, 1, 4, 5, 6, 7, 8, 10, 11, 12 or 13.
-  pub number-told : one-of (after .code) (0 ∷ 1 ∷ 4 ∷ 5 ∷ 6 ∷ 7 ∷ 8 ∷ 10 ∷ 11 ∷ 12 ∷ 13 ∷ []) ≡ true
+  -- Its number is 0, 1, 4, 5, 6, 7, 8, 10, 11, 12, 13 or 16.
+  pub number-told : one-of (after .code) (0 ∷ 1 ∷ 4 ∷ 5 ∷ 6 ∷ 7 ∷ 8 ∷ 10 ∷ 11 ∷ 12 ∷ 13 ∷ 16 ∷ []) ≡ true
   number-told = go (eqb before 0) refl
     where
       Told : ℕ → Type 0
-      Told n = one-of n (0 ∷ 1 ∷ 4 ∷ 5 ∷ 6 ∷ 7 ∷ 8 ∷ 10 ∷ 11 ∷ 12 ∷ 13 ∷ []) ≡ true
+      Told n = one-of n (0 ∷ 1 ∷ 4 ∷ 5 ∷ 6 ∷ 7 ∷ 8 ∷ 10 ∷ 11 ∷ 12 ∷ 13 ∷ 16 ∷ []) ≡ true
 
       go : (b : Bool) → eqb before 0 ≡ b → Told (after .code)
       go true e =
           let z : before ≡ 0 = eqb-true before 0 e in
           subst Told (sym (ap (λ (h : Handed). h .code) (taken-written z)))
-          (by-each Told (0 ∷ unit-numbers) (said-number (turn-of (job-at bs) cells allowance .said)) (taken-so bs cells lent allowance z) (refl, (refl, (refl, (refl, (refl, tt))))))
+          (by-each Told (0 ∷ unit-numbers) (said-number (turn-of (job-at bs) cells allowance .said)) (taken-so bs cells lent allowance z) (refl, (refl, (refl, (refl, (refl, (refl, tt)))))))
       go false e =
           subst Told (sym (ap (λ (h : Handed). h .code) (refused-untouched (eqb-false before 0 e))))
           (by-each Told (0 ∷ call-numbers) before (before-so bs cells lent) (refl, (refl, (refl, (refl, (refl, (refl, (refl, tt))))))))
@@ -94,7 +94,7 @@ module _ (bs : List ℕ) (cells : List Float) (allowance : ℕ) (lent : List ℕ
       go true e =
           let z : before ≡ 0 = eqb-true before 0 e in
           absurd
-          (by-each Unit's (0 ∷ unit-numbers) (said-number (turn-of (job-at bs) cells allowance .said)) (taken-so bs cells lent allowance z) (false≢true, (false≢true, (false≢true, (false≢true, (false≢true, tt)))))
+          (by-each Unit's (0 ∷ unit-numbers) (said-number (turn-of (job-at bs) cells allowance .said)) (taken-so bs cells lent allowance z) (false≢true, (false≢true, (false≢true, (false≢true, (false≢true, (false≢true, tt))))))
           (sym (ap (λ (x : Handed). one-of (x .code) call-numbers) (taken-written z)) ∙ h))
       go false e =
           let u : after ≡ handed before bs cells lent = refused-untouched (eqb-false before 0 e) in
@@ -224,7 +224,7 @@ module _
           subst (λ (p : Plan Float). Built p table (allowed bytes-plan bytes-state allowances first last calls) (bytes-state last)) plan-is
           (plans.built HeldBytes Ready bytes-plan bytes-state Post (bytes-serve Post by-turn-bytes) first ready sound table starts allowances last calls)
 
-      -- Where the table has the size's length, every call is admitted: its number is 0, or 8, 10, 11 or 12 of a unit, and its
+      -- Where the table has the size's length, every call is admitted: its number is 0, or 8, 10, 11, 12 or 16 of a unit, and its
       -- answer's four words are what it said, and the units and updates of the record that it left.
       pub reports-by-bytes :
           length table ≡ 2 * (width * height) → (a : ℕ) (lent : List ℕ) → length lent ≡ answer-length

@@ -10,7 +10,7 @@ returns : tie.Need-returns
 returns c = rw (c .before .before .camera .given .1) (ap At (c .undistort .ensures))
 
 returns-2 : tie.Need-returns-2
-returns-2 c = rw (c .before .before .camera2 .given .1) (ap At (c .undistort2 .ensures))
+returns-2 c = rw (c .before .before .camera2 .given .1) (told-one-to-one _ _ (c .undistort2 .ensures))
 
 returns-3 : tie.Need-returns-3
 returns-3 c = rw (c .before .before .camera3 .given .1) (told-one-to-one _ _ (c .undistort3 .ensures))
