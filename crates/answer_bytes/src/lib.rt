@@ -1,6 +1,10 @@
 // A camera's four operations over bytes: a model's number and its parameters' bytes in, the number told out, and the
 // answer's bytes in a buffer that the caller lends. What is refused writes nothing.
+ghost use mathlib.Core.Bool.{true};
 ghost use mathlib.Core.Path.{_≡_};
+ghost use Prim.Native.Nat.{_≤_};
+ghost use lib.ListN.{length};
+ghost use Rattle.little_endian.specs.Bytes.{floats, put};
 ghost use Rattle.lens.specs.Distorted.{told-pixel};
 ghost use Rattle.lens.specs.Undistorted.{told};
 ghost use Rattle.lens.specs.Finite.{all-finite};
@@ -219,14 +223,27 @@ fn parameter_slopes(model: u8, params: &[u8], point: Point) -> Differentiated
     }
 }
 
+// Puts the bit patterns of finite numbers at the start: none is a NaN, so that the compiler copies them as they are.
+fn put_entries(answer: &mut [u8], entries: &[f64; lens::ENTRIES])
+    requires { ⌜ (192 ≤ length (now answer)) × ((length (now entries) ≡ 24) × (all-finite (now entries) ≡ true)) ⌝ }
+    ensures { λ _. ⌜ now (answer .exit) ≡ put 0 (floats (now (entries .entry))) (now (answer .entry)) ⌝ }
+{
+    let mut i = 0;
+    while i < lens::ENTRIES {
+        little_endian::put(answer, 8 * i, 8, f64::to_bits(entries[i]));
+        i += 1;
+    }
+}
+
 fn give_jacobian(told: Differentiated, answer: &mut [u8]) -> u8
+    requires { ⌜ (told .number ≡ 0 → all-finite (told .jacobian .entries) ≡ true) ⌝ }
     ensures { λ r. ⌜ given r (now (answer .exit)) ≡ give-jacobian told (now (answer .entry)) ⌝ }
 {
     let code = given::code(told.number, answer.len() == 200);
     if code == 0 {
         let jacobian = told.jacobian;
         let entries = jacobian.entries;
-        little_endian::put_floats(answer, 0, &entries);
+        put_entries(answer, &entries);
         little_endian::put(answer, 192, 8, jacobian.columns as u64);
     }
     code

@@ -47,7 +47,7 @@ use Rattle.lens.specs.declared.Distorted.the-variants.{At, Refused}
 use Rattle.camera.proofs.ByHand.{at-once, affines, eucms, kbs, bcs}
 use Rattle.camera.proofs.Past.{steep-past, first-is-10}
 use Rattle.camera.proofs.Steep as far-out
-use Rattle.camera.proofs.Told.{before, behind, given, pixel-number, point-number, answer-number, agree, jacobian-number, distort-own, undistort-own, jacobian-own, kept, most, flagged}
+use Rattle.camera.proofs.Told.{before, behind, given, pixel-number, point-number, answer-number, agree, jacobian-number, distort-own, undistort-own, jacobian-own, jacobian-finite, kept, most, flagged}
 use Rattle.camera.proofs.finite_parameters.Reads as finite-parameters-contract
 use Rattle.camera.proofs.zero_focal.Reads as zero-focal-contract
 use Rattle.camera.proofs.distort_judged.Reads as distort-judged-contract
@@ -228,6 +228,16 @@ pub dx-answered :
 dx-answered camera point = (
   jacobian-own (judged camera (point .0) (point .1)) (all-finite (slopes camera point .entries)) (slopes camera point),
   jacobian-own (judged-params camera (point .0) (point .1)) (all-finite (parameter-slopes camera point .entries)) (parameter-slopes camera point),
+)
+
+-- A derivative that tells 0 has finite numbers only.
+pub jacobians-finite :
+    (camera : Camera) (point : Point) →
+    (dx-distort-x camera point .number ≡ 0 → all-finite (dx-distort-x camera point .jacobian .entries) ≡ true)
+    × (dx-distort-params camera point .number ≡ 0 → all-finite (dx-distort-params camera point .jacobian .entries) ≡ true)
+jacobians-finite camera point = (
+  jacobian-finite (judged camera (point .0) (point .1)) (slopes camera point),
+  jacobian-finite (judged-params camera (point .0) (point .1)) (parameter-slopes camera point),
 )
 
 -- ---- updates and flag
