@@ -242,7 +242,7 @@ pub fn dx_distort_x(camera: Camera, point: Point) -> Differentiated
 {
     match judged(camera, point.0, point.1) {
         Judgement::Refused(refusal) => refused(refusal),
-        Judgement::Taken => dx_distort_x_judged(camera, point),
+        Judgement::Taken => finite_jacobian(slopes(camera, point)),
     }
 }
 
@@ -281,6 +281,6 @@ pub fn dx_distort_params(camera: Camera, point: Point) -> Differentiated
 {
     match judged_params(camera, point.0, point.1) {
         Judgement::Refused(refusal) => refused(refusal),
-        Judgement::Taken => dx_distort_params_judged(camera, point),
+        Judgement::Taken => finite_jacobian(parameter_slopes(camera, point)),
     }
 }

@@ -1,12 +1,13 @@
 -- A camera whose parameters are finite, by their bit patterns. Assumes nothing.
 use mathlib.Core.Path.{_≡_, refl, sym, ap, ap₂, _∙_, subst}
-use mathlib.Core.Bool.{Bool, true, false, cond}
+use mathlib.Core.Bool.{Bool, true}
 use mathlib.Core.List.{List, [], _∷_}
 use mathlib.Core.Logic.{inl, inr}
 use Prim.Native.Nat.{ℕ, zero, suc, _+_, _-_, _*_, _/_, _%_, _^_, _≤_, _<_}
 use native.Mathlib.Nat.{eq-zero-or-pos}
 use native.Mathlib.Omega.{arith}
-use lib.Dec.{T, eqb, leb}
+use borrow.Author.Tests.{ne-eqb}
+use lib.Dec.{T, leb}
 use lib.Ieee.{Float, binary64, top, hid, low}
 use lib.Ieee.Bits.{is-true}
 use lib.Ieee.Scale.{finite}
@@ -84,13 +85,6 @@ word-of-part [] (suc m) (suc place) h = refl
 word-of-part (x ∷ p) zero (suc place) h = absurd (omega arith)
 word-of-part (x ∷ p) (suc m) (suc place) h = word-of-part p m place (omega arith)
 
-module _ (model : ℕ) where
-  by-count : (a b c : Bool) → let n : ℕ = cond a 4 (cond b 6 (cond c 8 12)) in (n ≡ 4 → ⊥) → (n ≡ 6 → ⊥) → (n ≡ 8 → ⊥) → n ≡ 12
-  by-count true b c f g h = absurd (f refl)
-  by-count false true c f g h = absurd (g refl)
-  by-count false false true f g h = absurd (h refl)
-  by-count false false false f g h = refl
-
-  -- a count that is none of the three lower ones
-  pub count-twelve : (numbers.count model ≡ 4 → ⊥) → (numbers.count model ≡ 6 → ⊥) → (numbers.count model ≡ 8 → ⊥) → numbers.count model ≡ 12
-  count-twelve = by-count (eqb model 0) (eqb model 1) (eqb model 2)
+-- a model that is none of the first three
+pub count-twelve : (model : ℕ) → (model ≡ 0 → ⊥) → (model ≡ 1 → ⊥) → (model ≡ 2 → ⊥) → numbers.count model ≡ 12
+count-twelve model a b c = simp (ne-eqb model 0 a, ne-eqb model 1 b, ne-eqb model 2 c)

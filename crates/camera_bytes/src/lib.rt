@@ -229,20 +229,28 @@ fn twelve(model: u8, p: &[u8]) -> Tested
 pub fn known(model: u8, params: &[u8]) -> Tested
     ensures { λ r. ⌜ r ≡ known model (now (params .entry)) ⌝ }
 {
-    let count = camera::numbers::count(model);
-    if params.len() < 8 * count as usize {
+    if model == 0 {
+        if 32 <= params.len() {
+            return four(model, &params[0..32]);
+        }
         return any(model, params);
     }
-    if count == 4 {
-        return four(model, &params[0..32]);
+    if model == 1 {
+        if 48 <= params.len() {
+            return six(model, &params[0..48]);
+        }
+        return any(model, params);
     }
-    if count == 6 {
-        return six(model, &params[0..48]);
+    if model == 2 {
+        if 64 <= params.len() {
+            return eight(model, &params[0..64]);
+        }
+        return any(model, params);
     }
-    if count == 8 {
-        return eight(model, &params[0..64]);
+    if 96 <= params.len() {
+        return twelve(model, &params[0..96]);
     }
-    twelve(model, &params[0..96])
+    any(model, params)
 }
 
 // 1, then 3.
