@@ -1,15 +1,23 @@
 // A camera's four operations over bytes: a model's number and its parameters' bytes in, the number told out, and the
 // answer's bytes in a buffer that the caller lends. What is refused writes nothing.
+ghost use mathlib.Core.Bool.{true};
 ghost use mathlib.Core.Path.{_≡_};
+ghost use Prim.Native.Nat.{_≤_};
+ghost use lib.ListN.{length};
+ghost use Rattle.little_endian.specs.Bytes.{floats, put};
 ghost use Rattle.lens.specs.Distorted.{told-pixel};
 ghost use Rattle.lens.specs.Undistorted.{told};
-ghost use Rattle.camera.specs.Camera.{refused};
+ghost use Rattle.lens.specs.Finite.{all-finite};
+ghost use Rattle.camera.specs.Camera.{parameters, judged, distort, undistort, dx-distort-x, judged-params, dx-distort-params};
+ghost use Rattle.camera_bytes.specs.Reading.{read};
 ghost use Rattle.given.specs.Given.{given};
 ghost use Rattle.answer_bytes.specs.Answer.{give-pixel, give-point, give-jacobian, distorted, undistorted, slopes, parameter-slopes, distort-bytes, undistort-bytes, dx-distort-x-bytes, dx-distort-params-bytes};
 ghost use Rattle.answer_bytes.specs.Reading.{read-for-params};
+use camera::Camera;
 use camera::Differentiated;
-use camera_bytes::Asked;
+use camera_bytes::Tested;
 use lens::Distorted;
+use lens::Judgement;
 use lens::Pixel;
 use lens::Point;
 use lens::Refusal;
@@ -34,13 +42,37 @@ pub fn told_pixel(distorted: Distorted) -> ToldPixel
     }
 }
 
-// The pixel that a camera gives, or why there is no camera.
-fn distorted(asked: Asked, point: Point) -> Distorted
-    ensures { λ r. ⌜ told-pixel r ≡ told-pixel (distorted asked point) ⌝ }
+// 4 and then 5, of a camera of which it is known whether its parameters are finite.
+fn judged(finite: bool, camera: Camera, x: f64, y: f64) -> Judgement
+    requires { ⌜ finite ≡ all-finite (parameters camera) ⌝ }
+    ensures { λ r. ⌜ r ≡ judged camera x y ⌝ }
 {
-    match asked {
-        Asked::Of(camera) => camera::distort(camera, point),
-        Asked::Refused(refusal) => Distorted::Refused(refusal),
+    if finite {
+        camera::placed(camera, x, y)
+    } else {
+        Judgement::Refused(Refusal::NotFinite)
+    }
+}
+
+// The pixel that such a camera gives.
+fn distorted_by(tested: Tested, point: Point) -> Distorted
+    requires { ⌜ tested .finite ≡ all-finite (parameters (tested .camera)) ⌝ }
+    ensures { λ r. ⌜ told-pixel r ≡ told-pixel (distort (tested .camera) point) ⌝ }
+{
+    let camera = tested.camera;
+    match judged(tested.finite, camera, point.0, point.1) {
+        Judgement::Refused(refusal) => Distorted::Refused(refusal),
+        Judgement::Taken => camera::distort_judged(camera, point),
+    }
+}
+
+// The pixel that a camera gives, or why there is no camera.
+fn distorted(model: u8, params: &[u8], point: Point) -> Distorted
+    ensures { λ r. ⌜ told-pixel r ≡ told-pixel (distorted (read model (now (params .entry))) point) ⌝ }
+{
+    match camera_bytes::judged(model, params) {
+        Judgement::Refused(refusal) => Distorted::Refused(refusal),
+        Judgement::Taken => distorted_by(camera_bytes::known(model, params), point),
     }
 }
 
@@ -61,7 +93,7 @@ pub fn distort(model: u8, params: &[u8], x: f64, y: f64, answer: &mut [u8]) -> u
     ensures { λ r. ⌜ given r (now (answer .exit)) ≡
         distort-bytes model (now (params .entry)) x y (now (answer .entry)) ⌝ }
 {
-    let told = told_pixel(distorted(camera_bytes::read(model, params), Point(x, y)));
+    let told = told_pixel(distorted(model, params, Point(x, y)));
     give_pixel(told, answer)
 }
 
@@ -91,12 +123,23 @@ fn told_point(undistorted: Undistorted) -> ToldPoint
     }
 }
 
-fn undistorted(asked: Asked, pixel: Pixel) -> Undistorted
-    ensures { λ r. ⌜ told r ≡ told (undistorted asked pixel) ⌝ }
+fn undistorted_by(tested: Tested, pixel: Pixel) -> Undistorted
+    requires { ⌜ tested .finite ≡ all-finite (parameters (tested .camera)) ⌝ }
+    ensures { λ r. ⌜ told r ≡ told (undistort (tested .camera) pixel) ⌝ }
 {
-    match asked {
-        Asked::Of(camera) => camera::undistort(camera, pixel),
-        Asked::Refused(refusal) => Undistorted::Refused(refusal),
+    let camera = tested.camera;
+    match judged(tested.finite, camera, pixel.0, pixel.1) {
+        Judgement::Refused(refusal) => Undistorted::Refused(refusal),
+        Judgement::Taken => camera::undistort_judged(camera, pixel),
+    }
+}
+
+fn undistorted(model: u8, params: &[u8], pixel: Pixel) -> Undistorted
+    ensures { λ r. ⌜ told r ≡ told (undistorted (read model (now (params .entry))) pixel) ⌝ }
+{
+    match camera_bytes::judged(model, params) {
+        Judgement::Refused(refusal) => Undistorted::Refused(refusal),
+        Judgement::Taken => undistorted_by(camera_bytes::known(model, params), pixel),
     }
 }
 
@@ -120,47 +163,87 @@ pub fn undistort(model: u8, params: &[u8], u: f64, v: f64, answer: &mut [u8]) ->
     ensures { λ r. ⌜ given r (now (answer .exit)) ≡
         undistort-bytes model (now (params .entry)) u v (now (answer .entry)) ⌝ }
 {
-    let told = told_point(undistorted(camera_bytes::read(model, params), Pixel(u, v)));
+    let told = told_point(undistorted(model, params, Pixel(u, v)));
     give_point(told, answer)
 }
 
-// A refusal in the derivatives' form.
-fn refused(refusal: Refusal) -> Differentiated
-    ensures { λ r. ⌜ r ≡ refused refusal ⌝ }
+// The derivatives that such a camera gives, by the point,
+fn slopes_by(tested: Tested, point: Point) -> Differentiated
+    requires { ⌜ tested .finite ≡ all-finite (parameters (tested .camera)) ⌝ }
+    ensures { λ r. ⌜ r ≡ dx-distort-x (tested .camera) point ⌝ }
 {
-    Differentiated {
-        number: lens::number(refusal),
-        jacobian: lens::two_rows(&[], &[]),
+    let camera = tested.camera;
+    match judged(tested.finite, camera, point.0, point.1) {
+        Judgement::Refused(refusal) => camera::refused(refusal),
+        Judgement::Taken => camera::dx_distort_x_judged(camera, point),
     }
 }
 
-// The derivatives that a camera gives, or why there is no camera.
-fn slopes(asked: Asked, point: Point) -> Differentiated
-    ensures { λ r. ⌜ r ≡ slopes asked point ⌝ }
+fn slopes(model: u8, params: &[u8], point: Point) -> Differentiated
+    ensures { λ r. ⌜ r ≡ slopes (read model (now (params .entry))) point ⌝ }
 {
-    match asked {
-        Asked::Of(camera) => camera::dx_distort_x(camera, point),
-        Asked::Refused(refusal) => refused(refusal),
+    match camera_bytes::judged(model, params) {
+        Judgement::Refused(refusal) => camera::refused(refusal),
+        Judgement::Taken => slopes_by(camera_bytes::known(model, params), point),
     }
 }
 
-fn parameter_slopes(asked: Asked, point: Point) -> Differentiated
-    ensures { λ r. ⌜ r ≡ parameter-slopes asked point ⌝ }
+// and by its parameters: 2 for bc before all else.
+fn judged_params(finite: bool, camera: Camera, x: f64, y: f64) -> Judgement
+    requires { ⌜ finite ≡ all-finite (parameters camera) ⌝ }
+    ensures { λ r. ⌜ r ≡ judged-params camera x y ⌝ }
 {
-    match asked {
-        Asked::Of(camera) => camera::dx_distort_params(camera, point),
-        Asked::Refused(refusal) => refused(refusal),
+    if let Camera::BrownConrady(_) = camera {
+        return Judgement::Refused(Refusal::NoParameterJacobian);
+    }
+    judged(finite, camera, x, y)
+}
+
+fn parameter_slopes_by(tested: Tested, point: Point) -> Differentiated
+    requires { ⌜ tested .finite ≡ all-finite (parameters (tested .camera)) ⌝ }
+    ensures { λ r. ⌜ r ≡ dx-distort-params (tested .camera) point ⌝ }
+{
+    let camera = tested.camera;
+    match judged_params(tested.finite, camera, point.0, point.1) {
+        Judgement::Refused(refusal) => camera::refused(refusal),
+        Judgement::Taken => camera::dx_distort_params_judged(camera, point),
+    }
+}
+
+// Model 3 is refused with 2 whatever its parameters are, since 2 comes before 3.
+fn parameter_slopes(model: u8, params: &[u8], point: Point) -> Differentiated
+    ensures { λ r. ⌜ r ≡ parameter-slopes (read-for-params model (now (params .entry))) point ⌝ }
+{
+    if model == 3 {
+        return camera::refused(Refusal::NoParameterJacobian);
+    }
+    match camera_bytes::judged(model, params) {
+        Judgement::Refused(refusal) => camera::refused(refusal),
+        Judgement::Taken => parameter_slopes_by(camera_bytes::known(model, params), point),
+    }
+}
+
+// Puts the bit patterns of finite numbers at the start: none is a NaN, so that the compiler copies them as they are.
+fn put_entries(answer: &mut [u8], entries: &[f64; lens::ENTRIES])
+    requires { ⌜ (192 ≤ length (now answer)) × ((length (now entries) ≡ 24) × (all-finite (now entries) ≡ true)) ⌝ }
+    ensures { λ _. ⌜ now (answer .exit) ≡ put 0 (floats (now (entries .entry))) (now (answer .entry)) ⌝ }
+{
+    let mut i = 0;
+    while i < lens::ENTRIES {
+        little_endian::put(answer, 8 * i, 8, f64::to_bits(entries[i]));
+        i += 1;
     }
 }
 
 fn give_jacobian(told: Differentiated, answer: &mut [u8]) -> u8
+    requires { ⌜ (told .number ≡ 0 → all-finite (told .jacobian .entries) ≡ true) ⌝ }
     ensures { λ r. ⌜ given r (now (answer .exit)) ≡ give-jacobian told (now (answer .entry)) ⌝ }
 {
     let code = given::code(told.number, answer.len() == 200);
     if code == 0 {
         let jacobian = told.jacobian;
         let entries = jacobian.entries;
-        little_endian::put_floats(answer, 0, &entries);
+        put_entries(answer, &entries);
         little_endian::put(answer, 192, 8, jacobian.columns as u64);
     }
     code
@@ -171,18 +254,8 @@ pub fn dx_distort_x(model: u8, params: &[u8], x: f64, y: f64, answer: &mut [u8])
     ensures { λ r. ⌜ given r (now (answer .exit)) ≡
         dx-distort-x-bytes model (now (params .entry)) x y (now (answer .entry)) ⌝ }
 {
-    let told = slopes(camera_bytes::read(model, params), Point(x, y));
+    let told = slopes(model, params, Point(x, y));
     give_jacobian(told, answer)
-}
-
-// Model 3 is refused with 2 whatever its parameters are, since 2 comes before 3.
-fn read_for_params(model: u8, params: &[u8]) -> Asked
-    ensures { λ r. ⌜ r ≡ read-for-params model (now (params .entry)) ⌝ }
-{
-    if model == 3 {
-        return Asked::Refused(Refusal::NoParameterJacobian);
-    }
-    camera_bytes::read(model, params)
 }
 
 // The derivative of distort by the parameters, in the same form.
@@ -190,6 +263,6 @@ pub fn dx_distort_params(model: u8, params: &[u8], x: f64, y: f64, answer: &mut 
     ensures { λ r. ⌜ given r (now (answer .exit)) ≡
         dx-distort-params-bytes model (now (params .entry)) x y (now (answer .entry)) ⌝ }
 {
-    let told = parameter_slopes(read_for_params(model, params), Point(x, y));
+    let told = parameter_slopes(model, params, Point(x, y));
     give_jacobian(told, answer)
 }

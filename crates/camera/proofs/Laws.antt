@@ -49,7 +49,7 @@ use Rattle.lens.specs.declared.Distorted.the-variants.{At, Refused}
 use Rattle.camera.proofs.ByHand.{at-once, affines, eucms, kbs, bcs}
 use Rattle.camera.proofs.Past.{steep-past, first-is-10, first-is-16}
 use Rattle.camera.proofs.Steep as far-out
-use Rattle.camera.proofs.Told.{before, behind, given, pixel-number, point-number, answer-number, agree, jacobian-number, distort-own, undistort-own, jacobian-own, kept, most, found-own, as-before, undistort-as-before}
+use Rattle.camera.proofs.Told.{before, behind, given, pixel-number, point-number, answer-number, agree, jacobian-number, distort-own, undistort-own, jacobian-own, jacobian-finite, kept, most, found-own, as-before, undistort-as-before}
 use Rattle.camera.proofs.finite_parameters.Reads as finite-parameters-contract
 use Rattle.camera.proofs.zero_focal.Reads as zero-focal-contract
 use Rattle.camera.proofs.distort_judged.Reads as distort-judged-contract
@@ -59,6 +59,10 @@ use Rattle.camera.proofs.distort.Reads as distort-contract
 use Rattle.camera.proofs.undistort.Reads as undistort-contract
 use Rattle.camera.proofs.dx_distort_x.Reads as dx-distort-x-contract
 use Rattle.camera.proofs.dx_distort_params.Reads as dx-distort-params-contract
+use Rattle.camera.proofs.placed.Reads as placed-contract
+use Rattle.camera.proofs.refused.Reads as refused-contract
+use Rattle.camera.proofs.dx_distort_x_judged.Reads as dx-distort-x-judged-contract
+use Rattle.camera.proofs.dx_distort_params_judged.Reads as dx-distort-params-judged-contract
 use Rattle.camera.proofs.numbers.count.Reads as count-contract
 use Rattle.camera.proofs.numbers.camera_of.Reads as camera-of-contract
 use Rattle.camera.proofs.numbers.model_number.Reads as model-number-contract
@@ -77,7 +81,7 @@ determined = (
   λ κ a s s' r r' p q. p ∙ sym q,
 )
 
--- and so for the five functions that a table is built with.
+-- and so for the five functions that a table is built with,
 pub determined-parts :
     Determined finite-parameters-contract.Post × Determined zero-focal-contract.Post
     × Determined distort-judged-contract.Post × Determined undistort-judged-contract.Post × Determined limit-contract.Post
@@ -86,6 +90,17 @@ determined-parts = (
   λ κ a s s' r r' p q. p ∙ sym q,
   λ κ a s s' r r' p q. told-pixel-one-to-one r r' (p ∙ sym q),
   λ κ a s s' r r' p q. told-one-to-one r r' (p ∙ sym q),
+  λ κ a s s' r r' p q. p ∙ sym q,
+)
+
+-- and for the four that are called where the parameters are known to be finite,
+pub determined-known :
+    Determined placed-contract.Post × Determined refused-contract.Post
+    × Determined dx-distort-x-judged-contract.Post × Determined dx-distort-params-judged-contract.Post
+determined-known = (
+  λ κ a s s' r r' p q. p ∙ sym q,
+  λ κ a s s' r r' p q. p ∙ sym q,
+  λ κ a s s' r r' p q. p ∙ sym q,
   λ κ a s s' r r' p q. p ∙ sym q,
 )
 
@@ -113,6 +128,9 @@ camera-back (KannalaBrandt p) = (refl, refl)
 camera-back (BrownConrady p) = (refl, refl)
 
 module _ (n : ℕ → Float) where
+  abbrev first-only : Bool → Bool → Bool → ℕ → Float
+  first-only a b c = numbers.at (numbers.first-of (cond a 4 (cond b 6 (cond c 8 12))) n)
+
   by-model :
       (a b c : Bool) →
       parameters (cond a (numbers.affine n) (cond b (numbers.enhanced-unified n) (cond c (numbers.kannala-brandt n) (numbers.brown-conrady n))))
@@ -121,6 +139,19 @@ module _ (n : ℕ → Float) where
   by-model false true c = refl
   by-model false false true = refl
   by-model false false false = refl
+
+  by-first :
+      (a b c : Bool) →
+      cond a (numbers.affine n) (cond b (numbers.enhanced-unified n) (cond c (numbers.kannala-brandt n) (numbers.brown-conrady n)))
+      ≡ cond a (numbers.affine (first-only a b c)) (cond b (numbers.enhanced-unified (first-only a b c)) (cond c (numbers.kannala-brandt (first-only a b c)) (numbers.brown-conrady (first-only a b c))))
+  by-first true b c = refl
+  by-first false true c = refl
+  by-first false false true = refl
+  by-first false false false = refl
+
+  -- A model's camera is made of as many numbers as the model has: the first.
+  pub camera-first : (model : ℕ) → numbers.camera-of model n ≡ numbers.camera-of model (numbers.at (numbers.first-of (numbers.count model) n))
+  camera-first model = by-first (eqb model 0) (eqb model 1) (eqb model 2)
 
   -- The parameters of the camera of a model and numbers are the numbers, in order, as many as the model has.
   pub parameters-are : (model : ℕ) → parameters (numbers.camera-of model n) ≡ numbers.first-of (numbers.count model) n
@@ -229,6 +260,16 @@ pub dx-answered :
 dx-answered camera point = (
   jacobian-own (judged camera (point .0) (point .1)) (all-finite (slopes camera point .entries)) (slopes camera point),
   jacobian-own (judged-params camera (point .0) (point .1)) (all-finite (parameter-slopes camera point .entries)) (parameter-slopes camera point),
+)
+
+-- A derivative that tells 0 has finite numbers only.
+pub jacobians-finite :
+    (camera : Camera) (point : Point) →
+    (dx-distort-x camera point .number ≡ 0 → all-finite (dx-distort-x camera point .jacobian .entries) ≡ true)
+    × (dx-distort-params camera point .number ≡ 0 → all-finite (dx-distort-params camera point .jacobian .entries) ≡ true)
+jacobians-finite camera point = (
+  jacobian-finite (judged camera (point .0) (point .1)) (slopes camera point),
+  jacobian-finite (judged-params camera (point .0) (point .1)) (parameter-slopes camera point),
 )
 
 -- ---- updates and flag

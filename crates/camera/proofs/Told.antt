@@ -128,6 +128,15 @@ jacobian-own (Judged.Refused r) f j e = absurd (none r e)
 jacobian-own Judged.Taken true j e = refl
 jacobian-own Judged.Taken false j e = absurd (none AnswerNotFinite e)
 
+-- a Jacobian that is given is finite
+pub jacobian-finite : (v : Judgement) (j : Jacobian) → slope-number (decided v refused (finite-jacobian j)) ≡ 0 → all-finite (decided v refused (finite-jacobian j) .jacobian .entries) ≡ true
+jacobian-finite (Judged.Refused r) j e = absurd (none r e)
+jacobian-finite Judged.Taken j e = go (all-finite (j .entries)) refl e
+  where
+    go : (f : Bool) → all-finite (j .entries) ≡ f → slope-number (cond f record { number = 0; jacobian = j } (refused AnswerNotFinite)) ≡ 0 → all-finite (cond f record { number = 0; jacobian = j } (refused AnswerNotFinite) .jacobian .entries) ≡ true
+    go true g e = g
+    go false g e = absurd (none AnswerNotFinite e)
+
 -- ---- updates and flag
 
 -- no more than the model made

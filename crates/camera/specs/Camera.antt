@@ -57,6 +57,11 @@ judged camera x y =
     (cond (zero-focal camera) (Refused ZeroFocalLength) Taken)
     (Refused NotFinite)
 
+-- the same where the parameters are known to be finite
+abbrev pub placed : Camera → Float → Float → Judgement
+placed camera x y =
+    cond (finite x && finite y) (cond (zero-focal camera) (Refused ZeroFocalLength) Taken) (Refused NotFinite)
+
 -- ---- distort: the model's pixel, or 11
 
 abbrev pub pixel-of : Camera → Point → Pixel
@@ -123,9 +128,12 @@ slopes (EnhancedUnified p) point = eucm.dx-distort-x p point
 slopes (KannalaBrandt p) point = kb.dx-distort-x arctangent p point
 slopes (BrownConrady p) point = bc.dx-distort-x p point
 
+abbrev pub dx-distort-x-judged : Camera → Point → Differentiated
+dx-distort-x-judged camera point = finite-jacobian (slopes camera point)
+
 abbrev pub dx-distort-x : Camera → Point → Differentiated
 dx-distort-x camera point =
-    decided (judged camera (point .0) (point .1)) refused (finite-jacobian (slopes camera point))
+    decided (judged camera (point .0) (point .1)) refused (dx-distort-x-judged camera point)
 
 -- bc's parameter Jacobian is refused before all else
 abbrev pub judged-params : Camera → Float → Float → Judgement
@@ -140,6 +148,9 @@ parameter-slopes (EnhancedUnified p) point = eucm.dx-distort-params p point
 parameter-slopes (KannalaBrandt p) point = kb.dx-distort-params arctangent p point
 parameter-slopes (BrownConrady p) point = twoRows [] []
 
+abbrev pub dx-distort-params-judged : Camera → Point → Differentiated
+dx-distort-params-judged camera point = finite-jacobian (parameter-slopes camera point)
+
 abbrev pub dx-distort-params : Camera → Point → Differentiated
 dx-distort-params camera point =
-    decided (judged-params camera (point .0) (point .1)) refused (finite-jacobian (parameter-slopes camera point))
+    decided (judged-params camera (point .0) (point .1)) refused (dx-distort-params-judged camera point)

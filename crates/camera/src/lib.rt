@@ -5,7 +5,7 @@ ghost use mathlib.Core.Path.{_≡_};
 ghost use Rattle.lens.specs.Distorted.{told-pixel};
 ghost use Rattle.lens.specs.Finite.{all-finite};
 ghost use Rattle.lens.specs.Undistorted.{told};
-ghost use Rattle.camera.specs.Camera.{parameters, either-zero, zero-focal, judged, pixel-of, distort-judged, distort, point-of, finite-point, undistort-judged, undistort, limit, refused, finite-jacobian, slopes, dx-distort-x, judged-params, parameter-slopes, dx-distort-params};
+ghost use Rattle.camera.specs.Camera.{parameters, either-zero, zero-focal, placed, judged, pixel-of, distort-judged, distort, point-of, finite-point, undistort-judged, undistort, limit, refused, finite-jacobian, slopes, dx-distort-x-judged, dx-distort-x, judged-params, parameter-slopes, dx-distort-params-judged, dx-distort-params};
 use affine::AffineParams;
 use brown_conrady::BrownConradyParams;
 use enhanced_unified::EnhancedUnifiedParams;
@@ -83,16 +83,27 @@ pub fn zero_focal(camera: Camera) -> bool
     }
 }
 
-// 4 and then 5, before anything is worked out.
-fn judged(camera: Camera, x: f64, y: f64) -> Judgement
-    ensures { λ r. ⌜ r ≡ judged camera x y ⌝ }
+// 4 of the point or pixel (x, y) alone, and then 5: for who knows that the parameters are finite.
+pub fn placed(camera: Camera, x: f64, y: f64) -> Judgement
+    ensures { λ r. ⌜ r ≡ placed camera x y ⌝ }
 {
-    if finite_parameters(camera) && lens::both_finite(x, y) {
+    if lens::both_finite(x, y) {
         if zero_focal(camera) {
             Judgement::Refused(Refusal::ZeroFocalLength)
         } else {
             Judgement::Taken
         }
+    } else {
+        Judgement::Refused(Refusal::NotFinite)
+    }
+}
+
+// 4 and then 5, before anything is worked out.
+fn judged(camera: Camera, x: f64, y: f64) -> Judgement
+    ensures { λ r. ⌜ r ≡ judged camera x y ⌝ }
+{
+    if finite_parameters(camera) {
+        placed(camera, x, y)
     } else {
         Judgement::Refused(Refusal::NotFinite)
     }
@@ -184,7 +195,7 @@ pub fn limit(camera: Camera) -> u32
 }
 
 // A refusal in the derivatives' form.
-fn refused(refusal: Refusal) -> Differentiated
+pub fn refused(refusal: Refusal) -> Differentiated
     ensures { λ r. ⌜ r ≡ refused refusal ⌝ }
 {
     Differentiated {
@@ -218,6 +229,13 @@ fn slopes(camera: Camera, point: Point) -> Jacobian
     }
 }
 
+// The derivative of distort by the point, for a camera and a point that 4 and 5 do not refuse.
+pub fn dx_distort_x_judged(camera: Camera, point: Point) -> Differentiated
+    ensures { λ r. ⌜ r ≡ dx-distort-x-judged camera point ⌝ }
+{
+    finite_jacobian(slopes(camera, point))
+}
+
 // The derivative of distort by the point.
 pub fn dx_distort_x(camera: Camera, point: Point) -> Differentiated
     ensures { λ r. ⌜ r ≡ dx-distort-x camera point ⌝ }
@@ -248,6 +266,13 @@ fn parameter_slopes(camera: Camera, point: Point) -> Jacobian
         Camera::KannalaBrandt(p) => kannala_brandt::dx_distort_params(p, point),
         Camera::BrownConrady(_) => lens::two_rows(&[], &[]),
     }
+}
+
+// The derivative of distort by the camera's parameters, where 2, 4 and 5 do not refuse.
+pub fn dx_distort_params_judged(camera: Camera, point: Point) -> Differentiated
+    ensures { λ r. ⌜ r ≡ dx-distort-params-judged camera point ⌝ }
+{
+    finite_jacobian(parameter_slopes(camera, point))
 }
 
 // The derivative of distort by the camera's parameters.

@@ -99,61 +99,85 @@ pub fn twelve(camera: Camera) -> [f64; MOST]
     ensures { λ r. ⌜ r ≡ twelve camera ⌝ }
 {
     match camera {
-        Camera::Affine(p) => [
-            p.fx,
-            p.fy,
-            p.cx,
-            p.cy,
-            0.0,
-            0.0,
-            0.0,
-            0.0,
-            0.0,
-            0.0,
-            0.0,
-            0.0,
-        ],
-        Camera::EnhancedUnified(p) => [
-            p.fx,
-            p.fy,
-            p.cx,
-            p.cy,
-            p.alpha,
-            p.beta,
-            0.0,
-            0.0,
-            0.0,
-            0.0,
-            0.0,
-            0.0,
-        ],
-        Camera::KannalaBrandt(p) => [
-            p.fx,
-            p.fy,
-            p.cx,
-            p.cy,
-            p.k0,
-            p.k1,
-            p.k2,
-            p.k3,
-            0.0,
-            0.0,
-            0.0,
-            0.0,
-        ],
-        Camera::BrownConrady(p) => [
-            p.fx,
-            p.fy,
-            p.cx,
-            p.cy,
-            p.k1,
-            p.k2,
-            p.p1,
-            p.p2,
-            p.k3,
-            p.k4,
-            p.k5,
-            p.k6,
-        ],
+        Camera::Affine(p) => of_affine(p),
+        Camera::EnhancedUnified(p) => of_enhanced_unified(p),
+        Camera::KannalaBrandt(p) => of_kannala_brandt(p),
+        Camera::BrownConrady(p) => of_brown_conrady(p),
     }
+}
+
+fn of_affine(p: AffineParams) -> [f64; MOST]
+    ensures { λ r. ⌜ r ≡ twelve (Camera.Affine p) ⌝ }
+{
+    [
+        p.fx,
+        p.fy,
+        p.cx,
+        p.cy,
+        0.0,
+        0.0,
+        0.0,
+        0.0,
+        0.0,
+        0.0,
+        0.0,
+        0.0,
+    ]
+}
+
+fn of_enhanced_unified(p: EnhancedUnifiedParams) -> [f64; MOST]
+    ensures { λ r. ⌜ r ≡ twelve (Camera.EnhancedUnified p) ⌝ }
+{
+    [
+        p.fx,
+        p.fy,
+        p.cx,
+        p.cy,
+        p.alpha,
+        p.beta,
+        0.0,
+        0.0,
+        0.0,
+        0.0,
+        0.0,
+        0.0,
+    ]
+}
+
+fn of_kannala_brandt(p: KannalaBrandtParams) -> [f64; MOST]
+    ensures { λ r. ⌜ r ≡ twelve (Camera.KannalaBrandt p) ⌝ }
+{
+    [
+        p.fx,
+        p.fy,
+        p.cx,
+        p.cy,
+        p.k0,
+        p.k1,
+        p.k2,
+        p.k3,
+        0.0,
+        0.0,
+        0.0,
+        0.0,
+    ]
+}
+
+fn of_brown_conrady(p: BrownConradyParams) -> [f64; MOST]
+    ensures { λ r. ⌜ r ≡ twelve (Camera.BrownConrady p) ⌝ }
+{
+    [
+        p.fx,
+        p.fy,
+        p.cx,
+        p.cy,
+        p.k1,
+        p.k2,
+        p.p1,
+        p.p2,
+        p.k3,
+        p.k4,
+        p.k5,
+        p.k6,
+    ]
 }

@@ -1,14 +1,17 @@
 -- What is asked for, case by case. Assumes nothing.
-use mathlib.Core.Path.{_≡_, ap, _∙_}
-use mathlib.Core.Bool.{Bool, cond}
+use mathlib.Core.Path.{_≡_, refl, ap, _∙_}
+use mathlib.Core.Bool.{Bool, true, false, cond}
 use mathlib.Core.List.{List}
 use Prim.Native.Nat.{ℕ, _*_, _≤_, _<_}
 use borrow.Author.Tests.{le-leb, lt-leb, eq-eqb, ne-eqb}
-use lib.Dec.{eqb}
+use lib.Dec.{eqb, leb}
 use lib.ListN.{length}
+use Rattle.lens.specs.Judgement.{decided}
+use Rattle.lens.specs.declared.Judgement.the-variants as Judged
 use Rattle.lens.specs.declared.Refusal.the-variants.{UnknownModel, WrongCount}
 use Rattle.camera.specs.Numbers.{count}
-use Rattle.camera_bytes.specs.Reading.{camera-of, read}
+use Rattle.camera.specs.declared.Camera.{Camera}
+use Rattle.camera_bytes.specs.Reading.{camera-of, judged, read}
 use Rattle.camera_bytes.specs.declared.Asked.{Asked}
 use Rattle.camera_bytes.specs.declared.Asked.the-variants.{Of, Refused}
 
@@ -32,3 +35,16 @@ module _ (model : ℕ) (p : List ℕ) where
   pub read-unknown : 3 < model → read model p ≡ Refused UnknownModel
   unfolding read
   read-unknown h = ap (λ (b : Bool). known b (counted (eqb (length p) (8 * count model)))) (lt-leb model 3 h)
+
+  by-tests :
+      (a b : Bool) (c : Camera) →
+      cond a (cond b (Of c) (Refused WrongCount)) (Refused UnknownModel)
+      ≡ decided (cond a (cond b Judged.Taken (Judged.Refused WrongCount)) (Judged.Refused UnknownModel)) Refused (Of c)
+  by-tests true true c = refl
+  by-tests true false c = refl
+  by-tests false b c = refl
+
+  -- what is asked for is the camera, where 1 and 3 do not refuse
+  pub read-judged : read model p ≡ decided (judged model p) Refused (Of (camera-of model p))
+  unfolding read judged
+  read-judged = by-tests (leb model 3) (eqb (length p) (8 * count model)) (camera-of model p)

@@ -1,20 +1,33 @@
 -- `camera::numbers::twelve` meets its contract. Assumes nothing.
-use mathlib.Core.Path.{refl}
 use borrow.Author.Needs.{needs}
 use Rattle.camera.proofs.numbers.twelve.Statement.{statement}
 use Rattle.camera.proofs.numbers.twelve.Tie as tie
 
 returns : tie.Need-returns
-returns c = rw (c .before .camera .given .1) refl
+returns c = rw (c .before .before .camera .given .1) (c .of-affine .ensures)
 
 returns-2 : tie.Need-returns-2
-returns-2 c = rw (c .before .camera2 .given .1) refl
+returns-2 c = rw (c .before .before .camera2 .given .1) (c .of-enhanced-unified .ensures)
 
 returns-3 : tie.Need-returns-3
-returns-3 c = rw (c .before .camera3 .given .1) refl
+returns-3 c = rw (c .before .before .camera3 .given .1) (c .of-kannala-brandt .ensures)
 
 returns-4 : tie.Need-returns-4
-returns-4 c = rw (c .before .camera4 .given .1) refl
+returns-4 c = rw (c .before .before .camera4 .given .1) (c .of-brown-conrady .ensures)
 
 pub twelve-spec : {M : Type 1} → statement M
-twelve-spec = tie.close (tie.spec (λ c. search needs) (λ c. search needs) (λ c. search needs) (λ c. search needs) returns returns-2 returns-3 returns-4)
+twelve-spec =
+    tie.close
+    (tie.spec
+    (λ c. search needs)
+    (λ c κs. search needs)
+    (λ c. search needs)
+    (λ c κs. search needs)
+    (λ c. search needs)
+    (λ c κs. search needs)
+    (λ c. search needs)
+    (λ c κs. search needs)
+    returns
+    returns-2
+    returns-3
+    returns-4)

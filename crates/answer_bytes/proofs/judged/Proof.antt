@@ -1,0 +1,15 @@
+-- `answer_bytes::judged` meets its contract. Assumes nothing.
+use mathlib.Core.Path.{sym, _∙_}
+use Rattle.camera.proofs.Known.{judged-finite, judged-not}
+use borrow.Author.Needs.{needs}
+use Rattle.answer_bytes.proofs.judged.Statement.{statement}
+use Rattle.answer_bytes.proofs.judged.Tie as tie
+
+returns : tie.Need-returns
+returns c = c .placed .ensures ∙ sym (judged-finite (c .before .before .args .camera) (c .before .before .args .x) (c .before .before .args .y) (sym (c .before .before .pre) ∙ c .before .if1 .taken))
+
+returns-2 : tie.Need-returns-2
+returns-2 c = sym (judged-not (c .before .args .camera) (c .before .args .x) (c .before .args .y) (sym (c .before .pre) ∙ c .if1 .left))
+
+pub judged-spec : {M : Type 1} → statement M
+judged-spec = tie.close (tie.spec (λ c κs. search needs) returns returns-2)
