@@ -66,8 +66,6 @@ class Limit:
 # Each loop, how often it can be passed, and why. `has` holds the limit as it stands in the instructions where there is one, so that
 # another limit, or another loop in its place, is noticed.
 LOOPS = [
-    Limit("arctan::tangent", [r"call arctan::forward"], passes=53,
-          why="arctan::found halves the width from 2^53 while it is above 1, an arctangent a pass (specs: found digits, digits = 53)"),
     Limit("camera::undistort_judged", [r"cmp \$0x15,", r"divsd"], passes=20, first=True,
           why="kannala_brandt::newton, LIMIT = 20 (specs: newton, limit); the updates are counted from 1, and 21 ends it"),
     Limit("camera::undistort_judged", [r"cmp \$0x32,", r"divpd|divsd"], passes=50,
@@ -80,16 +78,16 @@ LOOPS = [
           why="observation_bytes: a pass for each record, tested behind the pass, which is skipped for a list of none"),
 ]
 
-# For the merge of little_endian's reading at once, whose `last` has a loop that the compiler makes two of, four bytes a pass and one. Fewer
-# than eight bytes are left there. Every C function but lens_lookup has tested all lengths before it reads a number:
-# PARTS = ["region_bytes::box_at", "camera_bytes::camera_of", "lens_observe"]
-# TESTED = ["lens_distort", "lens_undistort", "lens_dx_distort_x", "lens_dx_distort_params", "lens_job_new", "lens_turn", "lens_observe"]
-# LOOPS += [
-#     Limit(PARTS, [r"shl \$0x10,", "movzbl"], many=True, passes=1, never=TESTED,
-#           why="little_endian::last, four bytes a pass: fewer than eight are left (its requires); entered only by lens_lookup"),
-#     Limit(PARTS, [r"shl \$0x8,", "movzbl"], lacks=[r"shl \$0x10,", "call"], many=True, passes=3, never=TESTED,
-#           why="the same, the bytes that four passes leave"),
-# ]
+# little_endian's `last` has a loop that the compiler makes two of, four bytes a pass and one. Fewer than eight bytes are left there. Every C
+# function but lens_lookup has tested all lengths before it reads a number.
+PARTS = ["region_bytes::box_at", "camera_bytes::camera_of", "lens_observe"]
+TESTED = ["lens_distort", "lens_undistort", "lens_dx_distort_x", "lens_dx_distort_params", "lens_job_new", "lens_turn", "lens_observe"]
+LOOPS += [
+    Limit(PARTS, [r"shl \$0x10,", "movzbl"], many=True, passes=1, never=TESTED,
+          why="little_endian::last, four bytes a pass: fewer than eight are left (its requires); entered only by lens_lookup"),
+    Limit(PARTS, [r"shl \$0x8,", "movzbl"], lacks=[r"shl \$0x10,", "call"], many=True, passes=3, never=TESTED,
+          why="the same, the bytes that four passes leave"),
+]
 
 # Functions with one jump table, which is over the model, and what tells its entries apart. PARAMETERS: each takes longer than the one
 # before, having more parameters. CALLS: affine and bc call neither root nor arctangent nor tangent, eucm the root alone, kb both; and bc

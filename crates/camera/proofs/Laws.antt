@@ -143,7 +143,9 @@ module _ (n : ℕ → Float) where
   by-first :
       (a b c : Bool) →
       cond a (numbers.affine n) (cond b (numbers.enhanced-unified n) (cond c (numbers.kannala-brandt n) (numbers.brown-conrady n)))
-      ≡ cond a (numbers.affine (first-only a b c)) (cond b (numbers.enhanced-unified (first-only a b c)) (cond c (numbers.kannala-brandt (first-only a b c)) (numbers.brown-conrady (first-only a b c))))
+      ≡ cond a (numbers.affine (first-only a b c))
+      (cond b (numbers.enhanced-unified (first-only a b c))
+      (cond c (numbers.kannala-brandt (first-only a b c)) (numbers.brown-conrady (first-only a b c))))
   by-first true b c = refl
   by-first false true c = refl
   by-first false false true = refl

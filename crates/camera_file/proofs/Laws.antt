@@ -46,15 +46,21 @@ read-written text file e = taken text file (is-file text) refl e
 
 -- ---- the refusals
 
-by-count : (t : Bool) (camera : Camera) (width height : ℕ) → told-file (cond t (Asked camera width height) (Refused refusals.WrongCount)) .number ≡ cond (not t) 3 0
+by-count :
+    (t : Bool) (camera : Camera) (width height : ℕ)
+    → told-file (cond t (Asked camera width height) (Refused refusals.WrongCount)) .number ≡ cond (not t) 3 0
 by-count true camera width height = refl
 by-count false camera width height = refl
 
-asked-number : (m : Named) (width height : ℕ) (params : List ℕ) → told-file (asked-of m width height params) .number ≡ cond (is-unknown m) 1 (cond (wrong-count m (length params)) 3 0)
+asked-number :
+    (m : Named) (width height : ℕ) (params : List ℕ)
+    → told-file (asked-of m width height params) .number ≡ cond (is-unknown m) 1 (cond (wrong-count m (length params)) 3 0)
 asked-number (Known m) width height params = by-count (eqb (length params) (count m)) (camera-of m params) width height
 asked-number Unknown width height params = refl
 
-by-form : (t : Bool) (file : CameraFile) {n : ℕ} → told-file (asked file) .number ≡ n → told-file (asked-if (cond t (some file) none)) .number ≡ cond (not t) 14 n
+by-form :
+    (t : Bool) (file : CameraFile) {n : ℕ}
+    → told-file (asked file) .number ≡ n → told-file (asked-if (cond t (some file) none)) .number ≡ cond (not t) 14 n
 by-form true file e = e
 by-form false file e = refl
 

@@ -152,7 +152,8 @@ module _
         let whole = subst (Built p table (total allowances)) (e ∙ sym f) (c (total allowances)) in
         let b = built-in-turns camera width height table allowances last calls in
         let mine = subst (λ (A : ℕ). Built p table A (held-state last)) (build-allowed allowances last calls) (b .built) in
-        same-held last (handed-back (answer (fresh-job camera width height) (turn (next p) enough (fresh table)))) (b .same-camera) (b .same-width) (b .same-height)
+        same-held last (handed-back (answer (fresh-job camera width height) (turn (next p) enough (fresh table))))
+        (b .same-camera) (b .same-width) (b .same-height)
         (built-same p table (total allowances) (total allowances) (held-state last) once mine whole refl)
         ∙ sym (ap handed-back at-once-is)
 

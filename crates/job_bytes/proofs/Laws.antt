@@ -120,7 +120,8 @@ pub fresh-read :
     × (record-read (fresh-bytes model params width height lent .answer) ≡ Of (fresh-job (camera-of model params) width height))
 fresh-read model params width height lent z =
     let says = fresh-zero model params width height lent z in
-    let w : Writable (fresh-job (camera-of model params) width height) = fresh-writable model params width height (opened (camera-of model params) width height nowhere (says .1) .size) in
+    let s = opened (camera-of model params) width height nowhere (says .1) .size in
+    let w : Writable (fresh-job (camera-of model params) width height) = fresh-writable model params width height s in
     (says .0, w, ap record-read (says .0) ∙ written-read (fresh-job (camera-of model params) width height) w)
 
 -- There camera and size are taken.

@@ -65,7 +65,8 @@ job-at bs = record {
   at = record { done = word bs 112; edges = box-at bs 120; region = box-at bs 152; updates = half bs 4 };
 }
 
--- 7 for bytes of another length, which have no places to read at; then 1. The turn judges the check word, after all else
+-- 7 for bytes of another length, which have no places to read at; then 1. The turn judges the check word, after all
+-- else
 unfoldable pub record-read : List ℕ → Found
 record-read bs =
     cond (eqb (length bs) record-length)

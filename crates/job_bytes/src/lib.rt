@@ -159,8 +159,8 @@ fn put_body(job: Job, out: &mut [u8])
     region_bytes::put_box(region, 152, out);
 }
 
-// Writes a record at the buffer's start, if all of it fits. Else the buffer is left as it is. The sum is taken of a slice
-// whose length the compiler knows, so that it tests none of the words' places.
+// Writes a record at the buffer's start, if all of it fits. Else the buffer is left as it is. The sum is taken of a
+// slice whose length the compiler knows, so that it tests none of the words' places.
 pub fn write(job: Job, out: &mut [u8])
     ensures { λ _. ⌜ now (out .exit) ≡ put 0 (record-bytes job) (now (out .entry)) ⌝ }
 {
@@ -203,7 +203,8 @@ fn give_started(started: Started, out: &mut [u8]) -> u8
 
 // The bytes of a fresh record: 1, 3, 4, 5, 6, 7, or 0 and all 192 of them.
 pub fn fresh(model: u8, params: &[u8], width: u32, height: u32, out: &mut [u8]) -> u8
-    ensures { λ r. ⌜ given r (now (out .exit)) ≡ fresh-bytes model (now (params .entry)) width height (now (out .entry)) ⌝ }
+    ensures { λ r. ⌜ given r (now (out .exit)) ≡
+        fresh-bytes model (now (params .entry)) width height (now (out .entry)) ⌝ }
 {
     let started = started(
         camera_bytes::read(model, params),

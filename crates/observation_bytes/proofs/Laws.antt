@@ -39,7 +39,9 @@ module _ (camera : Camera) where
   record-made : (i n : ℕ) (bs : List ℕ) → i < n → 40 * n ≤ length bs → take 40 (drop (40 * i) (each (made find) n bs)) ≡ made find (take 40 (drop (40 * i) bs))
   unfolding each
   record-made i zero bs h room = absurd (omega (arith, h))
-  record-made zero (suc n) bs h room = take-at (made find (take 40 bs)) (each (made find) n (drop 40 bs)) 40 (made-length find (take 40 bs) (length-take-le 40 bs (omega (arith, room))))
+  record-made zero (suc n) bs h room =
+      take-at (made find (take 40 bs)) (each (made find) n (drop 40 bs)) 40
+      (made-length find (take 40 bs) (length-take-le 40 bs (omega (arith, room))))
   record-made (suc i) (suc n) bs h room =
       let p = made find (take 40 bs) in
       let q = each (made find) n (drop 40 bs) in
@@ -52,7 +54,9 @@ module _ (camera : Camera) where
       ∙ ap (λ (l : List ℕ). made find (take 40 l)) (drop-drop (40 * i) 40 bs ∙ ap (λ (k : ℕ). drop k bs) there)
 
   -- Each record is observed by itself: the one at place i from the one that was there, and no other.
-  pub record-at : (i n : ℕ) (bs : List ℕ) → i < n → 40 * n ≤ length bs → take 40 (drop (40 * i) (each (observed-bytes camera) n bs)) ≡ observed-bytes camera (take 40 (drop (40 * i) bs))
+  pub record-at :
+      (i n : ℕ) (bs : List ℕ) → i < n → 40 * n ≤ length bs
+      → take 40 (drop (40 * i) (each (observed-bytes camera) n bs)) ≡ observed-bytes camera (take 40 (drop (40 * i) bs))
   unfolding observed-bytes
   record-at = record-made
 

@@ -53,12 +53,14 @@ abbrev pub all-observed : Asked → List ℕ → List ℕ
 all-observed (Of camera) list = each (observed-bytes camera) (length list / 40) list
 all-observed (Refused r) list = list
 
--- 7 for bytes that are not of whole records, and the lowest refusal is told; with 0 every record is observed, else the list is as it was
+-- 7 for bytes that are not of whole records, and the lowest refusal is told; with 0 every record is observed, else the
+-- list is as it was
 abbrev pub told-code : Asked → List ℕ → ℕ
 told-code asked list = code (own asked) (eqb (length list % 40) 0)
 
 abbrev pub observed-by : Asked → List ℕ → Given
-observed-by asked list = given (told-code asked list) (cond (eqb (told-code asked list) 0) (all-observed asked list) list)
+observed-by asked list =
+    given (told-code asked list) (cond (eqb (told-code asked list) 0) (all-observed asked list) list)
 
 unfoldable pub observe-bytes : ℕ → List ℕ → List ℕ → Given
 observe-bytes model params list = observed-by (read model params) list

@@ -1,5 +1,6 @@
 // The plan of a table: what its units are and what a build of it owes, for any border, any sampler and any kind of
-// cell. Nothing runs here: specs/ and proofs/ say it, and the code that builds a table hands this struct from turn to turn.
+// cell. Nothing runs here: specs/ and proofs/ say it, and the code that builds a table hands this struct from turn to
+// turn.
 use region::Region;
 
 // How far a build has come: the units done, the edges of the points found so far, the region once it is worked out, and

@@ -1,4 +1,5 @@
-// A box as 32 bytes: left, top, right and bottom, one f64 after the other. A job has two, a lookup from C is handed one.
+// A box as 32 bytes: left, top, right and bottom, one f64 after the other. A job has two, a lookup from C is handed
+// one.
 ghost use mathlib.Core.Path.{_≡_};
 ghost use Rattle.little_endian.specs.Bytes.{floats, put};
 ghost use Rattle.region.specs.Region.{four};

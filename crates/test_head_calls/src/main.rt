@@ -1,21 +1,24 @@
-// Calls the functions that a camera head calls, lens_job_new, lens_turn, lens_observe and lens_lookup, each call a line of the input.
-// The gate runs this on the file stdin and holds what it writes to the file stdout; tools/make_head_calls.py makes both.
+// Calls the functions that a camera head calls, lens_job_new, lens_turn, lens_observe and lens_lookup, each call a line
+// of the input. The gate runs this on the file stdin and holds what it writes to the file stdout;
+// tools/make_head_calls.py makes both.
 //
-// Three buffers last from line to line: one to read from (parameters or a region), one to lend (a job or a list), and a table. An
-// answer is written into bytes that are all a5 before the call. A line has 12 fields with tabs between, each of 16 lower-case
-// hexadecimal digits. The first says what is done:
+// Three buffers last from line to line: one to read from (parameters or a region), one to lend (a job or a list), and a
+// table. An answer is written into bytes that are all a5 before the call. A line has 12 fields with tabs between, each
+// of 16 lower-case hexadecimal digits. The first says what is done:
 //
 //   0  every byte becomes a5, every number of the table 12345
-//   1  words are put, eight bytes each, into the buffer to read from; 2: into the one to lend; 3: f64s that are f32s, into the table.
-//      Then the place of the first, how many (at most 8), and 8 words
-//   4  lens_job_new    5  lens_turn    6  lens_observe    7  lens_lookup    8  lens_turn with each bit lent flipped in turn
-//      Then 1 if the bytes lent and the table that come back are to stay, 0 if all is to be as before the call; the model; how much is
-//      handed over: bytes to read, bytes lent, bytes for the answer, numbers of the table; width; height; x; y; the allowance
+//   1  words are put, eight bytes each, into the buffer to read from; 2: into the one to lend; 3: f64s that are f32s,
+//      into the table. Then the place of the first, how many (at most 8), and 8 words
+//   4  lens_job_new    5  lens_turn    6  lens_observe    7  lens_lookup
+//   8  lens_turn with each bit lent flipped in turn
+//      Then 1 if the bytes lent and the table that come back are to stay, 0 if all is to be as before the call; the
+//      model; how much is handed over: bytes to read, bytes lent, bytes for the answer, numbers of the table; width;
+//      height; x; y; the allowance
 //
-// A call is answered by a line: what is returned, and each buffer that the call may write, as it is after the call, or `kept` if
-// it is bit for bit as it was. For 8 that is a line for each bit of the bytes lent, from the lowest of the first byte on: one turn
-// with that bit flipped and no other; and then a line with how many there were. A line that starts with # is a heading, written as
-// it is; any other is answered by `bad`.
+// A call is answered by a line: what is returned, and each buffer that the call may write, as it is after the call, or
+// `kept` if it is bit for bit as it was. For 8 that is a line for each bit of the bytes lent, from the lowest of the
+// first byte on: one turn with that bit flipped and no other; and then a line with how many there were. A line that
+// starts with # is a heading, written as it is; any other is answered by `bad`.
 use libc::STDIN_FILENO;
 use libc::STDOUT_FILENO;
 ghost use Prim.Native.Nat.{_≤_, _<_};
@@ -355,8 +358,8 @@ fn answer_next(read: &mut [u8; BYTES], lent: &mut [u8; BYTES], table: &mut [f32;
     true
 }
 
-// Answers each line of the input in turn, and gives how many there are. Nothing says that an input ends, so the count has an end of
-// its own, which no run comes to.
+// Answers each line of the input in turn, and gives how many there are. Nothing says that an input ends, so the count
+// has an end of its own, which no run comes to.
 fn answer_all() -> u64 {
     let mut read = [FILL; BYTES];
     let mut lent = [FILL; BYTES];

@@ -77,7 +77,8 @@ module _ (bs : List ℕ) (cells : List Float) (allowance : ℕ) (lent : List ℕ
       go true e =
           let z : before ≡ 0 = eqb-true before 0 e in
           subst Told (sym (ap (λ (h : Handed). h .code) (taken-written z)))
-          (by-each Told (0 ∷ unit-numbers) (said-number (turn-of (job-at bs) cells allowance .said)) (taken-so bs cells lent allowance z) (refl, (refl, (refl, (refl, (refl, (refl, tt)))))))
+          (by-each Told (0 ∷ unit-numbers) (said-number (turn-of (job-at bs) cells allowance .said)) (taken-so bs cells lent allowance z)
+          (refl, (refl, (refl, (refl, (refl, (refl, tt)))))))
       go false e =
           subst Told (sym (ap (λ (h : Handed). h .code) (refused-untouched (eqb-false before 0 e))))
           (by-each Told (0 ∷ call-numbers) before (before-so bs cells lent) (refl, (refl, (refl, (refl, (refl, (refl, (refl, tt))))))))
@@ -94,7 +95,8 @@ module _ (bs : List ℕ) (cells : List Float) (allowance : ℕ) (lent : List ℕ
       go true e =
           let z : before ≡ 0 = eqb-true before 0 e in
           absurd
-          (by-each Unit's (0 ∷ unit-numbers) (said-number (turn-of (job-at bs) cells allowance .said)) (taken-so bs cells lent allowance z) (false≢true, (false≢true, (false≢true, (false≢true, (false≢true, (false≢true, tt))))))
+          (by-each Unit's (0 ∷ unit-numbers) (said-number (turn-of (job-at bs) cells allowance .said)) (taken-so bs cells lent allowance z)
+          (false≢true, (false≢true, (false≢true, (false≢true, (false≢true, (false≢true, tt))))))
           (sym (ap (λ (x : Handed). one-of (x .code) call-numbers) (taken-written z)) ∙ h))
       go false e =
           let u : after ≡ handed before bs cells lent = refused-untouched (eqb-false before 0 e) in

@@ -33,7 +33,8 @@ left given = record { job = given .job; cells = given .cells }
 
 -- what it said: by the number, and where that is 0 by the answer's first word
 abbrev pub bytes-said : Handed → Said
-bytes-said given = cond (eqb (given .code) 0) (cond (eqb (word (given .answer) 0) 1) finished running) (refused (given .code))
+bytes-said given =
+    cond (eqb (given .code) 0) (cond (eqb (word (given .answer) 0) 1) finished running) (refused (given .code))
 
 -- ---- numbers
 

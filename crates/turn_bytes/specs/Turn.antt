@@ -66,7 +66,8 @@ abbrev pub four-words : ℕ → ℕ → ℕ → ℕ → List ℕ
 four-words a b c d = bytes 8 a ++ bytes 8 b ++ bytes 8 c ++ bytes 8 d
 
 abbrev pub answer-bytes : Said → Job → List ℕ
-answer-bytes said job = four-words (status-number said) (job .at .done) (all-units (job .width) (job .height)) (job .at .updates)
+answer-bytes said job =
+    four-words (status-number said) (job .at .done) (all-units (job .width) (job .height)) (job .at .updates)
 
 -- with the number of the unit that refused; 0 if none did
 abbrev pub written : Answer Float → Handed

@@ -79,7 +79,8 @@ fn give(turned: Turned, all: u64, job: &mut [u8], answer: &mut [u8]) -> u8
         (r ≡ said-number (told-status (turned .status)))
         × (now (job .exit) ≡ record-bytes (turned .job))
         × (now (answer .exit)
-        ≡ four-words (status-number (told-status (turned .status))) (turned .job .at .done) all (turned .job .at .updates))
+        ≡ four-words (status-number (told-status (turned .status))) (turned .job .at .done) all
+        (turned .job .at .updates))
         ⌝ }
 {
     let said = turned.status;
