@@ -93,7 +93,7 @@ LOOPS += [
 # before, having more parameters. CALLS: affine and bc call neither root nor arctangent nor tangent, eucm the root alone, kb both; and bc
 # takes longer than affine. To take a function out of this is always sound.
 PARAMETERS, CALLS = "parameters", "calls"
-MODEL_TABLES = {"camera::finite_parameters": PARAMETERS, "camera_bytes::camera_of": PARAMETERS, "job_bytes::write": PARAMETERS,
+MODEL_TABLES = {"camera::finite_parameters": PARAMETERS, "job_bytes::write": PARAMETERS,
                 "camera::distort_judged": CALLS, "camera::undistort_judged": CALLS, "lens_dx_distort_x": CALLS}
 
 # The functions that C has, in the header's order, and whether a model is handed in.
