@@ -270,11 +270,8 @@ pub fn judged(model: u8, params: &[u8]) -> Judgement
 pub fn read(model: u8, params: &[u8]) -> Asked
     ensures { λ r. ⌜ r ≡ read model (now (params .entry)) ⌝ }
 {
-    if model <= LAST {
-        if params.len() == 8 * camera::numbers::count(model) as usize {
-            return Asked::Of(camera_of(model, params));
-        }
-        return Asked::Refused(Refusal::WrongCount);
+    match judged(model, params) {
+        Judgement::Refused(refusal) => Asked::Refused(refusal),
+        Judgement::Taken => Asked::Of(camera_of(model, params)),
     }
-    Asked::Refused(Refusal::UnknownModel)
 }

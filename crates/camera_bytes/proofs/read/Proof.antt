@@ -1,21 +1,27 @@
 -- `camera_bytes::read` meets its contract. Assumes nothing.
 use mathlib.Core.Path.{sym, ap, _∙_}
-use Prim.Native.Nat.{ℕ, _*_}
 use denote.Ref.{now}
-use Rattle.camera_bytes.proofs.Counted.{read-camera, read-miscounted, read-unknown}
-use Rattle.camera_bytes.specs.declared.Asked.the-variants.{Of}
+use Rattle.lens.specs.Judgement.{decided}
+use Rattle.lens.specs.declared.Judgement.{Judgement}
+use Rattle.camera_bytes.specs.Reading.{camera-of}
+use Rattle.camera_bytes.specs.declared.Asked.the-variants.{Of, Refused}
+use Rattle.camera_bytes.proofs.Counted.{read-judged}
 use borrow.Author.Needs.{needs}
 use Rattle.camera_bytes.proofs.read.Statement.{statement}
 use Rattle.camera_bytes.proofs.read.Tie as tie
 
 returns : tie.Need-returns
-returns c = ap Of (c .camera-of .ensures) ∙ sym (read-camera (c .before .before .before .before .before .args .model) (now (c .before .before .before .before .before .args .params)) (c .before .before .before .if1 .taken) (c .before .if2 .taken ∙ ap (λ (k : ℕ). 8 * k) (c .before .before .count .ensures)))
+returns c =
+    let model = c .before .before .before .before .before .args .model in
+    let p = now (c .before .before .before .before .before .args .params) in
+    sym (read-judged model p ∙ ap (λ (j : Judgement). decided j Refused (Of (camera-of model p))) (sym (c .before .before .before .judged .ensures) ∙ c .before .refusal .given .1))
 
 returns-2 : tie.Need-returns-2
-returns-2 c = sym (read-miscounted (c .before .before .before .before .args .model) (now (c .before .before .before .before .args .params)) (c .before .before .if1 .taken) (λ e. c .if2 .left (e ∙ sym (ap (λ (k : ℕ). 8 * k) (c .before .count .ensures)))))
-
-returns-3 : tie.Need-returns-3
-returns-3 c = sym (read-unknown (c .before .before .args .model) (now (c .before .before .args .params)) (c .if1 .left))
+returns-2 c =
+    let model = c .before .before .before .before .before .args .model in
+    let p = now (c .before .before .before .before .before .args .params) in
+    ap Of (c .camera-of .ensures)
+    ∙ sym (read-judged model p ∙ ap (λ (j : Judgement). decided j Refused (Of (camera-of model p))) (sym (c .before .before .before .judged .ensures) ∙ c .before .enum-told .given .1))
 
 pub read-spec : {M : Type 1} → statement M
-read-spec = tie.close (tie.spec (λ c κs. search needs) (λ c. search needs) (λ c. search needs) (λ c κs. search needs) returns returns-2 returns-3)
+read-spec = tie.close (tie.spec (λ c κs. search needs) (λ c. search needs) (λ c. search needs) (λ c κs. search needs) returns returns-2)
