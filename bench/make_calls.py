@@ -61,7 +61,7 @@ def ours(model, operation):
         body = f"    let pixel = {call};\n    pixel.0 + pixel.1"
     elif operation != "undistort":
         body = f"    let jacobian = {call};\n    let e = jacobian.entries;\n    {entries(model, operation, 'e')}"
-    elif model == "kb":
+    elif model in ("eucm", "kb"):
         body = matched(call, UNDISTORTED)
     else:
         body = f"    let settled = {call};\n    settled.point.0 + settled.point.1"

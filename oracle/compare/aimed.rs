@@ -1,8 +1,8 @@
 // Points aimed at places that random ones seldom meet. Each kind of place is told by what the Rust did there, or by the rules'
 // formula, and counted: a kind that is never met is an error of the oracle.
-use crate::cases::{valid, valid_camera, wild_place, Place, Random};
+use crate::cases::{valid, valid_camera, wild_place, Place, Random, LIMIT};
 use crate::judge::{Question, Trace};
-use crate::{Oracle, LIMIT};
+use crate::Oracle;
 
 const KINDS: [&str; 12] = [
     "eucm k above 0 by at most 1e-9",

@@ -1,5 +1,7 @@
 // Random cameras and points, valid and wild.
-use crate::LIMIT;
+
+/// The largest angle that has a tangent (docs/RULES.md 6.5).
+pub const LIMIT: f64 = 99.0 / 64.0;
 
 /// splitmix64.
 pub struct Random(pub u64);

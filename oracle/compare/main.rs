@@ -13,7 +13,7 @@ mod sample;
 mod tables;
 mod turns;
 
-use cases::Random;
+use cases::{Random, LIMIT};
 use judge::{Given, Question};
 use rust_text::{ask, Platform};
 use std::fs::File;
@@ -28,8 +28,7 @@ const SHOWN: u64 = 20;
 /// Room for every refusal's number.
 const NUMBERS: usize = 17;
 
-/// The largest angle that has a tangent (docs/RULES.md 6.5), and what it was before request P7.
-const LIMIT: f64 = 99.0 / 64.0;
+/// What the largest angle that has a tangent was before request P7.
 const LIMIT_BEFORE: f64 = 1.5;
 
 /// Pixels that the second run's answers may differ by.
