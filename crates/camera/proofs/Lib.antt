@@ -1,5 +1,6 @@
 pub mod ByHand
 pub mod Fits
+pub mod Formula
 pub mod Known
 pub mod Laws
 pub mod Steep

@@ -20,9 +20,6 @@ counted-requires c κs = let s = c .before in ready-low (s .args .x) (held s) (s
 solution-requires : tie.Need-solution-requires
 solution-requires c κs = let s = c .before .before in rw (c .counted .ensures) (few-low (s .args .x) (held s) (s .pre) (so (c .before .if1 .taken)))
 
-ratio-requires : tie.Need-ratio-requires
-ratio-requires c κs = search needs
-
 returns : tie.Need-returns
 returns c =
     let d = c .before .before .before in
@@ -33,9 +30,6 @@ counted-requires-2 c κs = let s = c .before in ready-high (s .args .x) (held s)
 
 solution-requires-2 : tie.Need-solution-requires-2
 solution-requires-2 c κs = let s = c .before .before in rw (c .counted2 .ensures) (few-high (s .args .x) (held s) (s .pre) (so-not (c .before .if1 .left)))
-
-leaving-requires : tie.Need-leaving-requires
-leaving-requires c κs = search needs
 
 returns-2 : tie.Need-returns-2
 returns-2 c =
@@ -48,9 +42,9 @@ lower-spec =
     (tie.spec
     counted-requires
     solution-requires
-    ratio-requires
+    (λ c κs. search needs)
     returns
     counted-requires-2
     solution-requires-2
-    leaving-requires
+    (λ c κs. search needs)
     returns-2)

@@ -22,14 +22,4 @@ returns-3 : tie.Need-returns-3
 returns-3 c = past 4 (now (c .before .before .args .bytes)) (c .before .before .args .at) (omega (arith, c .if1 .left))
 
 pub half-spec : {M : Type 1} → statement M
-half-spec =
-    tie.close
-    (tie.spec
-    (λ c. search needs)
-    (λ c κs. search needs)
-    (λ c. search needs)
-    (λ c. search needs)
-    (λ c κs. search needs)
-    cast-result-2
-    returns-2
-    returns-3)
+half-spec = tie.close (tie.spec (λ c. search needs) (λ c κs. search needs) (λ c. search needs) (λ c. search needs) (λ c κs. search needs) cast-result-2 returns-2 returns-3)

@@ -18,15 +18,4 @@ returns-3 : tie.Need-returns-3
 returns-3 c = past 8 (now (c .before .before .args .bytes)) (c .before .before .args .at) (omega (arith, c .if1 .left))
 
 pub word-spec : {M : Type 1} → statement M
-word-spec =
-    tie.close
-    (tie.spec
-    (λ c. search needs)
-    (λ c κs. search needs)
-    (λ c. search needs)
-    (λ c κs. search needs)
-    (λ c. search needs)
-    returns
-    (λ c κs. search needs)
-    returns-2
-    returns-3)
+word-spec = tie.close (tie.spec (λ c. search needs) (λ c κs. search needs) (λ c. search needs) (λ c κs. search needs) (λ c. search needs) returns (λ c κs. search needs) returns-2 returns-3)
