@@ -25,7 +25,8 @@ use Rattle.region_bytes.specs.Box.{box-at}
 use Rattle.camera_bytes.specs.Reading as reading
 use Rattle.camera_bytes.specs.Reading.{camera-of}
 use Rattle.job.specs.declared.Job.{Job}
-use Rattle.job_bytes.specs.Bytes.{model-number, twelve, job-at, body, record-bytes}
+use Rattle.camera.specs.Numbers.{model-number, twelve}
+use Rattle.job_bytes.specs.Bytes.{job-at, body, record-bytes}
 use Rattle.job_bytes.proofs.Placing.{part₀, part₁, part₂, part₃, part₄, part₅, part₆, part₇, part₈, to₁, to₂, to₃, to₄, to₅, to₆, long₀, long₁, long₂, long₃, long₄, long₅, long₆, always-twelve}
 
 -- ---- numbers that are f64s

@@ -14,7 +14,8 @@ use Rattle.region.specs.Region.{four}
 use Rattle.job.specs.declared.Job.{Job}
 use Rattle.little_endian.specs.Bytes.{value, bytes, word, floats}
 use Rattle.little_endian.proofs.Laws.{bytes-value}
-use Rattle.job_bytes.specs.Bytes.{model-number, twelve, body, record-bytes}
+use Rattle.camera.specs.Numbers.{model-number, twelve}
+use Rattle.job_bytes.specs.Bytes.{body, record-bytes}
 use Rattle.job_bytes.specs.Check.{summed, check-place, check-start, sum-of-words, check-of, intact, RecordBytes, WordApart, ByteApart}
 use Rattle.job_bytes.proofs.Summing.{same-sum, check-behind, check-less}
 use Rattle.job_bytes.proofs.Placing.{part₀, part₁, part₂, part₃, part₄, part₅, part₆, part₇, part₈, to₁, to₂, to₃, to₄, to₅, to₆, long₇, length-record}

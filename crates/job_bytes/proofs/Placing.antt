@@ -1,22 +1,20 @@
 -- The parts of a record, put one behind the other, are the record. Assumes nothing.
-use mathlib.Core.Path.{_≡_, refl, sym, ap, ap₂, _∙_}
-use mathlib.Core.List.{List, [], _∷_, _++_, append-assoc}
-use Prim.Native.Nat.{ℕ, zero, suc, _+_, _*_, _≤_, _<_}
+use mathlib.Core.Path.{_≡_, refl, sym, ap, _∙_}
+use mathlib.Core.List.{List, _++_}
+use Prim.Native.Nat.{ℕ, _+_, _*_, _≤_, _<_}
 use native.Mathlib.Omega.{arith}
 use borrow.Author.Tests.{le-leb}
-use lib.Ieee.{Float, binary64, toBits}
-use lib.ListN.{length, take, drop, replicate, length-append, length-drop}
-use lib.Seq.{length-take-le, take-append-add, drop-nil, drop-append-le, drop-append-add}
-use Rattle.lens.specs.Constants.{zeros}
+use lib.ListN.{length, take, drop, length-append}
+use lib.Seq.{take-append-add}
 use Rattle.little_endian.specs.Bytes.{bytes, floats, put}
-use Rattle.little_endian.proofs.Laws.{length-bytes, length-floats, length-put, not-put, kept-before, put-put}
+use Rattle.little_endian.proofs.Laws.{length-bytes, length-floats, length-put, not-put, put-put}
 use Rattle.region.specs.Region.{four}
 use Rattle.region.specs.declared.Region.{Region}
-use Rattle.camera.specs.Camera.{parameters}
+use Rattle.camera.specs.Numbers.{model-number, twelve}
 use Rattle.camera.specs.declared.Camera.{Camera}
 use Rattle.camera.specs.declared.Camera.the-variants as cameras
 use Rattle.job.specs.declared.Job.{Job}
-use Rattle.job_bytes.specs.Bytes.{record-length, model-number, twelve, body, record-bytes}
+use Rattle.job_bytes.specs.Bytes.{record-length, body, record-bytes}
 use Rattle.job_bytes.specs.Check.{check-of}
 use Rattle.job_bytes.proofs.Summing.{check-behind}
 
@@ -35,80 +33,11 @@ length-twelve camera = length-floats (twelve camera) ∙ ap (λ (n : ℕ). 8 * n
 pub length-four : (r : Region) → length (floats (four r)) ≡ 32
 length-four r = length-floats (four r)
 
--- ---- a camera's numbers, over twelve zeros
-
 laid : (at : ℕ) (new bs : List ℕ) → at + length new ≤ length bs → put at new bs ≡ take at bs ++ new ++ drop (at + length new) bs
 unfolding put
 laid at new bs h = simp (le-leb (at + length new) (length bs) h)
 
--- what is put over the start of what was put
-over : (at : ℕ) (a b bs : List ℕ) → length a ≤ length b → at + length b ≤ length bs → put at a (put at b bs) ≡ put at (a ++ drop (length a) b) bs
-over at a b bs h room =
-    let p : List ℕ = take at bs in
-    let s : List ℕ = drop (at + length b) bs in
-    let n : ℕ = length a in
-    let y : List ℕ = put at b bs in
-    let lp : length p ≡ at = length-take-le at bs (omega (arith, room)) in
-    let size : length (a ++ drop n b) ≡ length b = omega (arith, length-append a (drop n b), length-drop n b, h) in
-    let end : drop (at + n) y ≡ drop n b ++ s =
-    ap (drop (at + n)) (laid at b bs room)
-    ∙ drop-append-le (at + n) (p ++ b) s (omega (arith, length-append p b, lp, h))
-    ∙ ap (λ (k : ℕ). drop (k + n) (p ++ b) ++ s) (sym lp)
-    ∙ ap (λ (l : List ℕ). l ++ s) (drop-append-add p b n) in
-    laid at a y (omega (arith, length-put at b bs, h, room))
-    ∙ ap₂ (λ (l m : List ℕ). l ++ a ++ m) (kept-before at b bs room) end
-    ∙ sym (append-assoc (p ++ a) (drop n b) s)
-    ∙ ap (λ (l : List ℕ). l ++ s) (append-assoc p a (drop n b))
-    ∙ ap (λ (k : ℕ). p ++ (a ++ drop n b) ++ drop (at + k) bs) (sym size)
-    ∙ sym (laid at (a ++ drop n b) bs (omega (arith, size, room)))
-
-floats-append : (xs ys : List Float) → floats xs ++ floats ys ≡ floats (xs ++ ys)
-unfolding floats
-floats-append [] ys = refl
-floats-append (x ∷ xs) ys =
-    append-assoc (bytes 8 (toBits binary64 x)) (floats xs) (floats ys) ∙ ap (λ (l : List ℕ). bytes 8 (toBits binary64 x) ++ l) (floats-append xs ys)
-
-floats-drop : (k : ℕ) (xs : List Float) → drop (8 * k) (floats xs) ≡ floats (drop k xs)
-unfolding floats
-floats-drop zero xs = refl
-floats-drop (suc k) [] = drop-nil (8 * suc k)
-floats-drop (suc k) (x ∷ xs) =
-    let w : List ℕ = bytes 8 (toBits binary64 x) in
-    let place : 8 * suc k ≡ length w + 8 * k = omega (arith, length-bytes 8 (toBits binary64 x)) in
-    ap (λ (j : ℕ). drop j (w ++ floats xs)) place ∙ drop-append-add w (floats xs) (8 * k) ∙ floats-drop k xs
-
-padded : (camera : Camera) → parameters camera ++ drop (length (parameters camera)) (replicate 12 zeros) ≡ twelve camera
-padded (cameras.Affine p) = refl
-padded (cameras.EnhancedUnified p) = refl
-padded (cameras.KannalaBrandt p) = refl
-padded (cameras.BrownConrady p) = refl
-
-at-most-twelve : (camera : Camera) → length (parameters camera) ≤ 12
-at-most-twelve (cameras.Affine p) = omega arith
-at-most-twelve (cameras.EnhancedUnified p) = omega arith
-at-most-twelve (cameras.KannalaBrandt p) = omega arith
-at-most-twelve (cameras.BrownConrady p) = omega arith
-
-pub over-zeros :
-    (camera : Camera) (lent x y : List ℕ) →
-    104 ≤ length lent →
-    x ≡ put 8 (floats (replicate 12 zeros)) lent →
-    y ≡ put 8 (floats (parameters camera)) x →
-    y ≡ put 8 (floats (twelve camera)) lent
-over-zeros camera lent x y room e f =
-    let own : List Float = parameters camera in
-    let blank : List Float = replicate 12 zeros in
-    let lo : length (floats own) ≡ 8 * length own = length-floats own in
-    let lb : length (floats blank) ≡ 96 = length-floats blank in
-    f
-    ∙ ap (put 8 (floats own)) e
-    ∙ over 8 (floats own) (floats blank) lent (omega (arith, lo, lb, at-most-twelve camera)) (omega (arith, lb, room))
-    ∙ ap (λ (k : ℕ). put 8 (floats own ++ drop k (floats blank)) lent) lo
-    ∙ ap (λ (l : List ℕ). put 8 (floats own ++ l) lent) (floats-drop (length own) blank)
-    ∙ ap (λ (l : List ℕ). put 8 l lent) (floats-append own (drop (length own) blank))
-    ∙ ap (λ (l : List Float). put 8 (floats l) lent) (padded camera)
-
--- room for the camera is room afterwards
+-- putting keeps the length
 pub room-kept : (at : ℕ) (new x y : List ℕ) → y ≡ put at new x → length y ≡ length x
 room-kept at new x y e = ap length e ∙ length-put at new x
 

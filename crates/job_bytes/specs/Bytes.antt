@@ -7,14 +7,10 @@ use mathlib.Core.Bool.{cond}
 use mathlib.Core.List.{List, [], _++_}
 use Prim.Native.Nat.{ℕ}
 use lib.Dec.{eqb, leb}
-use lib.Ieee.{Float}
-use lib.ListN.{length, take, drop, replicate}
-use Rattle.lens.specs.Constants.{zeros}
+use lib.ListN.{length, drop}
 use Rattle.lens.specs.declared.Refusal.the-variants.{UnknownModel, WrongLength}
 use Rattle.region.specs.Region.{four}
-use Rattle.camera.specs.Camera.{parameters}
-use Rattle.camera.specs.declared.Camera.{Camera}
-use Rattle.camera.specs.declared.Camera.the-variants as cameras
+use Rattle.camera.specs.Numbers.{model-number, twelve}
 use Rattle.little_endian.specs.Bytes.{bytes, half, word, floats}
 use Rattle.region_bytes.specs.Box.{box-at}
 use Rattle.camera_bytes.specs.Reading.{camera-of, read}
@@ -32,16 +28,6 @@ use Rattle.job_bytes.specs.declared.Found.the-variants.{Of, Refused}
 -- how many bytes a record has
 abbrev pub record-length : ℕ
 record-length = 192
-
-abbrev pub model-number : Camera → ℕ
-model-number (cameras.Affine p) = 0
-model-number (cameras.EnhancedUnified p) = 1
-model-number (cameras.KannalaBrandt p) = 2
-model-number (cameras.BrownConrady p) = 3
-
--- a model's own parameters, and zeros up to twelve
-abbrev pub twelve : Camera → List Float
-twelve camera = take 12 (parameters camera ++ replicate 12 zeros)
 
 -- ---- written
 

@@ -4,11 +4,11 @@ ghost use mathlib.Core.Path.{_≡_};
 ghost use Prim.Native.Nat.{_≤_};
 ghost use lib.ListN.{length};
 ghost use Rattle.little_endian.specs.Bytes.{half, floats, put};
-ghost use Rattle.camera.specs.Camera.{parameters};
+ghost use Rattle.camera.specs.Numbers.{model-number, twelve};
 ghost use Rattle.given.specs.Given.{given, answered};
 ghost use Rattle.job.specs.Job.{told-started};
 ghost use Rattle.job_bytes.specs.Check.{check-of, intact};
-ghost use Rattle.job_bytes.specs.Bytes.{record-length, model-number, twelve, job-at, body, record-bytes, record-read, started, give-started, fresh-bytes};
+ghost use Rattle.job_bytes.specs.Bytes.{record-length, job-at, body, record-bytes, record-read, started, give-started, fresh-bytes};
 use camera::Camera;
 use camera_bytes::Asked;
 use job::Job;
@@ -85,59 +85,14 @@ pub fn intact(bytes: &[u8]) -> bool
 fn model_number(camera: Camera) -> u64
     ensures { λ r. ⌜ r ≡ model-number camera ⌝ }
 {
-    match camera {
-        Camera::Affine(_) => 0,
-        Camera::EnhancedUnified(_) => 1,
-        Camera::KannalaBrandt(_) => 2,
-        Camera::BrownConrady(_) => 3,
-    }
+    camera::numbers::model_number(camera) as u64
 }
 
-// A model's own parameters at their place.
-fn put_parameters(camera: Camera, out: &mut [u8])
-    ensures { λ _. ⌜ now (out .exit) ≡ put 8 (floats (parameters camera)) (now (out .entry)) ⌝ }
-{
-    match camera {
-        Camera::Affine(p) => little_endian::put_floats(out, 8, &[p.fx, p.fy, p.cx, p.cy]),
-        Camera::EnhancedUnified(p) => little_endian::put_floats(
-            out,
-            8,
-            &[p.fx, p.fy, p.cx, p.cy, p.alpha, p.beta],
-        ),
-        Camera::KannalaBrandt(p) => little_endian::put_floats(
-            out,
-            8,
-            &[p.fx, p.fy, p.cx, p.cy, p.k0, p.k1, p.k2, p.k3],
-        ),
-        Camera::BrownConrady(p) => little_endian::put_floats(
-            out,
-            8,
-            &[
-                p.fx,
-                p.fy,
-                p.cx,
-                p.cy,
-                p.k1,
-                p.k2,
-                p.p1,
-                p.p2,
-                p.k3,
-                p.k4,
-                p.k5,
-                p.k6,
-            ],
-        ),
-    }
-}
-
-// Twelve zeros, and the parameters over them: so no model spells its zeros out.
 fn put_camera(camera: Camera, out: &mut [u8])
-    requires { ⌜ 104 ≤ length (now out) ⌝ }
     ensures { λ _. ⌜ now (out .exit) ≡ put 8 (floats (twelve camera)) (now (out .entry)) ⌝ }
 {
-    let zeros = [0.0; 12];
-    little_endian::put_floats(out, 8, &zeros);
-    put_parameters(camera, out);
+    let numbers = camera::numbers::twelve(camera);
+    little_endian::put_floats(out, 8, &numbers);
 }
 
 // All of a record but its check word.

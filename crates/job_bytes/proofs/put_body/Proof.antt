@@ -1,13 +1,9 @@
 -- `job_bytes::put_body` meets its contract. Assumes nothing.
-use native.Mathlib.Omega.{arith}
 use denote.Ref.{now}
 use borrow.Author.Needs.{needs}
-use Rattle.job_bytes.proofs.Placing.{room-kept, all-put}
+use Rattle.job_bytes.proofs.Placing.{all-put}
 use Rattle.job_bytes.proofs.put_body.Statement.{statement}
 use Rattle.job_bytes.proofs.put_body.Tie as tie
-
-put-camera-requires : tie.Need-put-camera-requires
-put-camera-requires c κs = omega (arith, room-kept _ _ _ _ (c .before .before .before .put2 .ensures), room-kept _ _ _ _ (c .before .before .before .before .before .before .before .before .put .ensures), c .before .before .before .before .before .before .before .before .before .before .before .before .before .before .before .pre)
 
 returns : tie.Need-returns
 returns c =
@@ -18,4 +14,4 @@ returns c =
 pub put-body-spec : {M : Type 1} → statement M
 put-body-spec =
     tie.close
-    (tie.spec (λ c κs. search needs) (λ c κs. search needs) (λ c. search needs) (λ c κs. search needs) put-camera-requires (λ c κs. search needs) (λ c κs. search needs) (λ c κs. search needs) (λ c κs. search needs) (λ c κs. search needs) (λ c. search needs) returns)
+    (tie.spec (λ c κs. search needs) (λ c κs. search needs) (λ c. search needs) (λ c κs. search needs) (λ c κs. search needs) (λ c κs. search needs) (λ c κs. search needs) (λ c κs. search needs) (λ c κs. search needs) (λ c κs. search needs) (λ c. search needs) returns)
