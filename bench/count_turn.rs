@@ -13,11 +13,13 @@ use given::{place, MODELS};
 use std::hint::black_box;
 
 extern "C" {
-    fn lens_job_new(model: u8, params: *const u8, handed: usize, width: u32, height: u32, job: *mut u8, lent: usize) -> u8;
+    fn lens_job_new(model: u8, params: *const u8, handed: usize, width: u32, height: u32, strict: u8, job: *mut u8, lent: usize) -> u8;
     fn lens_turn(job: *mut u8, job_length: usize, table: *mut f32, places: usize, allowance: u64, answer: *mut u8, lent: usize) -> u8;
 }
 
 const JOB: usize = header_number(b"#define LENS_JOB_BYTES ");
+const ANSWER: usize = header_number(b"#define LENS_TURN_BYTES ");
+const UPDATES: usize = header_number(b"#define LENS_TURN_UPDATES ");
 const SIDE: usize = 16;
 const SAMPLES: usize = 4 * SIDE + 4;
 const MOST: [u64; 4] = [0, 0, 20, 50];
@@ -49,7 +51,7 @@ const fn header_number(line: &[u8]) -> usize {
 struct Head {
     job: [u8; JOB],
     table: [f32; 2 * SIDE * SIDE],
-    answer: [u8; 32],
+    answer: [u8; ANSWER],
 }
 
 impl Head {
@@ -59,13 +61,13 @@ impl Head {
     }
     fn updates(&self) -> u64 {
         let mut eight = [0; 8];
-        eight.copy_from_slice(&self.answer[24..]);
+        eight.copy_from_slice(&self.answer[UPDATES..UPDATES + 8]);
         u64::from_le_bytes(eight)
     }
 }
 
 fn blank() -> Head {
-    Head { job: [0; JOB], table: [0.0; 2 * SIDE * SIDE], answer: [0; 32] }
+    Head { job: [0; JOB], table: [0.0; 2 * SIDE * SIDE], answer: [0; ANSWER] }
 }
 
 fn print(job: &[u8; JOB]) {
@@ -78,7 +80,8 @@ fn wanted(model: usize, cell: bool, last: bool, params: &[f64; 12], r: &mut Rand
     let mut head = blank();
     let bytes: Vec<u8> = params[..rust_text::COUNTS[model]].iter().flat_map(|x| x.to_le_bytes()).collect();
     let started = unsafe {
-        lens_job_new(model as u8, bytes.as_ptr(), bytes.len(), SIDE as u32, SIDE as u32, head.job.as_mut_ptr(), head.job.len())
+        // not strict: samples of the most updates are looked for, and some of these haven't settled
+        lens_job_new(model as u8, bytes.as_ptr(), bytes.len(), SIDE as u32, SIDE as u32, 0, head.job.as_mut_ptr(), head.job.len())
     };
     assert_ne!(started, 7, "the archive doesn't take LENS_JOB_BYTES of include/lens.h");
     let mut found = vec![];

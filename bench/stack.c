@@ -43,7 +43,7 @@ static void distort(void) { no = CALL(lens_distort)(model, bytes(), length(), 0.
 static void undistort(void) { no = CALL(lens_undistort)(model, bytes(), length(), 1, 2, answer, 24); }
 static void by_point(void) { no = CALL(lens_dx_distort_x)(model, bytes(), length(), 0.1, 0.2, answer, 200); }
 static void by_params(void) { no = CALL(lens_dx_distort_params)(model, bytes(), length(), 0.1, 0.2, answer, 200); }
-static void job_new(void) { no = CALL(lens_job_new)(model, bytes(), length(), SIDE, SIDE, job, sizeof job); }
+static void job_new(void) { no = CALL(lens_job_new)(model, bytes(), length(), SIDE, SIDE, 0, job, sizeof job); }
 static void turn(void) { no = CALL(lens_turn)(job, sizeof job, table, FLOATS, UINT64_MAX, answer, LENS_TURN_BYTES); }
 static void look_up(void) { no = CALL(lens_lookup)(table, FLOATS, job + LENS_JOB_REGION, 32, SIDE, SIDE, 0, 0, answer, 16); }
 static void observe(void) { no = CALL(lens_observe)(model, bytes(), length(), (uint8_t *)list, sizeof list); }
@@ -69,9 +69,9 @@ static const struct {
     {"lens_tangent", tangent, lens_tangent},
 };
 
-static size_t used(void (*call)(void), void *function) {
+static size_t used_of(void (*call)(void), void *function, uint8_t paint) {
     to = function;
-    memset(stack, 0xa5, sizeof stack);
+    memset(stack, paint, sizeof stack);
     getcontext(&away);
     away.uc_stack.ss_sp = stack;
     away.uc_stack.ss_size = sizeof stack;
@@ -79,9 +79,15 @@ static size_t used(void (*call)(void), void *function) {
     makecontext(&away, call, 0);
     swapcontext(&home, &away);
     size_t left = 0;
-    while (left < sizeof stack && stack[left] == 0xa5)
+    while (left < sizeof stack && stack[left] == paint)
         left++;
     return sizeof stack - left;
+}
+
+/* With two paints: the deepest byte that is written may be the one that is painted, as a return address has any byte. */
+static size_t used(void (*call)(void), void *function) {
+    size_t one = used_of(call, function, 0xa5), other = used_of(call, function, 0x5a);
+    return one > other ? one : other;
 }
 
 #define CALLS (sizeof calls / sizeof *calls)

@@ -1,7 +1,7 @@
 /* Four lens models, the table of a lens built between frames, lookup in it, lists of observations; root, arctangent and
  * tangent. Link target/staticlib/liblens_c.a, made by `rt staticlib lens_c`: archives are made for x86-64 Linux only.
  * docs/HEAD.md says how a head budgets its time and memory, docs/C.md how to build and what is proved.
- * This header is the one place where refusals and layouts are told.
+ * This header is where refusals and layouts are told in full.
  *
  * Every function takes every value and returns. None keeps anything of a call or allocates: all that lasts is in
  * buffers of the caller's, so calls of several threads at once are fine as long as none is lent a buffer that another
@@ -46,8 +46,9 @@ extern "C" {
  *   - lens_lookup judges the region's increments, 8 and then 11, before 9. So 11 may be told of a point that is also
  *     outside; of a pixel that isn't finite 11 is told only after 9.
  *   - 16 is tried before 11, of the same pixel.
- *   - lens_turn judges the call before any unit: 13 comes before the 8, 10, 11, 12 or 16 of a unit. Of a job that is not
- *     LENS_JOB_BYTES long nothing is read: 7, before all others. */
+ *   - lens_turn judges the call before any unit: 13 comes before the 8, 10, 11, 12, 16 or 18 of a unit. Of a job that
+ *     is not LENS_JOB_BYTES long nothing is read: 7, before all others.
+ *   - The last sample's 18 comes before the 8 or 11 of the region, which is worked out behind it. */
 #define LENS_OK 0
 
 #define LENS_REFUSED_UNKNOWN_MODEL 1          /* the model is none of 0 to 3 */
@@ -65,9 +66,11 @@ extern "C" {
 #define LENS_REFUSED_ANSWER_NOT_FINITE 11     /* NaN or an infinity would have to be answered, or built on: the point
                                                  of a sample or a cell, its pixel, an increment */
 #define LENS_REFUSED_CELL_INFINITE 12         /* a cell's pixel is finite, but too large for a float */
-#define LENS_REFUSED_IMPOSSIBLE_JOB 13        /* the job's check word is wrong, or no build can have come to this job */
+#define LENS_REFUSED_IMPOSSIBLE_JOB 13        /* the job's check word is wrong, no build can have come to this job, or a
+                                                 strict mark is neither 0 nor 1 */
 #define LENS_REFUSED_RAY_NOT_FORWARD 16       /* LENS_EUCM undistorts a pixel whose ray has a z of 0 or below: the point
                                                  would be mirrored, or nowhere */
+#define LENS_REFUSED_SAMPLE_UNSETTLED 18      /* a strict job met a border sample whose search didn't settle */
 
 #define LENS_ANGLE_LIMIT 1.546875 /* 99/64, which is 88.6 degrees */
 
@@ -134,7 +137,8 @@ uint8_t lens_distort(uint8_t model, const uint8_t *params, size_t params_length,
                      uint8_t *answer, size_t answer_length);
 
 /* The point of the pixel (u, v). answer_length: LENS_POINT_BYTES.
- * Returns 0, 1, 3, 4, 5, 7, 10 (LENS_KB alone), 16 (LENS_EUCM alone) or 11. A search that didn't settle is answered all the same. */
+ * Returns 0, 1, 3, 4, 5, 7, 10 (LENS_KB alone), 16 (LENS_EUCM alone) or 11. A search that didn't settle is answered all
+ * the same. */
 uint8_t lens_undistort(uint8_t model, const uint8_t *params, size_t params_length, double u, double v,
                        uint8_t *answer, size_t answer_length);
 
@@ -153,7 +157,10 @@ uint8_t lens_dx_distort_params(uint8_t model, const uint8_t *params, size_t para
  * lens_job_new writes a fresh job into bytes that the caller keeps; each lens_turn reads the job, does units of work
  * and writes it back. Hand the same job and the same table to the next turn, unaltered; both may be moved meanwhile.
  * A unit is a border sample or a cell: all samples come first, then the cells, row by row. However the units are
- * split over turns, cells and job come out the same. */
+ * split over turns, cells and job come out the same.
+ *
+ * A sample has not settled where lens_undistort of its pixel would say so (LENS_POINT_SETTLED is 0). A job counts these
+ * samples, and says which was the first. A strict job refuses at the first one, and so counts none. */
 #define LENS_SIZE_LEAST 2
 #define LENS_SIZE_MOST 4096
 
@@ -174,16 +181,19 @@ uint8_t lens_dx_distort_params(uint8_t model, const uint8_t *params, size_t para
 #define LENS_REGION_BYTES 32
 
 /* A job. */
-#define LENS_JOB_MODEL 0     /* uint32_t */
-#define LENS_JOB_UPDATES 4   /* uint32_t: the Newton updates of all samples done */
-#define LENS_JOB_PARAMS 8    /* twelve doubles: the model's parameters, then zeros, which are not read but summed */
-#define LENS_JOB_WIDTH 104   /* uint32_t */
-#define LENS_JOB_HEIGHT 108  /* uint32_t */
-#define LENS_JOB_DONE 112    /* uint64_t: units done */
-#define LENS_JOB_EDGES 120   /* the box of the points found so far, in a region's form; zeros until the first sample */
-#define LENS_JOB_REGION 152  /* the table's region; zeros until the border is done */
-#define LENS_JOB_CHECK 184   /* uint64_t: LENS_JOB_CHECK_START + the 23 words of 8 bytes before it, modulo 2^64 */
-#define LENS_JOB_BYTES 192
+#define LENS_JOB_MODEL 0       /* uint32_t */
+#define LENS_JOB_UPDATES 4     /* uint32_t: the Newton updates of all samples done */
+#define LENS_JOB_PARAMS 8      /* twelve doubles: the model's parameters, then zeros, which are not read but summed */
+#define LENS_JOB_WIDTH 104     /* uint32_t */
+#define LENS_JOB_HEIGHT 108    /* uint32_t */
+#define LENS_JOB_DONE 112      /* uint64_t: units done */
+#define LENS_JOB_EDGES 120     /* the box of the points so far, in a region's form; zeros until the first sample */
+#define LENS_JOB_REGION 152    /* the table's region; zeros until the border is done */
+#define LENS_JOB_UNSETTLED 184 /* uint32_t: how many of the samples done have not settled */
+#define LENS_JOB_FIRST 188     /* uint32_t: the position of the first of these, counted from 1; 0 for none */
+#define LENS_JOB_STRICT 192    /* uint64_t: 1 for a strict job, else 0: as lens_job_new was told, for good */
+#define LENS_JOB_CHECK 200     /* uint64_t: LENS_JOB_CHECK_START + the 25 words of 8 bytes before it, modulo 2^64 */
+#define LENS_JOB_BYTES 208
 #define LENS_JOB_CHECK_START UINT64_C(0x31424f4a534e454c)
 
 /* Which jobs are refused. 1, 4, 5 and 6 are for a job's model, parameters, region (whatever is done) and size. 13 is
@@ -192,39 +202,46 @@ uint8_t lens_dx_distort_params(uint8_t model, const uint8_t *params, size_t para
  *   - more units are done than there are;
  *   - there are more updates than the samples done can have (none, none, 20 or 50 each, by the model);
  *   - one of the four edges so far is NaN or infinite;
- *   - the border is done, and an increment of the region is NaN, infinite or not above 0.
+ *   - the border is done, and an increment of the region is NaN, infinite or not above 0;
+ *   - the count of unsettled samples or the position of the first is above the samples done, or one of the two is 0 and
+ *     the other is not;
+ *   - the strict mark is neither 0 nor 1, or it is 1 and the count is not 0.
  *
  * Caught for certain: of a job as it was written here, some or all of the 8 bytes of one word (at 0 to 7, 8 to 15,
  * and so on, the check word among them) became others. So in particular any change within one byte. A turn then
  * returns 1, 4, 5, 6, 7 or 13, never another number, and writes nothing.
  * Not caught for certain: changes in two words or more, which may cancel out in the sum, as two exchanged words of the
- * 23 do, or two doubles that both change their sign; bytes whose check word was worked out anew; a sound job of another
+ * 25 do, or two doubles that both change their sign; bytes whose check word was worked out anew; a sound job of another
  * build or of an earlier turn.
  * Not checked at all: the table's floats, which no turn reads; the region handed to lens_lookup; observations. */
 
-/* What a turn answers: four uint64_t. */
+/* What a turn answers: six uint64_t. */
 #define LENS_TURN_STATUS 0
-#define LENS_TURN_DONE 8     /* units done, of all turns */
-#define LENS_TURN_UNITS 16   /* units in all: LENS_UNITS */
-#define LENS_TURN_UPDATES 24 /* updates, of all samples done */
-#define LENS_TURN_BYTES 32
+#define LENS_TURN_DONE 8       /* units done, of all turns */
+#define LENS_TURN_UNITS 16     /* units in all: LENS_UNITS */
+#define LENS_TURN_UPDATES 24   /* updates, of all samples done */
+#define LENS_TURN_UNSETTLED 32 /* how many of all samples done have not settled */
+#define LENS_TURN_FIRST 40     /* the position of the first of these, counted from 1; 0 for none */
+#define LENS_TURN_BYTES 48
 
 #define LENS_STATUS_RUNNING 0
 #define LENS_STATUS_FINISHED 1
 #define LENS_STATUS_REFUSED 2 /* at a unit */
 
-/* A fresh job for a table of width by height cells. job_length: LENS_JOB_BYTES.
- * Returns 0, 1, 3, 4, 5, 6 or 7. */
+/* A fresh job for a table of width by height cells, strict with 1 and not with 0: another mark is refused with 13.
+ * job_length: LENS_JOB_BYTES.
+ * Returns 0, 1, 3, 4, 5, 6, 7 or 13. */
 uint8_t lens_job_new(uint8_t model, const uint8_t *params, size_t params_length, uint32_t width, uint32_t height,
-                     uint8_t *job, size_t job_length);
+                     uint8_t strict, uint8_t *job, size_t job_length);
 
 /* Does `allowance` units of the job, or fewer if no more are left or one is refused; 0 is fine, and does none.
  * job_length: LENS_JOB_BYTES. table_length: LENS_TABLE_FLOATS of the job's size. answer_length: LENS_TURN_BYTES.
  * Returns 0: running or finished. Job and answer are written, and of the table the cells done in this turn.
  * Returns 1, 4, 5, 6, 7 or 13: the call is refused, and nothing was written. 1, 4, 5 and 6 are the job's.
- * Returns 8, 10, 11, 12 or 16: the unit after those done cannot be done, ever. Job, table and answer are written, with all
- * units before it and status LENS_STATUS_REFUSED; each further turn of this job with an allowance above 0 returns the
- * same number and does no unit. With allowance 0 no unit is tried: that turn returns 0, its status running. */
+ * Returns 8, 10, 11, 12, 16 or (a strict job alone) 18: the unit after those done cannot be done, ever. Job, table and
+ * answer are written, with all units before it and status LENS_STATUS_REFUSED; each further turn of this job with an
+ * allowance above 0 returns the same number and does no unit. With allowance 0 no unit is tried: that turn returns 0,
+ * its status running. */
 uint8_t lens_turn(uint8_t *job, size_t job_length, float *table, size_t table_length, uint64_t allowance,
                   uint8_t *answer, size_t answer_length);
 

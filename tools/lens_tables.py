@@ -1,8 +1,8 @@
 """The lens table and its turns, in another language than ours: what the table vectors are made with.
 
 From the Rust's distortion_table.rs where it has a text, and from docs/RULES.md (12 and 13, the refusals
-of 5) where it has none: BoxRegion, units, turns, the job record. No code of the crates takes part. The
-four models come from tools/lens_models.py, which was made from the Rust in the same way.
+of 5) where it has none: BoxRegion, units, turns, strict jobs, the job record. No code of the crates takes
+part. The four models come from tools/lens_models.py, which was made from the Rust in the same way.
 
 A camera is a pair (model's number, parameters). A table is a list of 2 * width * height whole numbers,
 each the bit pattern of an f32; the pixel of cell (u, v) takes two places from 2 * (v * width + u) on.
@@ -27,19 +27,10 @@ FINISHED, RUNNING, REFUSED = "finished", "running", "refused"
 # ---- the border (RULES 12.1, 12.2)
 
 
-def border(w, h):
-    """How many border samples there are: B."""
-    return 2 * w + 2 * h + 4
-
-
-def total(w, h):
-    """How many units there are: T."""
-    return border(w, h) + w * h
-
-
 @functools.cache
 def samples(w, h):
-    """The border's pixels in the order of the Rust's two loops."""
+    """The border's pixels in the order of the Rust's two loops. Nothing else here or in the scripts that make vectors
+    says which they are or how many."""
     v_top = -0.5
     v_bottom = float(h) - 0.5
     u_left = -0.5
@@ -54,6 +45,16 @@ def samples(w, h):
         found.append((u_left, v))
         found.append((u_right, v))
     return found
+
+
+def border(w, h):
+    """How many border samples there are: B."""
+    return len(samples(w, h))
+
+
+def total(w, h):
+    """How many units there are: T."""
+    return border(w, h) + w * h
 
 
 def extended(edges, x, y):
@@ -137,6 +138,9 @@ class Job:
     edges: tuple = ZEROS
     region: tuple = ZEROS
     updates: int = 0
+    unsettled: int = 0  # samples done whose flag says no
+    first: int = 0  # the position of the first of them, counted from 1; 0 for none
+    strict: bool = False
 
 
 def camera_refused(camera):
@@ -151,19 +155,25 @@ def size_refused(w, h):
     return 0 if LEAST <= w <= MOST and LEAST <= h <= MOST else 6
 
 
-def fresh(camera, w, h):
+def fresh(camera, w, h, strict=False):
     """A refusal's number, 0 for none, and the record of a job of which nothing is done."""
     number = camera_refused(camera) or size_refused(w, h)
-    return (number, None) if number else (0, Job(camera, w, h))
+    return (number, None) if number else (0, Job(camera, w, h, strict=strict))
 
 
 def sample_unit(job):
-    """Border sample done + 1. The last one also works out the region, and judges it."""
+    """Border sample done + 1. A strict job stops at one whose flag says no, once it has a point. The last sample also
+    works out the region, and judges it."""
     w, h, n = job.width, job.height, job.done + 1
     number, given = answer(job.camera[0], UNDISTORT, job.camera[1], *samples(w, h)[n - 1])
     if number:
         return number, None
-    x, y, updates, _ = given
+    x, y, updates, flag = given
+    if job.strict and not flag:
+        return 18, None
+    unsettled, first = job.unsettled, job.first
+    if not flag:
+        unsettled, first = unsettled + 1, first or n
     edges = (x, y, x, y) if n == 1 else extended(job.edges, x, y)
     region = job.region
     if n == border(w, h):
@@ -171,7 +181,27 @@ def sample_unit(job):
         number = increments_refused(increments(region, w, h))
         if number:
             return number, None
-    return 0, replace(job, done=n, edges=edges, region=region, updates=job.updates + updates)
+    updates += job.updates
+    return 0, replace(job, done=n, edges=edges, region=region, updates=updates, unsettled=unsettled, first=first)
+
+
+# The same of a border as a whole: what the definition says of its samples, told apart from the units.
+
+
+def flags(camera, w, h):
+    """The flag of each border sample, up to the first that has no point."""
+    found = []
+    for pixel in samples(w, h):
+        number, given = answer(camera[0], UNDISTORT, camera[1], *pixel)
+        if number:
+            break
+        found.append(given[3])
+    return found
+
+
+def tallies(flags_done):
+    """How many of these say no, and the position of the first, counted from 1, or 0."""
+    return flags_done.count(False), flags_done.index(False) + 1 if False in flags_done else 0
 
 
 def cell_unit(job):
@@ -201,7 +231,19 @@ def impossible(job):
         return True
     if not all(math.isfinite(z) for z in job.edges):
         return True
-    return job.done >= border(w, h) and increments_refused(increments(job.region, w, h)) != 0
+    if job.done >= border(w, h) and increments_refused(increments(job.region, w, h)) != 0:
+        return True
+    return tallies_impossible(job)
+
+
+def tallies_impossible(job):
+    """Whether count and first are those of no build with so many samples done."""
+    done = min(job.done, border(job.width, job.height))
+    if job.unsettled > done or job.first > done:
+        return True
+    if (job.unsettled == 0) != (job.first == 0):
+        return True
+    return job.strict and job.unsettled != 0
 
 
 def call_refused(job, table):

@@ -20,17 +20,19 @@ from dataclasses import replace
 
 from lens_models import AFFINE, BC, COUNTS, EUCM, KB, UNDISTORT, answer
 from lens_tables import FINISHED, LIMITS, REFUSED, RUNNING, Job
-from lens_tables import border, call_refused, camera_refused, fresh, size_refused, total, turn
+from lens_tables import border, call_refused, camera_refused, fresh, samples, size_refused, total, turn
 from make_leaf_vectors import Splitmix
 from make_table_lookups import BOX, lookup
 from make_table_lookups import LISTED as LISTED_CELLS
-from make_table_vectors import BRINK, HALF_EUCM, LISTED, LISTING
+from make_table_vectors import BRINK, HALF_EUCM, LISTED, LISTING, OWN_REFUSALS, UNSETTLED, UNSETTLED_THEN_REFUSED
+from make_table_vectors import first_unsettled, sample_at, unsettled_last
 
 FOLDER = pathlib.Path(__file__).resolve().parent.parent / "crates" / "test_head_calls"
 FIELDS, LINE = 12, 204
 BYTES, NUMBERS = 512, 64  # of a buffer, of the table
 FILL, BEFORE = 0xA5, struct.unpack("<I", struct.pack("<f", 12345.0))[0]
-JOB, CHECK, ANSWER, PIXEL, BOX_BYTES, OBSERVATION = 192, 184, 32, 16, 32, 40
+JOB, REGION_AT, TALLIES, MARK, CHECK = 208, 152, 184, 192, 200
+ANSWER, PIXEL, BOX_BYTES, OBSERVATION = 48, 16, 32, 40
 REFILL, PUT_READ, PUT_LENT, PUT_TABLE, JOB_NEW, TURN, OBSERVE, LOOKUP, FLIPS = range(9)
 STATUS = {RUNNING: 0, FINISHED: 1, REFUSED: 2}
 NAN, INF = math.nan, math.inf
@@ -57,7 +59,7 @@ def widened(bits32):
 
 def check_word(data):
     """Of the words before it, the sum from LENSJOB1 on, modulo 2^64 (docs/RULES.md 21.3)."""
-    return (int.from_bytes(b"LENSJOB1", "little") + sum(struct.unpack_from("<23Q", data))) % 2**64
+    return (int.from_bytes(b"LENSJOB1", "little") + sum(struct.unpack_from("<25Q", data))) % 2**64
 
 
 def mended(data):
@@ -66,7 +68,7 @@ def mended(data):
 
 
 def record_bytes(job):
-    """The 192 bytes of a record (include/lens.h)."""
+    """The 208 bytes of a record (include/lens.h)."""
     model, params = job.camera
     twelve = [*params, *[0.0] * (12 - len(params))]
     return mended(
@@ -74,18 +76,26 @@ def record_bytes(job):
         + doubles(*twelve)
         + struct.pack("<2IQ", job.width, job.height, job.done)
         + doubles(*job.edges, *job.region)
+        + struct.pack("<2IQ", job.unsettled, job.first, job.strict)
     )
 
 
 def record_of(data):
-    """The record that 192 bytes hold, or None for a model that there is not."""
+    """The record that 208 bytes hold, or None for a model that there is not. A mark that is neither 0 nor 1 is nobody's
+    here: it is refused."""
     model, updates = struct.unpack_from("<2I", data, 0)
     if model > BC:
         return None
     params = struct.unpack_from(f"<{COUNTS[model]}d", data, 8)
     w, h, done = struct.unpack_from("<2IQ", data, 104)
-    edges, region = struct.unpack_from("<4d", data, 120), struct.unpack_from("<4d", data, 152)
-    return Job((model, params), w, h, done, edges, region, updates)
+    edges, region = struct.unpack_from("<4d", data, 120), struct.unpack_from("<4d", data, REGION_AT)
+    unsettled, first, mark = struct.unpack_from("<2IQ", data, TALLIES)
+    return Job((model, params), w, h, done, edges, region, updates, unsettled, first, mark == 1)
+
+
+def marked(data, mark):
+    """The bytes with another strict mark."""
+    return data[:MARK] + struct.pack("<Q", mark) + data[MARK + 8 :]
 
 
 def poked(data, at, x):
@@ -110,10 +120,10 @@ def lowest(*numbers):
     return min((n for n in numbers if n), default=0)
 
 
-def job_new_owed(model, params, w, h, job):
+def job_new_owed(model, params, w, h, mark, job):
     number, camera = camera_of(model, params)
-    number = lowest(number, size_refused(w, h), 7 if len(job) != JOB else 0)
-    return number, job if number else record_bytes(Job(camera, w, h))
+    number = lowest(number, size_refused(w, h), 7 if len(job) != JOB else 0, 13 if mark > 1 else 0)
+    return number, job if number else record_bytes(Job(camera, w, h, strict=mark == 1))
 
 
 def turn_refused(data, table, room):
@@ -121,7 +131,8 @@ def turn_refused(data, table, room):
     if len(data) != JOB:
         return 7
     job = record_of(data)
-    damaged = 13 if struct.unpack_from("<Q", data, CHECK)[0] != check_word(data) else 0
+    mark, check = struct.unpack_from("<2Q", data, MARK)
+    damaged = 13 if mark > 1 or check != check_word(data) else 0
     return lowest(1 if job is None else call_refused(job, table), damaged, 7 if room != ANSWER else 0)
 
 
@@ -131,7 +142,8 @@ def turn_owed(data, table, allowance, lent):
         return number, data, table, lent
     cells = list(table)
     status, number, after = turn(record_of(data), cells, allowance)
-    said = struct.pack("<4Q", STATUS[status], after.done, total(after.width, after.height), after.updates)
+    units = total(after.width, after.height)
+    said = struct.pack("<6Q", STATUS[status], after.done, units, after.updates, after.unsettled, after.first)
     return number, record_bytes(after), cells, said
 
 
@@ -219,10 +231,10 @@ class Head:
         self.said[what, number] += 1
         return number, words
 
-    def job_new(self, model, params, w, h, room=JOB, stay=0):
+    def job_new(self, model, params, w, h, room=JOB, stay=0, mark=0):
         self.reads(params)
-        self.line(JOB_NEW, stay, model, len(params), room, 0, 0, w, h)
-        number, after = job_new_owed(model, params, w, h, self.lent[:room])
+        self.line(JOB_NEW, stay, model, len(params), room, 0, 0, w, h, 0, 0, mark)
+        number, after = job_new_owed(model, params, w, h, mark, self.lent[:room])
         reply = self.reply("lens_job_new", number, (self.lent[:room], after, after.hex()))
         if stay:
             self.lent = after + self.lent[room:]
@@ -277,18 +289,19 @@ class Head:
 
 CAMERA = (AFFINE, tuple(LISTED[3]))
 W, H = LISTED[1:3]
+B, T = border(W, H), total(W, H)
 ALL = 100
 
 
-def started(head, camera, w, h):
+def started(head, camera, w, h, mark=0):
     """A fresh job in the buffer that is lent, and an untouched table."""
     head.refill()
-    head.job_new(camera[0], doubles(*camera[1]), w, h, stay=1)
+    head.job_new(camera[0], doubles(*camera[1]), w, h, stay=1, mark=mark)
 
 
-def in_turns(head, camera, w, h, allowances):
+def in_turns(head, camera, w, h, allowances, mark=0):
     """A job from its start to its end: the record and the cells."""
-    started(head, camera, w, h)
+    started(head, camera, w, h, mark)
     turns = 0
     while struct.unpack_from("<Q", head.lent, 112)[0] < total(w, h):
         number, _ = head.turn(allowances[turns % len(allowances)], 2 * w * h, stay=1)
@@ -318,12 +331,12 @@ def rules_table(head):
 
 
 def by_hand(head):
-    head.heading("by hand: the rules' table after 14, 17 and 20 units")
+    head.heading(f"by hand: the rules' table after {B}, {B + 3} and {T} units")
     started(head, CAMERA, W, H)
-    for allowance, done, cells in ((14, 14, 0), (3, 17, 3), (1000, 20, 6)):
+    for allowance, done, cells in ((B, B, 0), (3, B + 3, 3), (1000, T, 6)):
         assert head.turn(allowance, 12, stay=1)[0] == 0
         assert record_of(head.lent).done == done and head.table[:12].count(BEFORE) == 12 - 2 * cells
-    region = head.lent[152:CHECK]
+    region = head.lent[REGION_AT:TALLIES]
     head.heading("by hand: lookup (1, 0.5), (4, 2.5), (4.5, 0) in it")
     for x, y, owed in ((1.0, 0.5, 0), (4.0, 2.5, 0), (4.5, 0.0, 9)):
         assert head.lookup(12, region, W, H, x, y) == (owed, ["kept" if owed else doubles(x, y).hex()])
@@ -340,22 +353,22 @@ JOBS = [
      KB, (1.0, 1.0, 0.0, 0.0, 0.0, 0.0, 0.0, 0.0), 3, 2, 10, 2),
     ("eucm 1 1 0.5 0.5 0.5 1, 3 by 2: the ray of sample 7 points backwards",
      EUCM, (1.0, 1.0, 0.5, 0.5, *HALF_EUCM), 3, 2, 16, 7),
-    ("eucm 2 8 0.5 0.5 2 1, 2 by 2: sample 9 has no finite point",
-     EUCM, (2.0, 8.0, 0.5, 0.5, 2.0, 1.0), 2, 2, 11, 9),
+    (f"eucm 2 8 0.5 0.5 2 1, 2 by 2: sample {sample_at(2, 2, -0.5, 0.5)} has no finite point",
+     EUCM, (2.0, 8.0, 0.5, 0.5, 2.0, 1.0), 2, 2, 11, sample_at(2, 2, -0.5, 0.5)),
     ("affine 1 1 1e300 0, 3 by 2: all points have one x, and the increment across is 0",
-     AFFINE, (1.0, 1.0, 1e300, 0.0), 3, 2, 8, 14),
+     AFFINE, (1.0, 1.0, 1e300, 0.0), 3, 2, 8, B),
     ("affine 2e-308 1 0 0, 3 by 2: the increment across is infinite",
-     AFFINE, (2e-308, 1.0, 0.0, 0.0), 3, 2, 11, 14),
+     AFFINE, (2e-308, 1.0, 0.0, 0.0), 3, 2, 11, B),
     ("affine 1 2e-308 1e300 0, 3 by 2: the increment is 0 across and infinite down",
-     AFFINE, (1.0, 2e-308, 1e300, 0.0), 3, 2, 8, 14),
+     AFFINE, (1.0, 2e-308, 1e300, 0.0), 3, 2, 8, B),
     ("eucm 1e39 1 1e39 0.5 0.5 1, 3 by 2: the pixel of cell (1, 0) is too large for an f32",
-     EUCM, (1e39, 1.0, 1e39, 0.5, *HALF_EUCM), 3, 2, 12, 16),
+     EUCM, (1e39, 1.0, 1e39, 0.5, *HALF_EUCM), 3, 2, 12, B + 2),
     ("bc 1 1 -1 -1 1e55 0 0 0 0 0 0 0, 3 by 3: the pixel of cell (2, 0) is too large for an f32",
-     BC, (1.0, 1.0, -1.0, -1.0, 1e55, *[0.0] * 7), 3, 3, 12, 19),
+     BC, (1.0, 1.0, -1.0, -1.0, 1e55, *[0.0] * 7), 3, 3, 12, border(3, 3) + 3),
     ("eucm 2 2 0 0 0.4 -0.5, 3 by 2: the pixel of cell (2, 0) is NaN",
-     EUCM, (2.0, 2.0, 0.0, 0.0, 0.4, -0.5), 3, 2, 11, 17),
+     EUCM, (2.0, 2.0, 0.0, 0.0, 0.4, -0.5), 3, 2, 11, B + 3),
     ("affine X 1 0 0, X = 002c000000000001, 7 by 2: the point of cell (6, 0) is infinite",
-     AFFINE, (BRINK, 1.0, 0.0, 0.0), 7, 2, 11, 29),
+     AFFINE, (BRINK, 1.0, 0.0, 0.0), 7, 2, 11, border(7, 2) + 7),
 ]  # fmt: skip
 
 
@@ -398,8 +411,8 @@ def with_last(camera, x):
     return model, (*params[:-1], x)
 
 
-def record(camera=CAMERA, done=5, updates=0, edges=EDGES, region=REGION, w=W, h=H):
-    return Job(camera, w, h, done, edges, region, updates)
+def record(camera=CAMERA, done=5, updates=0, edges=EDGES, region=REGION, w=W, h=H, unsettled=0, first=0, strict=False):
+    return Job(camera, w, h, done, edges, region, updates, unsettled, first, strict)
 
 
 def put(box, place, x):
@@ -407,28 +420,42 @@ def put(box, place, x):
 
 
 def units_lines():
-    yield "Units done: at most T, which is 20."
-    for done, outcome in ((0, SAMPLE), (19, LAST), (20, OVER), (21, 13), (MAX64, 13)):
+    yield f"Units done: at most T, which is {T}."
+    for done, outcome in ((0, SAMPLE), (T - 1, LAST), (T, OVER), (T + 1, 13), (MAX64, 13)):
         yield f"units {done}", record(done=done), outcome
 
 
 def limits(most):
-    """After 5 samples, after all 14 and among the cells: the last count that is taken, and the first that is not."""
-    for done, outcome in ((5, SAMPLE), (14, CELL), (17, CELL)):
-        yield done, most * min(done, 14), outcome
-        yield done, most * min(done, 14) + 1, 13
+    """After 5 samples, after all and among the cells: the last count that is taken, and the first that is not."""
+    for done, outcome in ((5, SAMPLE), (B, CELL), (B + 3, CELL)):
+        yield done, most * min(done, B), outcome
+        yield done, most * min(done, B) + 1, 13
 
 
 def updates_lines():
-    yield "Updates: at most 0 (affine, eucm), 20 (kb) or 50 (bc) for each sample done, of which there are 14."
+    yield f"Updates: at most 0 (affine, eucm), 20 (kb) or 50 (bc) for each sample done, of which there are {B}."
     for name, camera, rows in (
-        ("affine", CAMERA, ((5, 0, SAMPLE), (5, 1, 13), (17, 1, 13))),
+        ("affine", CAMERA, ((5, 0, SAMPLE), (5, 1, 13), (B + 3, 1, 13))),
         ("eucm", EUCM_ORDINARY, ((5, 0, SAMPLE), (5, 1, 13))),
         ("kb", KB_ORDINARY, ((0, 0, SAMPLE), (0, 1, 13), *limits(20))),
-        ("bc", BC_ORDINARY, ((0, 1, 13), *limits(50), (17, 2**32 - 1, 13))),
+        ("bc", BC_ORDINARY, ((0, 1, 13), *limits(50), (B + 3, 2**32 - 1, 13))),
     ):
         for done, updates, outcome in rows:
             yield f"{name}, units {done}, updates {updates}", record(camera, done, updates), outcome
+
+
+def tallies_lines():
+    yield f"Count and first: at most the samples done, {B} in all; both 0 or neither; in a strict job both 0."
+    for done, outcome in ((0, SAMPLE), (1, SAMPLE), (5, SAMPLE), (B - 1, SAMPLE), (B, CELL), (B + 3, CELL), (T, OVER)):
+        most = min(done, B)
+        taken = {(1, 1), (1, most), (most, 1), (most, most)} if done else set()
+        refused = {(most + 1, 1), (1, most + 1), (0, 1), (1, 0), (most + 1, 0), (MAX32, 1), (1, MAX32), (0, MAX32)}
+        for count, first in sorted(taken | refused):
+            told = record(done=done, unsettled=count, first=first)
+            words = f"units {done}, count {count}, first {first}"
+            yield words, told, outcome if (count, first) in taken else 13
+            yield f"{words}, strict", replace(told, strict=True), 13
+        yield f"units {done}, none, strict", record(done=done, strict=True), outcome
 
 
 def edges_lines():
@@ -437,9 +464,9 @@ def edges_lines():
         ("left NaN", 0, 0, NAN, 13),
         ("left NaN", 5, 0, NAN, 13),
         ("top infinite", 5, 1, INF, 13),
-        ("right -infinite", 14, 2, -INF, 13),
-        ("bottom NaN", 17, 3, NAN, 13),
-        ("bottom infinite", 20, 3, INF, 13),
+        ("right -infinite", B, 2, -INF, 13),
+        ("bottom NaN", B + 3, 3, NAN, 13),
+        ("bottom infinite", T, 3, INF, 13),
         ("left the largest f64", 5, 0, LARGEST, SAMPLE),
     ):
         yield f"{words}, units {done}", record(done=done, edges=put(EDGES, place, x)), outcome
@@ -447,34 +474,34 @@ def edges_lines():
 
 def regions_lines():
     yield (
-        "Region once 14 units are done: increments finite and above 0. "
+        f"Region once {B} units are done: increments finite and above 0. "
         "A line gives one pair of edges; the other is true."
     )
     x, y = 0, 1
     for words, done, axis, lower, upper, outcome in (
-        ("x from 4 to 4", 14, x, 4.0, 4.0, 13),
-        ("x from 0 to -0", 14, x, 0.0, -0.0, 13),
-        ("x from 4 to -2", 14, x, 4.0, -2.0, 13),
-        ("x from -L to L, L the largest f64", 14, x, -LARGEST, LARGEST, 13),
-        ("x from 0 to 2^-1074, which halved is 0", 14, x, 0.0, LEAST, 13),
-        ("x from 0 to 2^-1073", 14, x, 0.0, 2 * LEAST, CELL),
-        ("y from 1 to 1", 17, y, 1.0, 1.0, 13),
-        ("y from 2.5 to -1.5", 17, y, 2.5, -1.5, 13),
-        ("y from -L to L, L the largest f64", 17, y, -LARGEST, LARGEST, 13),
-        ("x from 4 to 4", 20, x, 4.0, 4.0, 13),
+        ("x from 4 to 4", B, x, 4.0, 4.0, 13),
+        ("x from 0 to -0", B, x, 0.0, -0.0, 13),
+        ("x from 4 to -2", B, x, 4.0, -2.0, 13),
+        ("x from -L to L, L the largest f64", B, x, -LARGEST, LARGEST, 13),
+        ("x from 0 to 2^-1074, which halved is 0", B, x, 0.0, LEAST, 13),
+        ("x from 0 to 2^-1073", B, x, 0.0, 2 * LEAST, CELL),
+        ("y from 1 to 1", B + 3, y, 1.0, 1.0, 13),
+        ("y from 2.5 to -1.5", B + 3, y, 2.5, -1.5, 13),
+        ("y from -L to L, L the largest f64", B + 3, y, -LARGEST, LARGEST, 13),
+        ("x from 4 to 4", T, x, 4.0, 4.0, 13),
     ):
         region = put(put(REGION, axis, lower), axis + 2, upper)
         yield f"{words}, units {done}", record(done=done, region=region), outcome
-    yield "all zeros, units 14", record(done=14, region=(0.0,) * 4), 13
-    yield "all zeros, units 13", record(done=13, region=(0.0,) * 4), SAMPLE
+    yield f"all zeros, units {B}", record(done=B, region=(0.0,) * 4), 13
+    yield f"all zeros, units {B - 1}", record(done=B - 1, region=(0.0,) * 4), SAMPLE
 
 
 def not_finite_lines():
     yield "4: a region edge or a parameter is NaN or infinite, at any count of units."
     yield "region left NaN, units 0", record(done=0, region=put(REGION, 0, NAN)), 4
     yield "region top infinite, units 5", record(done=5, region=put(REGION, 1, INF)), 4
-    yield "region right -infinite, units 14", record(done=14, region=put(REGION, 2, -INF)), 4
-    yield "region bottom NaN, units 20", record(done=20, region=put(REGION, 3, NAN)), 4
+    yield f"region right -infinite, units {B}", record(done=B, region=put(REGION, 2, -INF)), 4
+    yield f"region bottom NaN, units {T}", record(done=T, region=put(REGION, 3, NAN)), 4
     yield "affine, fx NaN", record(affine(fx=NAN)), 4
     yield "affine, cx infinite", record(affine(cx=INF)), 4
     yield "eucm, beta NaN", record(with_last(EUCM_ORDINARY, NAN)), 4
@@ -510,14 +537,14 @@ def sizes_lines():
 
 def lengths_lines():
     yield "7: a table that has not exactly 12 numbers."
-    lengths = ((0, 0, 7), (0, 11, 7), (0, 12, SAMPLE), (0, 13, 7), (17, 10, 7), (17, 24, 7), (20, 11, 7))
+    lengths = ((0, 0, 7), (0, 11, 7), (0, 12, SAMPLE), (0, 13, 7), (B + 3, 10, 7), (B + 3, 24, 7), (T, 11, 7))
     for done, numbers, outcome in lengths:
         yield f"{numbers or 'no'} number{'s' if numbers else ''}, units {done}", record(done=done), outcome, numbers
 
 
 def order_lines():
     def wrong(camera, w, region):
-        return record(camera, 21, 1, put(EDGES, 0, NAN), region, w)
+        return record(camera, T + 1, 1, put(EDGES, 0, NAN), region, w)
 
     yield (
         "Several at once: 4, 5, 6, 7, 13, and only then a unit. "
@@ -544,6 +571,7 @@ def beside_a_refusal(head):
     for lines in (
         units_lines(),
         updates_lines(),
+        tallies_lines(),
         edges_lines(),
         regions_lines(),
         not_finite_lines(),
@@ -592,7 +620,7 @@ CAMERAS = (
 )
 MODELS8, MODELS32 = (0, 1, 2, 3, 4, 5, 255), (0, 1, 2, 3, 4, 5, 255, 256, MAX32)
 SIZES = (0, 1, 2, 3, 4095, 4096, 4097, MAX32)
-PLACES = [*range(8, 104, 8), *range(120, CHECK, 8)]  # of a record's f64s
+PLACES = [*range(8, 104, 8), *range(120, TALLIES, 8)]  # of a record's f64s
 
 
 def after_units(camera, done, w=W, h=H):
@@ -616,6 +644,13 @@ def hostile_turns(head):
         head.lends(data)
         for n in range(301):
             assert head.turn(1, 12, n)[0] == (7 if n != JOB else 1 if words else 0)
+    head.heading("turn: a record of before, which had 192 bytes, its own check word at 184; the first 207 bytes of one; 209")
+    body = record_bytes(good)[:TALLIES]
+    check = int.from_bytes(b"LENSJOB1", "little") + sum(struct.unpack("<23Q", body))
+    head.lends(body + struct.pack("<Q", check % 2**64))
+    assert head.turn(1, 12, 192) == head.turn(0, 12, 192, 32) == (7, ["kept"] * 3)
+    head.lends(record_bytes(good))
+    assert head.turn(1, 12, JOB - 1) == head.turn(1, 12, JOB + 1) == (7, ["kept"] * 3)
     head.heading("turn: answers of every length from 0 to 64, then tables of every length from 0 to 64")
     head.lends(record_bytes(good))
     for n in range(65):
@@ -626,7 +661,7 @@ def hostile_turns(head):
     for done, model in itertools.product((0, 9), MODELS32):
         head.lends(mended(struct.pack("<2I", model, 0) + record_bytes(after_units(CAMERAS[BC], done))[8:]))
         assert (head.turn(1, 12)[0] == 1) == (model > 3)
-    for done in (5, 17):
+    for done in (5, B + 3):
         for camera in CAMERAS:
             head.heading(f"turn: {NAMES[camera[0]]} after {done} units; NaN, infinity, -infinity, -0 at each f64's place")
             data = record_bytes(after_units(camera, done))
@@ -639,12 +674,12 @@ def impossible_records(head):
     for camera in CAMERAS:
         head.refill()
         head.heading(f"turn: {NAMES[camera[0]]}, the most updates and one more; more units than there are")
-        for done in (0, 1, 13, 14, 17, 20):
-            job, most = after_units(camera, done), LIMITS[camera[0]] * min(done, 14)
+        for done in (0, 1, B - 1, B, B + 3, T):
+            job, most = after_units(camera, done), LIMITS[camera[0]] * min(done, B)
             for updates in sorted({most, most + 1, 2**31, MAX32}):
                 head.lends(record_bytes(replace(job, updates=updates)))
                 assert head.turn(1, 12)[0] == (0 if updates <= most else 13)
-        for done in (21, 22, 2**31, 2**32, 2**63, MAX64):
+        for done in (T + 1, T + 2, 2**31, 2**32, 2**63, MAX64):
             head.lends(record_bytes(replace(job, done=done)))
             assert head.turn(1, 12)[0] == 13
     head.heading("turn: every width with every height, with the table's length where there is room for it")
@@ -653,25 +688,26 @@ def impossible_records(head):
         places = 2 * w * h if 2 * w * h <= NUMBERS else NUMBERS
         assert head.turn(1, places)[0] == (6 if not (2 <= w <= 4096 and 2 <= h <= 4096) else 0 if w * h <= 32 else 7)
     head.heading("turn: allowances")
-    head.lends(record_bytes(after_units(CAMERAS[BC], 13)))
+    head.lends(record_bytes(after_units(CAMERAS[BC], B - 1)))
     for allowance in (0, 1, 2, 7, 8, 2**31, 2**32, 2**63, MAX64):
         assert head.turn(allowance, 12)[0] == 0
 
 
 def several_faults_of_a_turn(head):
-    """Every set of faults. Bytes of another length hold no record, so 191 of them are 7 whatever stands there."""
+    """Every set of faults. Bytes of another length hold no record, so 207 of them are 7 whatever stands there."""
     head.refill()
-    head.heading("turn: every set of: model 4, fx NaN, fy 0, width 1, 11 numbers, 21 units, a wrong check word, 31 bytes of answer, 191 of record")
+    head.heading(f"turn: every set of: model 4, fx NaN, fy 0, width 1, 11 numbers, {T + 1} units, mark 2, a wrong check word, 47 bytes of answer, 207 of record")
     good = after_units(CAMERAS[KB], 9)
-    for faults in subsets((1, 4, 5, 6, 7, 13, "check", "answer", "record")):
-        data = record_bytes(replace(good, done=21 if 13 in faults else 9, width=1 if 6 in faults else 3))
+    for faults in subsets((1, 4, 5, 6, 7, 13, "mark", "check", "answer", "record")):
+        data = record_bytes(replace(good, done=T + 1 if 13 in faults else 9, width=1 if 6 in faults else 3))
         data = struct.pack("<I", 4 if 1 in faults else KB) + data[4:]
         data = poked(data, 8, NAN) if 4 in faults else data
-        data = mended(poked(data, 16, 0.0) if 5 in faults else data)
+        data = poked(data, 16, 0.0) if 5 in faults else data
+        data = mended(marked(data, 2) if "mark" in faults else data)
         head.lends(data[:CHECK] + bytes([data[CHECK] ^ 1]) + data[CHECK + 1 :] if "check" in faults else data)
         places = 11 if 7 in faults else 4 if 6 in faults else 12
         number, kept = head.turn(1, places, JOB - ("record" in faults), ANSWER - ("answer" in faults))
-        own = {"answer": 7, "check": 13}
+        own = {"answer": 7, "mark": 13, "check": 13}
         owed = 7 if "record" in faults else min([own.get(f, f) for f in faults], default=0)
         assert number == owed and (not owed or kept == ["kept"] * 3), faults
 
@@ -701,7 +737,7 @@ def damaged_in_one_word(head, job):
 
 
 def damaged_in_the_region(head, job):
-    head.heading("a job at 14 units with one bit of the region flipped: its left edge is -4 for -2")
+    head.heading(f"a job at {B} units with one bit of the region flipped: its left edge is -4 for -2")
     other = poked(job, 152, -4.0)
     assert struct.unpack_from("<d", job, 152) == (-2.0,)
     assert bin(int.from_bytes(job, "little") ^ int.from_bytes(other, "little")).count("1") == 1
@@ -712,14 +748,14 @@ def damaged_jobs(head):
     """What is done to a job between two turns. All of it is refused, nothing is written, and the job itself goes on."""
     started(head, CAMERA, W, H)
     done = 0
-    for units in (5, 13, 14, 17):
+    for units in (5, B - 1, B, B + 3):
         assert head.turn(units - done, 12, stay=1)[0] == 0
         done = units
         if units == 5:
             damaged_in_one_word(head, head.lent[:JOB])
-        if units == 14:
+        if units == B:
             damaged_in_the_region(head, head.lent[:JOB])
-        head.heading(f"a job at {units} units with each of its 1536 bits flipped in turn; then the job itself")
+        head.heading(f"a job at {units} units with each of its {8 * JOB} bits flipped in turn; then the job itself")
         assert set(head.flips(ALL, 12)) == {1, 4, 6, 7, 13}
         assert head.turn(ALL, 12)[0] == 0
 
@@ -738,14 +774,21 @@ def wrong_check_words(head):
     assert head.turn(1, 12)[0] == 0
     # what the sum does not show: changes of two words that come to 0
     head.heading("turn: the same with k0 a bit pattern up and k1 one down, with cx and cy exchanged, with both their signs flipped: taken")
-    words, sign = struct.unpack("<24Q", good), 1 << 63
+    words, sign = struct.unpack("<26Q", good), 1 << 63
     for i, j, new_i, new_j in (
         (5, 6, words[5] + 1, words[6] - 1),
         (3, 4, words[4], words[3]),
         (3, 4, words[3] ^ sign, words[4] ^ sign),
     ):
-        head.lends(struct.pack("<24Q", *(new_i if k == i else new_j if k == j else z for k, z in enumerate(words))))
+        head.lends(struct.pack("<26Q", *(new_i if k == i else new_j if k == j else z for k, z in enumerate(words))))
         assert head.turn(1, 12)[0] == 0
+
+
+def likely_tallies(rng):
+    """Count, first and mark, most of them such as a build might have."""
+    if rng.below(2):
+        return 0, 0, rng.below(2)
+    return rng.below(4), rng.below(4), rng.below(3)
 
 
 def random_records(head):
@@ -754,7 +797,7 @@ def random_records(head):
     for words, spoil in (("random bytes", 0), ("random bytes after a model", 1), ("random numbers in a likely record", 2)):
         head.heading(f"turn: 100 records of {words}")
         for _ in range(100):
-            data = b"".join(struct.pack("<Q", rng.bits(64)) for _ in range(23))
+            data = b"".join(struct.pack("<Q", rng.bits(64)) for _ in range(25))
             places = 12
             if spoil:
                 data = struct.pack("<2I", rng.below(4), 0) + data[8:]
@@ -763,6 +806,7 @@ def random_records(head):
                 places = 2 * w * h
                 numbers = [(rng.below(4001) - 2000) / 2.0 ** rng.below(12) for _ in range(20)]
                 data = data[:8] + doubles(*numbers[:12]) + struct.pack("<2IQ", w, h, rng.below(total(w, h) + 1)) + doubles(*numbers[12:])
+                data += struct.pack("<2IQ", *likely_tallies(rng))
             head.lends(mended(data))
             head.turn(1 + rng.below(60), places)
 
@@ -785,12 +829,16 @@ def hostile_jobs(head):
         assert head.job_new(other, params, 3, 2)[0] == (0 if other == BC else 3 if other < BC else 1)
     for w, h in itertools.product(SIZES, SIZES):
         assert head.job_new(model, params, w, h)[0] == (0 if 2 <= w <= 4096 and 2 <= h <= 4096 else 6)
-    head.heading("job_new: every set of: model 4, 95 bytes of parameters, cx NaN, fx -0, height 4097, 193 bytes of record")
-    for faults in subsets((1, 3, 4, 5, 6, 7)):
+    head.heading("job_new: marks 0, 1, 2, 3, 127, 128, 254, 255")
+    for mark in (0, 1, 2, 3, 127, 128, 254, 255):
+        assert head.job_new(model, params, 3, 2, mark=mark)[0] == (0 if mark < 2 else 13)
+    head.heading("job_new: every set of: model 4, 95 bytes of parameters, cx NaN, fx -0, height 4097, 209 bytes of record, mark 2")
+    for faults in subsets((1, 3, 4, 5, 6, 7, 13)):
         data = poked(params, 16, NAN) if 4 in faults else params
         data = poked(data, 0, -0.0) if 5 in faults else data
         data = data[:95] if 3 in faults else data
-        number, kept = head.job_new(4 if 1 in faults else BC, data, 3, 4097 if 6 in faults else 2, JOB + (7 in faults))
+        w, h, mark = 3, 4097 if 6 in faults else 2, 2 if 13 in faults else 0
+        number, kept = head.job_new(4 if 1 in faults else BC, data, w, h, JOB + (7 in faults), mark=mark)
         assert number == min(faults, default=0) and (not faults or kept == ["kept"]), faults
 
 
@@ -929,6 +977,113 @@ def builds(head):
             assert in_turns(head, camera, 5, 4, allowances) == first
 
 
+# ---- samples that don't settle, and strict jobs
+
+
+def said_by(words):
+    """Status, units done, units, updates, count and first of the answer's spelling."""
+    return struct.unpack("<6Q", bytes.fromhex(words))
+
+
+def unsettled_builds(head):
+    """The cameras of make_table_vectors: turns that stop before, at and behind the first sample that doesn't settle, then
+    to the end; in one turn; and strict, which stops there for good."""
+    for pixels, (model, w, h, params) in UNSETTLED:
+        first, count = first_unsettled(pixels, (model, w, h, params)), sum(p in pixels for p in samples(w, h))
+        where = "all" if len(pixels) > 2 else " and ".join(f"({u}, {v})" for u, v in sorted(pixels))
+        sizes = f"{NAMES[model]}, {w} by {h}"
+        head.heading(f"{sizes}, unsettled at {where}: turns to before, to, behind; at once; strict in both ways")
+        camera, places = (model, tuple(params)), 2 * w * h
+        started(head, camera, w, h)
+        for allowance, owed in ((first - 1, (0, 0)), (1, (1, first)), (1, None)):
+            number, kept = head.turn(allowance, places, stay=1)
+            told = said_by(kept[2])
+            assert number == 0 and (owed is None or told[4:] == owed) and told[5] in (0, first), (params, told)
+        number, kept = head.turn(ALL, places, stay=1)
+        assert number == 0 and said_by(kept[2])[::5] == (1, first) and said_by(kept[2])[4] == count
+        in_small = head.lent[:JOB], head.table[:places]
+        started(head, camera, w, h)
+        assert head.turn(ALL, places, stay=1)[0] == 0 and (head.lent[:JOB], head.table[:places]) == in_small
+        for allowances in ((ALL,), (first - 1, 1, 2)):
+            started(head, camera, w, h, 1)
+            for allowance in allowances:
+                number, kept = head.turn(allowance, places, stay=1)
+            said = said_by(kept[2])
+            assert number == 18 and kept[1] == "kept" and said[:2] == (2, first - 1) and said[4:] == (0, 0)
+            again = head.turn(0, places), head.turn(1, places), head.turn(ALL, places)
+            assert [n for n, _ in again] == [0, 18, 18] and record_of(head.lent).strict
+
+
+def beside_18(head):
+    """A sample's own refusal comes before 18; 18 before the region's 8 and 11; and a refused sample isn't counted."""
+    for number, unit, (model, w, h, params) in OWN_REFUSALS:
+        head.heading(f"{NAMES[model]}, {w} by {h}, strict: sample {unit} has no point, so {number} and not 18")
+        started(head, (model, tuple(params)), w, h, 1)
+        told, kept = head.turn(ALL, 2 * w * h)
+        assert told == number and said_by(kept[2])[1] == unit - 1
+    for number, unit, first, (model, w, h, params) in UNSETTLED_THEN_REFUSED:
+        words = f"sample {first} doesn't settle, sample {unit} is refused {number}; then strict"
+        head.heading(f"{NAMES[model]}, {w} by {h}: {words}")
+        for mark, owed in ((0, (number, unit - 1, 1, first)), (1, (18, first - 1, 0, 0))):
+            started(head, (model, tuple(params)), w, h, mark)
+            told, kept = head.turn(ALL, 2 * w * h)
+            said = said_by(kept[2])
+            assert (told, said[1], said[4], said[5]) == owed
+    for model in (KB, BC):
+        before_the_region(head, *unsettled_last(model))
+
+
+def before_the_region(head, model, w, h, params):
+    """The last sample with edges of no build: 18 is told before what the region would be refused with."""
+    words = "with edges that give a region of 8, of 11, and a sound one; then strict"
+    head.heading(f"{NAMES[model]} before the last sample, which doesn't settle: {words}")
+    head.refill()
+    for edges, number in (((9.0, 9.0, -9.0, -9.0), 8), ((-1e308, -1.0, 1e308, 1.0), 11), ((-1.0, -1.0, 1.0, 1.0), 0)):
+        job = record((model, tuple(params)), border(w, h) - 1, 0, edges, (0.0,) * 4, w, h)
+        for strict in (False, True):
+            head.lends(record_bytes(replace(job, strict=strict)))
+            told, kept = head.turn(1, 2 * w * h)
+            assert told == (18 if strict else number)
+            done = (border(w, h), 1, border(w, h)) if told == 0 else (border(w, h) - 1, 0, 0)
+            assert (said_by(kept[2])[1], *said_by(kept[2])[4:]) == done
+
+
+def damaged_tallies(head):
+    """Each bit of a job whose count and first aren't 0, and of a strict one: bits of both, and of the mark."""
+    for words, place, mark in (("kb, sample 1 not settled", 0, 0), ("bc, strict, settled up to here", 12, 1)):
+        _, (model, w, h, params) = UNSETTLED[place]
+        started(head, (model, tuple(params)), w, h, mark)
+        assert head.turn(6, 2 * w * h, stay=1)[0] == 0
+        job = record_of(head.lent)
+        assert (job.unsettled, job.first, job.strict) == ((0, 0, True) if mark else (1, 1, False))
+        head.heading(f"{words}: a job at 6 units with each of its {8 * JOB} bits flipped in turn; then the job itself")
+        assert 13 in head.flips(ALL, 2 * w * h)[8 * TALLIES :]
+        assert head.turn(1, 2 * w * h)[0] == 0
+
+
+def marks(head):
+    """The strict mark in a record: 0 and 1 are taken and stay as they are, all others are refused."""
+    for words, job in (
+        ("affine, fresh", record(done=0, edges=(0.0,) * 4, region=(0.0,) * 4)),
+        ("kb after 5 units", after_units(CAMERAS[KB], 5)),
+        ("bc after its last unit", after_units(CAMERAS[BC], T)),
+    ):
+        head.refill()
+        head.heading(f"turn: {words}, with the marks 0, 1, 2, 3, 255, 256, 2^32, 2^32 + 1, 2^56, 2^63, 2^64 - 1")
+        for mark in (0, 1, 2, 3, 255, 256, 2**32, 2**32 + 1, 2**56, 2**63, MAX64):
+            head.lends(mended(marked(record_bytes(job), mark)))
+            number, kept = head.turn(1, 12)
+            assert number == (0 if mark < 2 else 13) and (mark < 2 or kept == ["kept"] * 3), mark
+            if mark < 2 and kept[0] != "kept":
+                assert bytes.fromhex(kept[0])[MARK:CHECK] == struct.pack("<Q", mark)
+    head.heading("strict jobs that settle, 5 by 4: unit by unit and at once, as the others but for the mark and the check word")
+    for camera in CAMERAS:
+        lent, table = in_turns(head, camera, 5, 4, [MAX64])
+        for allowances in ([1], [MAX64]):
+            other, cells = in_turns(head, camera, 5, 4, allowances, 1)
+            assert cells == table and other[:MARK] == lent[:MARK] and other[:JOB] == mended(marked(lent[:JOB], 1))
+
+
 def no_calls(head):
     head.heading("lines that are no calls: an unknown function, an upper-case digit, a space for a tab, a line cut off")
     head.line(9)
@@ -948,6 +1103,10 @@ def written():
         beside_a_refusal,
         fresh_records,
         builds,
+        unsettled_builds,
+        beside_18,
+        damaged_tallies,
+        marks,
         hostile_turns,
         impossible_records,
         several_faults_of_a_turn,
@@ -969,8 +1128,8 @@ def cover(said):
     for key, count in sorted(said.items()):
         print(f"{count:6} ", *key, file=sys.stderr)
     for name, numbers in (
-        ("lens_job_new", {0, 1, 3, 4, 5, 6, 7}),
-        ("lens_turn", {0, 1, 4, 5, 6, 7, 8, 10, 11, 12, 13, 16}),
+        ("lens_job_new", {0, 1, 3, 4, 5, 6, 7, 13}),
+        ("lens_turn", {0, 1, 4, 5, 6, 7, 8, 10, 11, 12, 13, 16, 18}),
         ("lens_observe", {0, 1, 3, 4, 5, 7}),
         ("lens_lookup", {0, 4, 6, 7, 8, 9, 11}),
     ):
@@ -979,23 +1138,29 @@ def cover(said):
 
 def self_test():
     """By hand: a record's bytes there and back, and an affine lens in each function."""
-    job = Job((EUCM, (1.0, 2.0, 3.0, 4.0, 0.5, 1.0)), 3, 2, 5, (1.0, 2.0, 3.0, 4.0), (5.0, 6.0, 7.0, 8.0), 0)
+    boxes = (1.0, 2.0, 3.0, 4.0), (5.0, 6.0, 7.0, 8.0)
+    job = Job((EUCM, (1.0, 2.0, 3.0, 4.0, 0.5, 1.0)), 3, 2, 5, *boxes, 0, 258, 3, True)
     data = record_bytes(job)
     assert len(data) == JOB and record_of(data) == job and data[56:104] == bytes(48)
+    assert data[184:200] == bytes([2, 1, 0, 0, 3, 0, 0, 0, 1, 0, 0, 0, 0, 0, 0, 0]) and len(data[200:]) == 8
     assert data[:8] == b"\1" + bytes(7) and data[104:120] == bytes([3, 0, 0, 0, 2, 0, 0, 0, 5, 0, 0, 0, 0, 0, 0, 0])
     lens = doubles(2.0, 4.0, 1.0, 0.0)
     assert observe_owed(AFFINE, lens, observation(3.0, 8.0)) == (0, doubles(3.0, 8.0, 1.0, 2.0) + b"\1\0" + b"\xff" * 6)
     assert observe_owed(AFFINE, lens, observation(NAN, 8.0))[1][16:34] == bytes(17) + b"\4"
     assert observe_owed(4, b"", b"1") == (1, b"1") and observe_owed(AFFINE, lens, b"1") == (7, b"1")
-    number, made = job_new_owed(AFFINE, lens, 3, 2, bytes(JOB))
-    body = bytes(8) + lens + bytes(64) + bytes([3, 0, 0, 0, 2, 0, 0, 0]) + bytes(72)
+    number, made = job_new_owed(AFFINE, lens, 3, 2, 0, bytes(JOB))
+    body = bytes(8) + lens + bytes(64) + bytes([3, 0, 0, 0, 2, 0, 0, 0]) + bytes(88)
     # 2 is 4000000000000000, 4 is 4010000000000000, 1 is 3ff0000000000000; the size is 200000003
     check = 0x31424F4A534E454C + 0x4000000000000000 + 0x4010000000000000 + 0x3FF0000000000000 + 0x200000003
     assert number == 0 and made == body + check.to_bytes(8, "little")
-    assert check_word(bytes(184)) == 0x31424F4A534E454C and check_word(b"\xff" * 184) == 0x31424F4A534E454C - 23
+    number, strict = job_new_owed(AFFINE, lens, 3, 2, 1, bytes(JOB))
+    assert number == 0 and strict == body[:192] + b"\1" + bytes(7) + (check + 1).to_bytes(8, "little")
+    assert job_new_owed(AFFINE, lens, 3, 2, 2, b"1" * JOB) == (13, b"1" * JOB)
+    assert job_new_owed(AFFINE, lens, 3, 2, 2, b"")[0] == 7
+    assert check_word(bytes(200)) == 0x31424F4A534E454C and check_word(b"\xff" * 200) == 0x31424F4A534E454C - 25
     number, after, cells, said = turn_owed(made, [BEFORE] * 12, 1, bytes(ANSWER))
-    assert (number, cells, said) == (0, [BEFORE] * 12, struct.pack("<4Q", 0, 1, 20, 0))
-    assert after[120:152] == doubles(-0.75, -0.125, -0.75, -0.125) and after[152:184] == bytes(32)
+    assert (number, cells, said) == (0, [BEFORE] * 12, struct.pack("<6Q", 0, 1, T, 0, 0, 0))
+    assert after[120:152] == doubles(-0.75, -0.125, -0.75, -0.125) and after[152:200] == bytes(48)
     assert turn_owed(made, [BEFORE] * 11, 1, b"")[0] == 7 and turn_owed(made[1:], [], 1, b"")[0] == 7
     cells = [struct.unpack("<I", struct.pack("<f", z))[0] for z in LISTED_CELLS]
     assert lookup_owed(cells, doubles(*BOX), 3, 2, 0.25, 0.5, bytes(16)) == (0, doubles(0.25, 0.5))

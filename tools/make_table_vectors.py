@@ -4,25 +4,25 @@
     python3 tools/make_table_vectors.py              writes both files, and says on stderr what they cover
     python3 tools/make_table_vectors.py --self-test  tests this script and lens_tables.py, and writes nothing
 
-A question is a line of 16 fields with tabs between, each 16 hexadecimal digits: the model (0 affine,
-1 eucm, 2 kb, 3 bc), the width, the height, the allowance of every turn, and twelve parameters as bit
-patterns of f64s. A model with fewer parameters has zeros in the places that are left. So every line
-has 272 bytes with its end, and the program reads one at a time.
+A question is a line of 17 fields with tabs between, each 16 hexadecimal digits: the model (0 affine,
+1 eucm, 2 kb, 3 bc), the width, the height, the allowance of every turn, 1 for a strict job and 0 for
+another, and twelve parameters as bit patterns of f64s. A model with fewer parameters has zeros in the
+places that are left. So every line has 289 bytes with its end, and the program reads one at a time.
 
 The answer to a question takes several lines, with tabs between fields; counts are decimal:
 
     fresh                              the record was made; or: refused N, and nothing more
-    running  DONE UPDATES              one line for each turn, by its status:
-    finished DONE UPDATES                the record's units done and updates after the turn
-    refused  N DONE UPDATES
+    running  DONE UPDATES NO FIRST     one line for each turn, by its status: the record's units done and
+    finished DONE UPDATES NO FIRST       updates after the turn, its samples whose flag says no, and the
+    refused  N DONE UPDATES NO FIRST     position of the first of them
     edges    four f64s                 lower x, lower y, upper x, upper y, of the last record
     region   four f64s                 the same
     table    f32s                      every place of the table: two for each cell, by rows
 
 Turns follow one another, all with the question's allowance, as long as the status is running. An
 allowance of 0 stands for a single turn that may do nothing. Before the first turn every place of the
-table holds 3f000000, which is 0.5. f64s have 16 digits, f32s have 8. A line of another form, or a model
-above 3, is answered by `bad`, and the last line of stdout counts the lines of stdin.
+table holds 3f000000, which is 0.5. f64s have 16 digits, f32s have 8. A line of another form, a model
+above 3 or a mark above 1 is answered by `bad`, and the last line of stdout counts the lines of stdin.
 
 The program's table has room for 3,072 cells: no question that gets a fresh record asks for more.
 
@@ -53,11 +53,13 @@ from lens_tables import (
     cell_point,
     distort_table,
     extended,
+    flags,
     fresh,
     increments,
     narrow,
     region_of,
     samples,
+    tallies,
     total,
     turn,
     unit,
@@ -72,6 +74,7 @@ ROOM = 3072  # cells that the program's table has room for
 BEFORE = 0x3F000000  # what every place of the table holds before the first turn: 0.5
 LARGE = 10**6  # an allowance that no job of this size uses up
 DIGITS = frozenset("0123456789abcdef")
+FIELDS, LINE = 17, 289
 
 
 # ---- a question's line, and its answer
@@ -81,21 +84,21 @@ def patterns(params):
     return [pattern(z) for z in params]
 
 
-def question_line(model, w, h, allowance, params):
+def question_line(model, w, h, allowance, params, strict=False):
     """A question's parameters are bit patterns here: a NaN would not keep its pattern in a float."""
     unused = [0] * (12 - len(params))
-    return "\t".join(f"{n:016x}" for n in (model, w, h, allowance, *params, *unused))
+    return "\t".join(f"{n:016x}" for n in (model, w, h, allowance, strict, *params, *unused))
 
 
 def read(line):
-    """Camera, width, height and allowance of a line (with its end), or None if it is bad."""
+    """Camera, width, height, allowance and strict mark of a line (with its end), or None if it is bad."""
     fields = line[:-1].split("\t")
-    if line[-1:] != "\n" or len(fields) != 16 or any(len(f) != 16 or not DIGITS.issuperset(f) for f in fields):
+    if line[-1:] != "\n" or len(fields) != FIELDS or any(len(f) != 16 or not DIGITS.issuperset(f) for f in fields):
         return None
-    model, w, h, allowance, *params = (int(f, 16) for f in fields)
-    if model > 3:
+    model, w, h, allowance, mark, *params = (int(f, 16) for f in fields)
+    if model > 3 or mark > 1:
         return None
-    return (model, tuple(value(p) for p in params[: COUNTS[model]])), w, h, allowance
+    return (model, tuple(value(p) for p in params[: COUNTS[model]])), w, h, allowance, mark == 1
 
 
 def turns(job, table, allowance):
@@ -109,7 +112,7 @@ def turns(job, table, allowance):
 
 def turn_line(status, number, job):
     told = [status, number] if status == REFUSED else [status]
-    return "\t".join(map(str, (*told, job.done, job.updates)))
+    return "\t".join(map(str, (*told, job.done, job.updates, job.unsettled, job.first)))
 
 
 def box_line(word, box):
@@ -117,9 +120,10 @@ def box_line(word, box):
 
 
 def built(question):
-    """Status, refusal's number, last record and table of a question, and what each turn gave."""
-    camera, w, h, allowance = question
-    number, job = fresh(camera, w, h)
+    """Status, refusal's number, last record and table of a question, and what each turn gave. A question that doesn't
+    say is not strict."""
+    camera, w, h, allowance, *strict = question
+    number, job = fresh(camera, w, h, *strict)
     if number:
         return "not made", number, None, None, []
     assert w * h <= ROOM
@@ -173,7 +177,9 @@ LISTED = (AFFINE, 3, 2, [1.0, 1.0, 0.0, 0.0])  # the table of docs/RULES.md
 
 def by_hand():
     """Document 01's table by many allowances, the last one the largest there is; and a first turn of 0."""
-    found = by(LISTED, 1, 7, 100, 0, 2, 5, 13, 14, 15, 17, 19, 20, 21, 2**63, 2**64 - 1)
+    last, most = border(3, 2), total(3, 2)
+    about = last - 1, last, last + 1, last + 3, most - 1, most, most + 1
+    found = by(LISTED, 1, 7, 100, 0, 2, 5, *about, 2**63, 2**64 - 1)
     found += by((AFFINE, 2, 2, [1.0, 1.0, 0.0, 0.0]), 1, 0)
     found += by((AFFINE, 3, 2, [600.0, 600.0, 1.0, 0.5]), LARGE)  # the camera of the Rust's own test
     found += by((AFFINE, 3, 2, [3.0, 3.0, 0.7, 0.7]), LARGE)  # (lo + hi)/2 is not lo + (hi - lo)/2
@@ -264,6 +270,11 @@ def refused_6():
     return found
 
 
+def sample_at(w, h, u, v):
+    """The position of the first border sample at this pixel."""
+    return samples(w, h).index((u, v)) + 1
+
+
 # Jobs that end at a refused unit: the refusal's number, that unit, and the case. `test_endings` holds them to it.
 
 # With alpha 1/2 and beta 1, eucm's k is 1 - q/4: zero at a squared radius of 4, negative beyond. Both are refused.
@@ -281,10 +292,11 @@ REFUSED_SAMPLES = [
     (16, 1, (EUCM, 3, 2, [1.0, 1.0, -2.5, -0.5] + HALF_EUCM)),  # a k of 0
     (16, 1, (EUCM, 3, 2, [0.5, 1.0, 0.5, 0.5] + HALF_EUCM)),  # -1/4
     (16, 7, (EUCM, 3, 2, [1.0, 1.0, 0.5, 0.5] + HALF_EUCM)),
-    (16, 9, (EUCM, 2, 2, [1.5, 8.0, 0.5, 0.5, 1.5, 1.0])),  # 0 in the middle of the left side, and not beside it
-    (16, 10, (EUCM, 2, 2, [3.0, 8.0, -0.5, 0.5, 1.5, 1.0])),  # the same on the right side
-    (16, 9, (EUCM, 2, 2, [1.1, 16.0, 0.5, 0.5, 1.1, 1.0])),  # -0
-    (11, 9, (EUCM, 2, 2, [2.0, 8.0, 0.5, 0.5, 2.0, 1.0])),  # NaN
+    # 0 in the middle of the left side, and not beside it
+    (16, sample_at(2, 2, -0.5, 0.5), (EUCM, 2, 2, [1.5, 8.0, 0.5, 0.5, 1.5, 1.0])),
+    (16, sample_at(2, 2, 1.5, 0.5), (EUCM, 2, 2, [3.0, 8.0, -0.5, 0.5, 1.5, 1.0])),  # the same on the right side
+    (16, sample_at(2, 2, -0.5, 0.5), (EUCM, 2, 2, [1.1, 16.0, 0.5, 0.5, 1.1, 1.0])),  # -0
+    (11, sample_at(2, 2, -0.5, 0.5), (EUCM, 2, 2, [2.0, 8.0, 0.5, 0.5, 2.0, 1.0])),  # NaN
     (11, 1, (EUCM, 3, 2, [1.0, 1.0, 0.0, -0.5, 2.0, 1.0])),  # NaN at once
     (11, 1, (BC, 2, 2, [1.0, 1.0, 0.5, 0.5, 0.0, 0.0, 0.0, 0.0, 0.0, 1.0, 0.0, 0.0])),
     (11, 2, (BC, 3, 3, [1e-51, 1e-51, -1.0, -1.0] + [0.0] * 8)),  # the sixth power of a radius overflows
@@ -292,39 +304,39 @@ REFUSED_SAMPLES = [
 
 # That a last sample is refused can't be asked here: it is a corner, and unit 2w + 2 has tried that pixel.
 REFUSED_REGIONS = [
-    (8, 14, (AFFINE, 3, 2, [1.0, 1.0, 1e300, 0.0])),  # no width
-    (8, 14, (AFFINE, 3, 2, [1.0, 1.0, 0.0, -1e300])),  # no height
-    (11, 14, (AFFINE, 3, 2, [2e-308, 1.0, 0.0, 0.0])),  # the doubled width overflows
-    (11, 14, (AFFINE, 3, 2, [1.0, 2e-308, 0.0, 0.0])),
-    (11, 12, (AFFINE, 2, 2, [4e-308, 1.0, -4.5, 0.0])),  # the sum of the edges overflows
-    (11, 12, (AFFINE, 2, 2, [-4e-308, 1.0, -4.5, 0.0])),
-    (8, 14, (AFFINE, 3, 2, [1.0, 2e-308, 1e300, 0.0])),  # 8 across, 11 down
-    (8, 14, (AFFINE, 3, 2, [2e-308, 1.0, 0.0, 1e300])),  # 11 across, 8 down
-    (8, 14, (EUCM, 3, 2, [1.0, 1.0, 1e17, 0.0, 0.0, 1.0])),
-    (8, 14, (KB, 3, 2, [1e21, 1e21, 1e17, 0.0] + KB_EXAMPLE)),
-    (8, 14, (BC, 3, 2, [1e21, 1e21, 0.0, 1e17] + BC_EXAMPLE)),
+    (8, border(3, 2), (AFFINE, 3, 2, [1.0, 1.0, 1e300, 0.0])),  # no width
+    (8, border(3, 2), (AFFINE, 3, 2, [1.0, 1.0, 0.0, -1e300])),  # no height
+    (11, border(3, 2), (AFFINE, 3, 2, [2e-308, 1.0, 0.0, 0.0])),  # the doubled width overflows
+    (11, border(3, 2), (AFFINE, 3, 2, [1.0, 2e-308, 0.0, 0.0])),
+    (11, border(2, 2), (AFFINE, 2, 2, [4e-308, 1.0, -4.5, 0.0])),  # the sum of the edges overflows
+    (11, border(2, 2), (AFFINE, 2, 2, [-4e-308, 1.0, -4.5, 0.0])),
+    (8, border(3, 2), (AFFINE, 3, 2, [1.0, 2e-308, 1e300, 0.0])),  # 8 across, 11 down
+    (8, border(3, 2), (AFFINE, 3, 2, [2e-308, 1.0, 0.0, 1e300])),  # 11 across, 8 down
+    (8, border(3, 2), (EUCM, 3, 2, [1.0, 1.0, 1e17, 0.0, 0.0, 1.0])),
+    (8, border(3, 2), (KB, 3, 2, [1e21, 1e21, 1e17, 0.0] + KB_EXAMPLE)),
+    (8, border(3, 2), (BC, 3, 2, [1e21, 1e21, 0.0, 1e17] + BC_EXAMPLE)),
 ]
 
 # (upper - lower)/6 rounds up, and six times that overflows: an infinite point between finite edges
 BRINK = float.fromhex("0x1.c000000000001p-1021")
 
 REFUSED_CELLS = [
-    (12, 13, (BC, 2, 2, plain(BC, 1e60))),
-    (12, 19, (BC, 3, 3, [1.0, 1.0, -1.0, -1.0, 1e55] + [0.0] * 7)),  # the end of a row
-    (12, 13, (KB, 2, 2, [3.0, 3.0, 0.5, 0.5, 0.0, 0.0, 0.0, 1e60])),
-    (12, 13, (EUCM, 2, 2, [1.0, -1e39, 0.5, 7.5e38] + HALF_EUCM)),  # v alone is too large
-    (12, 13, (EUCM, 2, 2, [1e39, 1.0, -7.5e38, 0.5] + HALF_EUCM)),  # u alone, below zero
-    (12, 15, (EUCM, 2, 2, [1.0, 1e39, 0.5, 1e39] + HALF_EUCM)),  # a row is done, the next begins too large
-    (12, 16, (EUCM, 3, 2, [1e39, 1.0, 1e39, 0.5] + HALF_EUCM)),
-    (11, 17, (BC, 3, 3, [2.2e-51, 2.2e-51, 3.0, 3.0] + [0.0] * 8)),  # the sixth power of a radius overflows
-    (11, 22, (BC, 3, 3, [2.2e-51, 2.2e-51, -1.0, -1.0] + [0.0] * 8)),
-    (11, 25, (BC, 3, 3, [2.5e-51, 2.5e-51, -1.0, -1.0] + [0.0] * 8)),  # the same at the last cell of all
-    (11, 13, (KB, 2, 2, [1.2, 1.2, 0.5, 0.5, 0.0, 0.0, 0.0, 5e307])),  # kb's slope is infinite: theta stays
-    (11, 14, (KB, 2, 2, [3.4, 3.4, -1.618, -1.618, 0.0, 0.0, 0.0, 5e307])),  # cell 1 lies at the centre
-    (11, 22, (EUCM, 4, 3, [4.0, 4.0, 0.0, 0.0, 0.4, -0.6])),  # the root of a negative
-    (11, 29, (AFFINE, 7, 2, [BRINK, 1.0, 0.0, 0.0])),
-    (11, 31, (AFFINE, 7, 3, [-BRINK, 1.0, 6.0, 0.0])),
-    (11, 35, (AFFINE, 2, 7, [1.0, BRINK, 0.0, 3.5])),  # the same in the last row
+    (12, border(2, 2) + 1, (BC, 2, 2, plain(BC, 1e60))),
+    (12, border(3, 3) + 3, (BC, 3, 3, [1.0, 1.0, -1.0, -1.0, 1e55] + [0.0] * 7)),  # the end of a row
+    (12, border(2, 2) + 1, (KB, 2, 2, [3.0, 3.0, 0.5, 0.5, 0.0, 0.0, 0.0, 1e60])),
+    (12, border(2, 2) + 1, (EUCM, 2, 2, [1.0, -1e39, 0.5, 7.5e38] + HALF_EUCM)),  # v alone is too large
+    (12, border(2, 2) + 1, (EUCM, 2, 2, [1e39, 1.0, -7.5e38, 0.5] + HALF_EUCM)),  # u alone, below zero
+    (12, border(2, 2) + 3, (EUCM, 2, 2, [1.0, 1e39, 0.5, 1e39] + HALF_EUCM)),  # the next row begins too large
+    (12, border(3, 2) + 2, (EUCM, 3, 2, [1e39, 1.0, 1e39, 0.5] + HALF_EUCM)),
+    (11, border(3, 3) + 1, (BC, 3, 3, [2.2e-51, 2.2e-51, 3.0, 3.0] + [0.0] * 8)),  # a radius to the sixth overflows
+    (11, border(3, 3) + 6, (BC, 3, 3, [2.2e-51, 2.2e-51, -1.0, -1.0] + [0.0] * 8)),
+    (11, border(3, 3) + 9, (BC, 3, 3, [2.5e-51, 2.5e-51, -1.0, -1.0] + [0.0] * 8)),  # the same at the last cell of all
+    (11, border(2, 2) + 1, (KB, 2, 2, [1.2, 1.2, 0.5, 0.5, 0.0, 0.0, 0.0, 5e307])),  # an infinite slope: theta stays
+    (11, border(2, 2) + 2, (KB, 2, 2, [3.4, 3.4, -1.618, -1.618, 0.0, 0.0, 0.0, 5e307])),  # cell 1 lies at the centre
+    (11, border(4, 3) + 4, (EUCM, 4, 3, [4.0, 4.0, 0.0, 0.0, 0.4, -0.6])),  # the root of a negative
+    (11, border(7, 2) + 7, (AFFINE, 7, 2, [BRINK, 1.0, 0.0, 0.0])),
+    (11, border(7, 3) + 7, (AFFINE, 7, 3, [-BRINK, 1.0, 6.0, 0.0])),
+    (11, border(2, 7) + 13, (AFFINE, 2, 7, [1.0, BRINK, 0.0, 3.5])),  # the same in the last row
 ]
 
 # Two points of a border have zeros of unlike sign, as Newton ends at an angle of 0 for the first, whose tangent isn't
@@ -333,10 +345,10 @@ REFUSED_CELLS = [
 ENDS_AT_ZERO = [-22.0, 136.0, -256.0, 0.0]  # at a radius of 1/4
 
 ZERO_EDGES = [
-    (10, 12, (KB, 3, 2, [3.5, 4.0, -0.5, 0.5] + ENDS_AT_ZERO)),  # x, lower edge: -0, then +0
-    (10, 12, (KB, 3, 2, [-3.5, 4.0, -0.5, 0.5] + ENDS_AT_ZERO)),  # x, upper edge: +0, then -0
-    (10, 12, (KB, 3, 2, [4.0, 1.0, 0.5, -0.5] + ENDS_AT_ZERO)),  # y, lower edge: -0, then +0
-    (10, 12, (KB, 3, 2, [4.0, -1.0, 0.5, -0.5] + ENDS_AT_ZERO)),  # y, upper edge: +0, then -0
+    (10, sample_at(3, 2, 2.5, 0.5), (KB, 3, 2, [3.5, 4.0, -0.5, 0.5] + ENDS_AT_ZERO)),  # x, lower edge: -0, then +0
+    (10, sample_at(3, 2, 2.5, 0.5), (KB, 3, 2, [-3.5, 4.0, -0.5, 0.5] + ENDS_AT_ZERO)),  # x, upper edge: +0, then -0
+    (10, sample_at(3, 2, 2.5, 0.5), (KB, 3, 2, [4.0, 1.0, 0.5, -0.5] + ENDS_AT_ZERO)),  # y, lower edge: -0, then +0
+    (10, sample_at(3, 2, 2.5, 0.5), (KB, 3, 2, [4.0, -1.0, 0.5, -0.5] + ENDS_AT_ZERO)),  # y, upper edge: +0, then -0
 ]
 
 # Weak bc lenses with a border of exact points: 0 updates, and pixels halfway between two f32s.
@@ -359,6 +371,74 @@ MOST_UPDATES = [
     (KB, 2, 2, [1.1035, 0.9418, 0.3335, 0.5, 0.106, -0.2004, 0.0025, -0.5064]),
     (BC, 2, 2, [1.54, 1.54, 0.5, 0.5, -0.85, 0.16, 0.04, 0.07, -0.06, -0.26, 0.33, 0.9]),
 ]
+
+# Borders whose samples all have a point, and the pixels of those whose flag says no. `test_unsettled` holds them to it.
+# Found by a search over cameras with random parameters of one or two decimals, for borders of which few samples don't
+# settle; then by what Newton did there.
+UNSETTLED = [
+    # kb: after 20 updates the step isn't small yet, at an angle above 0
+    ({(-0.5, -0.5)}, (KB, 3, 2, [3.69, 7.16, 1.65, 1.64, 0.02, -0.54, 0.0, 0.0])),
+    ({(1.5, -0.5)}, (KB, 3, 2, [5.1, 5.4, 2.1, 1.5, -1.3, 0.6, 0.0, 0.0])),
+    ({(0.5, 1.5)}, (KB, 3, 2, [6.0, 1.6, 2.0, 1.7, -1.7, 1.1, 0.0, 0.0])),
+    ({(2.5, 1.5)}, (KB, 3, 2, [7.6, 4.1, -0.2, 0.4, -0.7, -0.3, 0.0, 0.0])),
+    # kb: the step is small, at an angle below 0: the mirrored branch
+    ({(-0.5, -0.5)}, (KB, 3, 2, [7.3, 7.5, 2.6, 1.8, -0.1, -1.2, 0.0, 0.0])),
+    ({(-0.5, 0.5)}, (KB, 3, 2, [7.7, 7.4, 2.4, 0.9, -0.1, -1.2, 0.0, 0.0])),
+    ({(2.5, 0.5)}, (KB, 3, 2, [7.7, 6.7, -0.2, 0.5, -0.2, -1.2, 0.0, 0.0])),
+    ({(2.5, 1.5)}, (KB, 3, 2, [5.5, 4.7, 0.7, -0.1, -0.4, -0.7, 0.0, 0.0])),
+    # kb: two far from each other
+    ({(0.5, -0.5), (2.5, 0.5)}, (KB, 3, 2, [3.6, 1.24, 0.91, 0.14, 0.06, -1.22, 0.04, 0.77])),
+    # bc: after 50 updates the step isn't small yet
+    ({(-0.5, -0.5)}, (BC, 3, 2, [2.21, 2.41, 0.69, -0.14, -0.74, -0.37, 0.0, 0.01, -0.23, 0.05, 0.0, 0.0])),
+    ({(1.5, -0.5)}, (BC, 3, 2, [1.19, 4.82, 0.65, 0.11, 0.66, -0.51, -0.02, -0.04, 0.16, -0.13, 1.0, 0.0])),
+    ({(-0.5, 0.5)}, (BC, 3, 2, [3.35, 6.74, 1.13, 1.65, -0.05, -0.87, 0.0, 0.0, -0.45, 0.0, 0.64, 0.0])),
+    ({(2.5, 0.5)}, (BC, 3, 2, [4.81, 4.11, 0.44, -0.41, -0.95, -0.07, -0.04, 0.0, 0.06, 0.0, 0.0, -0.36])),
+    ({(2.5, 1.5)}, (BC, 3, 2, [3.68, 6.69, 0.58, 1.13, 0.59, 0.52, 0.0, 0.0, -0.1, -0.49, -0.63, -0.16])),
+    ({(1.5, -0.5), (2.5, 0.5)}, (BC, 3, 2, [2.5, 3.68, -0.33, 1.44, 0.47, -0.29, 0.0, -0.03, -0.2, 0.0, 0.0, 0.09])),
+    # all of them
+    *((set(samples(*case[1:3])), case) for case in MOST_UPDATES),
+]
+
+# A sample's own refusal comes before 18: these have no point, and their searches haven't settled either.
+OWN_REFUSALS = [
+    (10, 3, (KB, 3, 2, [2.31, 6.94, 1.19, -0.33, -1.7, 1.2, 0.0, 0.2])),  # 20 updates, an angle of -2.6
+    (10, 5, (KB, 3, 2, [5.98, 5.06, -0.35, 1.29, -0.8, 0.1, 0.0, 0.0])),  # a small step, an angle of -2.45
+    (11, 1, (KB, 3, 2, [1.0, 1.0, 0.5, -0.5, -1 / 3, 0.0, 0.0, 0.0])),  # NaN
+    (11, 1, (BC, 2, 2, [1.0, 1.0, 0.5, 0.5, 0.0, 0.0, 0.0, 0.0, 0.0, 1.0, 0.0, 0.0])),
+]
+
+# A sample that didn't settle, and behind it one that is refused by its own number, which isn't counted: that number,
+# its unit, and the one of the sample that didn't settle.
+UNSETTLED_THEN_REFUSED = [
+    (10, 2, 1, (KB, 3, 2, [4.72, 7.82, 2.29, 0.79, -1.11, 0.45, -0.21, 0.32])),
+    (10, 8, 3, (KB, 3, 2, [3.3, 3.19, 0.46, 1.45, 0.93, -0.68, -0.08, -0.99])),
+    (11, 3, 2, (BC, 3, 2, [1.94, 5.08, 2.23, 1.95, -0.97, 0.47, 0.0, 0.0, 0.0, 0.0, 0.91, -0.41])),
+]
+
+
+def first_unsettled(pixels, case):
+    """The position of the first sample that lies at one of these pixels."""
+    return min(sample_at(*case[1:3], *pixel) for pixel in pixels)
+
+
+def unsettled_last(model):
+    """A case of UNSETTLED in which the last sample, and none at another pixel, doesn't settle."""
+    return next(case for pixels, case in UNSETTLED if case[0] == model and pixels == {samples(*case[1:3])[-1]})
+
+
+def strict_endings():
+    """Where strict jobs end that meet a sample whose flag says no, and those that don't come to it."""
+    found = [(18, first_unsettled(pixels, case), case) for pixels, case in UNSETTLED]
+    return found + OWN_REFUSALS + [(18, first, case) for _, _, first, case in UNSETTLED_THEN_REFUSED]
+
+
+def unsettled():
+    """Jobs that aren't strict: turns that stop before, at and behind the first such sample, and in one turn."""
+    for pixels, case in UNSETTLED:
+        first = first_unsettled(pixels, case)
+        yield from by(case, 1, first - 1, first, first + 1, LARGE)
+    for _, refused, _, case in UNSETTLED_THEN_REFUSED:
+        yield from by(case, 1, refused, LARGE)
 
 
 # ---- wild cameras
@@ -400,14 +480,14 @@ def wild(rng, model):
     return params
 
 
-def by_ending(rng, model, most, finished, tries):
+def by_ending(rng, model, most, finished, tries, strict=False):
     """2 by 2 tables: of each ending that so many tries come to at most so many, and of those that finish as many as
     said."""
     have = Counter()
     allowances = (1, 3, LARGE, 5)
     for _ in range(tries):
         params = wild(rng, model)
-        ending = stage(((model, tuple(params)), 2, 2, LARGE))
+        ending = stage(((model, tuple(params)), 2, 2, LARGE, strict))
         if ending[1] == "fresh":
             continue
         if have[ending] < (finished if ending[1] == FINISHED else most):
@@ -416,7 +496,8 @@ def by_ending(rng, model, most, finished, tries):
 
 
 def kinds():
-    """Each kind's name and its questions. The seeds differ, so that a change in one kind leaves the others."""
+    """Each kind's name and its questions, of jobs that aren't strict. The seeds differ, so that a change in one kind
+    leaves the others."""
     yield "by hand", by_hand()
     yield "64 by 48", ordinary()
     yield "16 by 9, by sevens", by_sevens()
@@ -432,23 +513,35 @@ def kinds():
     yield "halfway between two f32s", [q for case in TIES for q in by(case, 4)]
     yield "small f32s", [q for case in SMALL_CELLS for q in by(case, LARGE)]
     yield "as many updates as can be", [q for case in MOST_UPDATES for q in by(case, 1, 12, LARGE)]
+    yield "unsettled samples", unsettled()
     for model, name in enumerate(MODELS):
         yield f"{name}, wild", by_ending(Splitmix(70 + model), model, 3, 6, 3000)
 
 
+def strict_kinds():
+    """The same of strict jobs. Without an unsettled sample they are like the others."""
+    yield "strict, settled", [(model, 5, 4, 7, [9.0, 8.0, 2.0, 1.5] + params[4:]) for model, params in ORDINARY]
+    yield "strict, refused at a sample", each_way(strict_endings())
+    yield "strict, refused at unit B", each_way(REFUSED_REGIONS[-2:])
+    for model in (KB, BC):
+        yield f"{MODELS[model]}, wild, strict", by_ending(Splitmix(74 + model), model, 3, 6, 2000, True)
+
+
 def bad_lines():
-    """Lines of 272 bytes that are not of the form: the program reads so many at a time. The last one is of the
+    """Lines of 289 bytes that are not of the form: the program reads so many at a time. The last one is of the
     form, and is bad because `main` cuts its end off."""
     model, w, h, params = LISTED
     good = question_line(model, w, h, LARGE, patterns(params))
-    bad = [" " * 271, "\t" * 271, good.replace("\t", " ")]
+    bad = [" " * (LINE - 1), "\t" * (LINE - 1), good.replace("\t", " ")]
     fields = good.split("\t")
-    one = fields[4]
-    # the model: the first number past the last, and large ones that fit again once high bits are lost
+    one = fields[5]
+    # the model, and the mark: the first number past the last, and large ones that fit again once high bits are lost
     for wrong in (4, 2**8, 2**32, 2**63):
         bad.append("\t".join([f"{wrong:016x}"] + fields[1:]))
+    for wrong in (2, 2**8 + 1, 2**32, 2**63 + 1):
+        bad.append("\t".join(fields[:4] + [f"{wrong:016x}"] + fields[5:]))
     bad += misspelled(fields, one)
-    assert all(len(line) == 271 for line in bad)
+    assert all(len(line) == LINE - 1 for line in bad)
     return bad + [good]
 
 
@@ -473,7 +566,7 @@ def value32(bits):
 
 def cell_kinds(question, job, table):
     """What can be said of the f32s of the cells done."""
-    camera, w, h, _ = question
+    camera, w, h, *_ = question
     for i in range(max(job.done - border(w, h), 0)):
         v, u = divmod(i, w)
         pixel = answer(camera[0], DISTORT, camera[1], *cell_point(job.region, w, h, u, v))[1]
@@ -492,10 +585,10 @@ def cell_kinds(question, job, table):
 def ask():
     """The lines of stdin and of stdout, each question once, and what is to be said about them."""
     asked, answers, said = {}, [], Counter()
-    for kind, questions in kinds():
+    for kind, questions, strict in [(*k, False) for k in kinds()] + [(*k, True) for k in strict_kinds()]:
         before = len(asked)
         for model, w, h, allowance, params in questions:
-            line = question_line(model, w, h, allowance, patterns(params))
+            line = question_line(model, w, h, allowance, patterns(params), strict)
             if line in asked:
                 continue
             asked[line] = kind
@@ -511,10 +604,20 @@ def ask():
                 for word in cell_kinds(question, job, table):
                     said["cells", word] += 1
                 most = LIMITS[model] * border(w, h)
+                if job.unsettled:
+                    said["unsettled", MODELS[model], job.first == 1, job.done >= border(w, h)] += 1
                 if most and job.done >= border(w, h):
                     said["updates", MODELS[model]] = max(said["updates", MODELS[model]], job.updates / most)
         said["kind", kind] = len(asked) - before
     return list(asked), answers, said
+
+
+UNSETTLED_PLACES = (
+    ("from the first on", (True, True)),
+    ("from a later one on", (False, True)),
+    ("from the first on, the border not done", (True, False)),
+    ("from a later one on, the border not done", (False, False)),
+)
 
 
 def summary(said, count, bad):
@@ -538,6 +641,10 @@ def summary(said, count, bad):
             say(f"{n:7} {'cells done' if key[1] == 'done' else key[1]}")
     for name in ("kb", "bc"):
         say(f"updates of a whole {name} border, at most: {said['updates', name]:.3f} of the limit")
+    for name in ("kb", "bc"):
+        some = {words: said["unsettled", name, *place] for words, place in UNSETTLED_PLACES}
+        say(f"{name}, tables with unsettled samples:", ", ".join(f"{n} {words}" for words, n in some.items()))
+        assert all(some.values()), name
     say(f"\n{count} questions, {bad} bad lines")
     # every number that a job can be refused with, at each place where it can be
     everywhere = [(4, "fresh"), (5, "fresh"), (6, "fresh"), (11, "unit 1"), (11, "a sample"), (8, "unit B")]
@@ -545,6 +652,7 @@ def summary(said, count, bad):
     wanted = [(name, *ending) for name in MODELS for ending in everywhere]
     wanted += [("kb", 10, "unit 1"), ("kb", 10, "a sample"), ("affine", 11, "unit B")]
     wanted += [("eucm", 16, "unit 1"), ("eucm", 16, "a sample")]
+    wanted += [(name, 18, place) for name in ("kb", "bc") for place in ("unit 1", "a sample")]
     wanted += [(name, *ending) for name in MODELS[1:] for ending in ((11, "cell 1"), (12, "cell 1"), (12, "a cell"))]
     for ending in wanted:
         assert said[("ending", *ending)], ending
@@ -577,7 +685,8 @@ ENDINGS = REFUSED_SAMPLES + REFUSED_REGIONS + REFUSED_CELLS + ZERO_EDGES
 
 def cases():
     """Cases of all kinds, those that finish and those that don't, none of them large."""
-    found = [LISTED] + [case for _, _, case in ENDINGS] + TIES + SMALL_CELLS + MOST_UPDATES
+    found = [LISTED] + [case for _, _, case in ENDINGS + OWN_REFUSALS] + TIES + SMALL_CELLS
+    found += [case for _, case in UNSETTLED] + [case for *_, case in UNSETTLED_THEN_REFUSED]
     found += [(model, w, h, params) for model, w, h, _, params in by_sevens() + narrow_and_flat()]
     for model in range(4):
         rng = Splitmix(80 + model)
@@ -585,10 +694,10 @@ def cases():
     return [case for case in found if fresh((case[0], tuple(case[3])), *case[1:3])[0] == 0]
 
 
-def started(case):
+def started(case, strict=False):
     """The fresh record of a case, and a table in which no two places hold the same."""
     model, w, h, params = case
-    number, job = fresh((model, tuple(params)), w, h)
+    number, job = fresh((model, tuple(params)), w, h, strict)
     assert number == 0
     return job, list(range(2 * w * h))
 
@@ -596,7 +705,7 @@ def started(case):
 def test_listing():
     job, table = started(LISTED)
     assert (border(3, 2), total(3, 2)) == (14, 20) and samples(3, 2) == LISTED_BORDER
-    end = Job(job.camera, 3, 2, 20, (-0.5, -0.5, 2.5, 1.5), (-2.0, -1.5, 4.0, 2.5), 0)
+    end = Job(job.camera, 3, 2, total(3, 2), (-0.5, -0.5, 2.5, 1.5), (-2.0, -1.5, 4.0, 2.5), 0)
     assert turn(job, table, 100) == (FINISHED, 0, end)
     assert increments((-2.0, -1.5, 4.0, 2.5), 3, 2) == (3.0, 4.0)
     _, _, job, table, _ = built(read(question_line(AFFINE, 3, 2, 100, patterns(LISTED[3])) + "\n"))
@@ -607,27 +716,28 @@ def test_listing():
 
 
 def test_allowances():
-    """The same table for every allowance, the units done after each turn, and the cells after 14 and 17 units."""
+    """The same table for every allowance, the units done after each turn, and the cells after the border and a row."""
+    last, most = border(3, 2), total(3, 2)
     job, whole = started(LISTED)
     _, _, end = turn(job, whole, 100)
-    for allowance in range(1, 22):
+    for allowance in range(1, most + 2):
         job, table = started(LISTED)
         before = list(table)
         for n, (status, number, job) in enumerate(turns(job, table, allowance), 1):
-            assert job.done == min(n * allowance, 20) and number == 0
-            assert status == (FINISHED if job.done == 20 else RUNNING)
-            cells = max(job.done - 14, 0)
+            assert job.done == min(n * allowance, most) and number == 0
+            assert status == (FINISHED if job.done == most else RUNNING)
+            cells = max(job.done - last, 0)
             assert table[: 2 * cells] == whole[: 2 * cells] and table[2 * cells :] == before[2 * cells :]
-        assert job == end and n == -(-20 // allowance)
+        assert job == end and n == -(-most // allowance)
     job, table = started(LISTED)
     before = list(table)
     assert turn(job, table, 0) == (RUNNING, 0, job) and table == before
-    _, _, job = turn(job, table, 14)
+    _, _, job = turn(job, table, last)
     assert table == before and job.region == (-2.0, -1.5, 4.0, 2.5)
     _, _, job = turn(job, table, 3)
     assert table == whole[:6] + before[6:]
     assert turn(end, whole, 0) == turn(end, whole, 5) == (FINISHED, 0, end)
-    print("allowances: 1 to 21")
+    print(f"allowances: 1 to {most + 1}")
 
 
 def test_by_hand():
@@ -662,63 +772,103 @@ def test_by_hand():
 def test_endings():
     """Each refusing case ends where its list says. The unit that refuses leaves record and table as they were, however
     often it is tried; and an allowance that ends ahead of it doesn't meet it."""
-    for number, refused, case in ENDINGS:
-        job, table = started(case)
+    tried = [(*ending, False) for ending in ENDINGS + OWN_REFUSALS]
+    tried += [(number, refused, case, False) for number, refused, _, case in UNSETTLED_THEN_REFUSED]
+    tried += [(*ending, True) for ending in strict_endings() + REFUSED_REGIONS[-2:]]
+    for number, refused, case, strict in tried:
+        job, table = started(case, strict)
         assert turn(job, table, refused - 1)[:2] == (RUNNING, 0), case
-        _, _, job = turn(*started(case), refused - 1)
+        _, _, job = turn(*started(case, strict), refused - 1)
         assert job.done == refused - 1
         before = list(table)
         assert unit(job) == (number, None, None), (case, unit(job))
         for allowance in (1, 2, LARGE):
             assert turn(job, table, allowance) == (REFUSED, number, job) and table == before
         assert turn(job, table, 0) == (RUNNING, 0, job)
-        again, other = started(case)
+        again, other = started(case, strict)
         assert turn(again, other, LARGE) == (REFUSED, number, job) and other == before
-    print("refused units:", len(ENDINGS))
+        assert not strict or (job.unsettled, job.first) == (0, 0)
+    print("refused units:", len(tried))
+
+
+def test_unsettled():
+    """Which samples have a flag that says no, and what a job that isn't strict says of them in the end."""
+    for pixels, case in UNSETTLED:
+        model, w, h, params = case
+        assert flags((model, tuple(params)), w, h) == [pixel not in pixels for pixel in samples(w, h)], case
+        status, _, end = turn(*started(case), LARGE)
+        count = sum(pixel in pixels for pixel in samples(w, h))
+        assert (status, end.unsettled, end.first) == (FINISHED, count, first_unsettled(pixels, case)), case
+    for number, refused, first, case in UNSETTLED_THEN_REFUSED:
+        _, _, end = turn(*started(case), LARGE)
+        assert (end.done, end.unsettled, end.first) == (refused - 1, 1, first), case
+    # by hand: three flags that say no of five
+    assert tallies([True, False, True, False, False]) == (3, 2) and tallies([True]) == tallies([]) == (0, 0)
+    print("unsettled samples:", len(UNSETTLED) + len(UNSETTLED_THEN_REFUSED))
+
+
+def ending(case, strict):
+    """Where a job ends by the definition: the units done and the number. Of a strict job that is the first sample whose
+    flag says no, unless one before it has no point."""
+    model, w, h, params = case
+    job, table = started(case)
+    _, number, end = turn(job, table, LARGE)
+    _, first = tallies(flags((model, tuple(params)), w, h))
+    return (first - 1, 18) if strict and first else (end.done, number)
+
+
+def hold_split(case, strict, rng):
+    """Demand 3: allowances of any kind, zeros among them. Done is the smaller of their sum and F; the cells done are
+    those of the Rust's function, all others untouched; the updates are the sum over the samples done, count and first
+    those of their flags."""
+    model, w, h, params = case
+    camera = model, tuple(params)
+    job, one_go = started(case, strict)
+    untouched = list(one_go)
+    status, number, end = turn(job, one_go, LARGE)
+    assert (end.done, number) == ending(case, strict)
+    rust_number, rust_region, rust_table = distort_table(camera, w, h)
+    if number != 18:
+        assert rust_number == number
+    if number == 0:
+        # a repr tells one zero from the other
+        assert repr(rust_region) == repr(end.region) and rust_table == one_go
+    each, told_flags = [], flags(camera, w, h)
+    for u, v in samples(w, h)[: end.done]:
+        each.append(answer(model, UNDISTORT, params, u, v)[1][2])
+    assert all(n <= LIMITS[model] for n in each)
+    job, table = started(case, strict)
+    spent = 0
+    while True:
+        allowance = (0, 1, 2, rng.below(9), rng.below(total(w, h)))[rng.below(5)]
+        spent += allowance
+        told, refusal, job = turn(job, table, allowance)
+        assert job.done == min(spent, end.done) and job.updates == sum(each[: job.done]) and job.strict == strict
+        assert (job.unsettled, job.first) == tallies(told_flags[: job.done])
+        cells = 2 * max(job.done - border(w, h), 0)
+        assert table[:cells] == one_go[:cells] and table[cells:] == untouched[cells:]
+        assert call_refused(job, table) == 0
+        if spent > end.done or job.done == total(w, h):
+            assert (told, refusal) == (status, number)
+            break
+        assert (told, refusal) == (RUNNING, 0)
+    assert repr(job) == repr(end)
+    return status, number
 
 
 def test_splits():
-    """Demand 3: allowances of any kind, zeros among them. Done is the smaller of their sum and F; the cells done are
-    those of the Rust's function, all others untouched; the updates are the sum over the samples done."""
     rng, tried = Splitmix(90), Counter()
     for case in cases():
-        model, w, h, params = case
-        job, one_go = started(case)
-        untouched = list(one_go)
-        status, number, end = turn(job, one_go, LARGE)
-        rust_number, rust_region, rust_table = distort_table((model, tuple(params)), w, h)
-        assert rust_number == number
-        if number == 0:
-            # a repr tells one zero from the other
-            assert repr(rust_region) == repr(end.region) and rust_table == one_go
-        each = []
-        for u, v in samples(w, h)[: end.done]:
-            each.append(answer(model, UNDISTORT, params, u, v)[1][2])
-        assert all(n <= LIMITS[model] for n in each)
-        job, table = started(case)
-        spent = 0
-        while True:
-            allowance = (0, 1, 2, rng.below(9), rng.below(total(w, h)))[rng.below(5)]
-            spent += allowance
-            told, refusal, job = turn(job, table, allowance)
-            assert job.done == min(spent, end.done) and job.updates == sum(each[: job.done])
-            cells = 2 * max(job.done - border(w, h), 0)
-            assert table[:cells] == one_go[:cells] and table[cells:] == untouched[cells:]
-            assert call_refused(job, table) == 0
-            if spent > end.done or job.done == total(w, h):
-                assert (told, refusal) == (status, number)
-                break
-            assert (told, refusal) == (RUNNING, 0)
-        assert repr(job) == repr(end)
-        tried[status, number] += 1
+        for strict in (False, True):
+            tried[*hold_split(case, strict, rng), "strict" if strict else "not strict"] += 1
     print("split into turns:", dict(tried))
 
 
 def test_admitted():
-    """Every record that a build can have is admitted: those of all cases, unit by unit."""
+    """Every record that a build can have is admitted: those of all cases, unit by unit, every third job strict."""
     tried = 0
-    for case in cases():
-        job, table = started(case)
+    for n, case in enumerate(cases()):
+        job, table = started(case, n % 3 == 0)
         while True:
             assert turn(job, table, 0) == (FINISHED if job.done == total(*case[1:3]) else RUNNING, 0, job)
             tried += 1
@@ -752,6 +902,7 @@ def test_impossible():
         last, most, limit = border(w, h), total(w, h), LIMITS[model]
         job, table = started(case)
         _, _, end = turn(job, table, LARGE)
+        end = replace(end, unsettled=0, first=0)
         # done
         tell(0, replace(end, done=most), table)
         for done in (most + 1, 2**32, 2**64 - 1):
@@ -761,6 +912,19 @@ def test_impossible():
             tell(0, replace(end, done=done, updates=limit * min(done, last)), table)
             tell(13, replace(end, done=done, updates=limit * min(done, last) + 1), table)
             tell(13, replace(end, done=done, updates=2**64 - 1), table)
+        # count and first: at most the samples done, both or neither, and none of them in a strict record
+        for done in (0, 1, 2, last - 1, last, last + 1, most):
+            here, some = replace(end, done=done, updates=0), min(done, last)
+            tell(0, replace(here, strict=True), table)
+            for count, first in ((1, 1), (1, some), (some, 1), (some, some)):
+                tell(0 if some else 13, replace(here, unsettled=count or 1, first=first or 1), table)
+                tell(13, replace(here, unsettled=count or 1, first=first or 1, strict=True), table)
+            for count, first in ((some + 1, 1), (1, some + 1), (0, 1), (0, some + 1), (1, 0), (some + 1, 0)):
+                tell(13, replace(here, unsettled=count, first=first), table)
+                tell(13, replace(here, unsettled=count, first=first, strict=True), table)
+            for far in (2**32 - 1, 2**64 - 1):
+                tell(13, replace(here, unsettled=far, first=1), table)
+                tell(13, replace(here, unsettled=1, first=far), table)
         # edges, however few units are done
         for place in range(4):
             for wrong in (nan, inf, -inf):
@@ -802,26 +966,32 @@ def test_impossible():
 def test_carried():
     """What a record brings along: edges are overwritten by sample 1, a region by unit B. Unit B tells its sample's
     refusal ahead of the increments', and 8 ahead of 11."""
+    before_last = border(3, 2) - 1
     job, table = started(LISTED)
     odd = replace(job, edges=(7.0, 7.0, -7.0, -7.0), region=(9.0, 8.0, 7.0, 6.0))
     _, _, after = turn(odd, table, 1)
     assert after.edges == (-0.5, -0.5, -0.5, -0.5) and after.region == (9.0, 8.0, 7.0, 6.0)
-    _, _, after = turn(odd, table, 13)
+    _, _, after = turn(odd, table, before_last)
     assert after.region == (9.0, 8.0, 7.0, 6.0)
-    assert turn(odd, table, 14)[2].region == (-2.0, -1.5, 4.0, 2.5)
-    # edges handed in inside out: sample 14 is (2.5, 1.5), and all four edges move there, so the region has no width.
+    assert turn(odd, table, before_last + 1)[2].region == (-2.0, -1.5, 4.0, 2.5)
+    # edges handed in inside out: all four move to the last sample's point, so the region has no width.
     # No record brings a negative increment to unit B, as its sample always ends up between the edges.
-    inside_out = replace(job, done=13, edges=(20.0, 20.0, -20.0, -20.0))
+    inside_out = replace(job, done=before_last, edges=(20.0, 20.0, -20.0, -20.0))
     assert turn(inside_out, table, 1) == (REFUSED, 8, inside_out)
     assert extended((20.0, 20.0, 10.0, 10.0), 2.5, 1.5) == (2.5, 1.5, 10.0, 10.0)
     assert region_of((2.5, 1.5, 10.0, 10.0)) == (-1.25, -2.75, 13.75, 14.25)
+    # the last sample of a strict job: its flag says no, and the edges alone would give 8
+    strict, cells = started(unsettled_last(KB), True)
+    here = replace(strict, done=before_last, edges=(9.0, 9.0, -9.0, -9.0))
+    assert turn(here, cells, 1) == (REFUSED, 18, here)
+    assert turn(replace(here, strict=False), cells, 1)[1] == 8
     # the corner is refused 10, and the edges alone would give 8 or 11
     for edges in (ZEROS, (-1e308, -1e308, 1e308, 1e308)):
-        steep = Job((KB, tuple(plain(KB))), 3, 2, 13, edges)
+        steep = Job((KB, tuple(plain(KB))), 3, 2, before_last, edges)
         assert turn(steep, table, 1) == (REFUSED, 10, steep)
-    narrow_and_wide = replace(job, done=13, edges=(2.5, -1e308, 2.5, 1e308))
+    narrow_and_wide = replace(job, done=before_last, edges=(2.5, -1e308, 2.5, 1e308))
     assert turn(narrow_and_wide, table, 1) == (REFUSED, 8, narrow_and_wide)
-    wide = replace(job, done=13, edges=(-1e308, -0.5, 1e308, 1.5))
+    wide = replace(job, done=before_last, edges=(-1e308, -0.5, 1e308, 1.5))
     assert turn(wide, table, 1) == (REFUSED, 11, wide)
     print("records from elsewhere: as said")
 
@@ -846,18 +1016,18 @@ def test_lines():
     bad = bad_lines()
     assert all(read(line + "\n") is None for line in bad[:-1]) and read(bad[-1]) is None and read(bad[-1] + "\n")
     line = question_line(AFFINE, 3, 2, 19, patterns(LISTED[3])) + "\n"
-    assert len(line) == 272
+    assert len(line) == LINE
     lines = reply(line)
-    assert lines[:3] == ["fresh", "running\t19\t0", "finished\t20\t0"] and len(lines) == 6
+    assert lines[:3] == ["fresh", "running\t19\t0\t0\t0", "finished\t20\t0\t0\t0"] and len(lines) == 6
     assert lines[3] == "edges\tbfe0000000000000\tbfe0000000000000\t4004000000000000\t3ff8000000000000"
     listed = LISTING.split("\n")
     assert lines[4].replace("\t", " ") == listed[1]
     assert lines[5].split("\t") == ["table"] + [z for text in listed[2:] for z in text.split(" ")[3:]]
     line = question_line(AFFINE, 3, 2, 0, patterns(LISTED[3])) + "\n"
     zeros, untouched = "\t0000000000000000" * 4, "table" + "\t3f000000" * 12
-    assert reply(line) == ["fresh", "running\t0\t0", "edges" + zeros, "region" + zeros, untouched]
+    assert reply(line) == ["fresh", "running\t0\t0\t0\t0", "edges" + zeros, "region" + zeros, untouched]
     line = question_line(AFFINE, 3, 2, 1000, patterns([1.0, 1.0, 1e300, 0.0])) + "\n"
-    assert reply(line)[1] == "refused\t8\t13\t0" and reply(line)[-1] == untouched
+    assert reply(line)[1] == "refused\t8\t13\t0\t0\t0" and reply(line)[-1] == untouched
     line = question_line(AFFINE, 1, 2, 0, patterns(LISTED[3])) + "\n"
     assert reply(line) == ["refused\t6"]
     print("lines: as said")
@@ -868,6 +1038,7 @@ def self_test():
     test_allowances()
     test_by_hand()
     test_endings()
+    test_unsettled()
     test_splits()
     test_admitted()
     test_impossible()

@@ -7,7 +7,16 @@ extern "C" {
     fn lens_root(x: f64) -> f64;
     fn lens_arctangent(x: f64) -> f64;
     fn lens_tangent(theta: f64, answer: *mut u8, lent: usize) -> u8;
-    fn lens_job_new(model: u8, params: *const u8, handed: usize, width: u32, height: u32, job: *mut u8, lent: usize) -> u8;
+    fn lens_job_new(
+        model: u8,
+        params: *const u8,
+        handed: usize,
+        width: u32,
+        height: u32,
+        strict: u8,
+        job: *mut u8,
+        lent: usize,
+    ) -> u8;
     fn lens_turn(
         job: *mut u8,
         job_lent: usize,
@@ -62,8 +71,8 @@ pub fn tangent(theta: f64) -> Result<f64, u8> {
     }
 }
 
-pub fn job_new(model: u8, params: &[u8], size: [u32; 2], job: &mut [u8]) -> u8 {
-    unsafe { lens_job_new(model, params.as_ptr(), params.len(), size[0], size[1], job.as_mut_ptr(), job.len()) }
+pub fn job_new(model: u8, params: &[u8], size: [u32; 2], strict: u8, job: &mut [u8]) -> u8 {
+    unsafe { lens_job_new(model, params.as_ptr(), params.len(), size[0], size[1], strict, job.as_mut_ptr(), job.len()) }
 }
 
 /// The table's floats are kept as their bits, so that a NaN is compared by its payload too.

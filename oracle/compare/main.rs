@@ -26,7 +26,7 @@ const OPERATIONS: [&str; 4] = ["distort", "undistort", "dx_distort_x", "dx_disto
 const SHOWN: u64 = 20;
 
 /// Room for every refusal's number.
-const NUMBERS: usize = 17;
+const NUMBERS: usize = 19;
 
 /// What the largest angle that has a tangent was before request P7.
 const LIMIT_BEFORE: f64 = 1.5;

@@ -3,14 +3,17 @@ use crate::judge::camera_refused;
 use crate::tables::increments_number;
 use rust_text::COUNTS;
 
-pub const BYTES: usize = 192;
+pub const BYTES: usize = 208;
+/// Where count and first of the samples that haven't settled stand, and the strict mark.
+pub const TALLIES: usize = 184;
+pub const MARK: usize = 192;
 /// Where the check word stands, and what it is for words that are all 0: "LENSJOB1".
-const CHECK: usize = 184;
+const CHECK: usize = 200;
 const CHECK_OF_ZEROS: u64 = 0x31424f4a534e454c;
 /// Where the region stands, and its length.
 pub const REGION: usize = 152;
 pub const REGION_BYTES: usize = 32;
-pub const ANSWER_BYTES: usize = 32;
+pub const ANSWER_BYTES: usize = 48;
 /// The most updates that one sample takes, by model.
 pub const LIMITS: [u64; 4] = [0, 0, 20, 50];
 
@@ -24,6 +27,9 @@ pub struct Record {
     pub done: u64,
     pub edges: [f64; 4],
     pub region: [f64; 4],
+    pub unsettled: u32,
+    pub first: u32,
+    pub strict: u64,
 }
 
 fn word(bytes: &[u8], at: usize) -> u64 {
@@ -53,10 +59,11 @@ fn check_of(bytes: &[u8]) -> u64 {
 }
 
 impl Record {
-    /// Zeros for all but the camera and the size.
-    pub fn fresh(model: usize, params: [f64; 12], size: [u32; 2]) -> Record {
-        let [width, height] = size;
-        Record { model: model as u32, updates: 0, params, width, height, done: 0, edges: [0.0; 4], region: [0.0; 4] }
+    /// Zeros for all but the camera, the size and the strict mark.
+    pub fn fresh(model: usize, params: [f64; 12], size: [u32; 2], strict: u8) -> Record {
+        let ([width, height], strict, box_of_zeros) = (size, strict as u64, [0.0; 4]);
+        let (edges, region) = (box_of_zeros, box_of_zeros);
+        Record { model: model as u32, updates: 0, params, width, height, done: 0, edges, region, unsettled: 0, first: 0, strict }
     }
 
     /// Behind the model's own parameters stand zeros.
@@ -71,6 +78,8 @@ impl Record {
         bytes.extend(self.done.to_le_bytes());
         bytes.extend(bytes_of(&self.edges));
         bytes.extend(bytes_of(&self.region));
+        bytes.extend(halves(self.unsettled, self.first));
+        bytes.extend(self.strict.to_le_bytes());
         bytes.resize(BYTES, 0);
         seal(&mut bytes);
         bytes
@@ -86,11 +95,18 @@ impl Record {
             done: word(bytes, 112),
             edges: floats(bytes, 120),
             region: floats(bytes, REGION),
+            unsettled: half(bytes, TALLIES),
+            first: half(bytes, TALLIES + 4),
+            strict: word(bytes, MARK),
         }
     }
 
     pub fn border(&self) -> u64 {
         2 * (self.width as u64 + self.height as u64) + 4
+    }
+
+    pub fn samples_done(&self) -> u64 {
+        self.done.min(self.border())
     }
 
     pub fn all(&self) -> u64 {
@@ -103,18 +119,23 @@ impl Record {
     }
 
     pub fn answer(&self, status: u64) -> Vec<u8> {
-        [status, self.done, self.all(), self.updates as u64].iter().flat_map(|x| x.to_le_bytes()).collect()
+        let told = [status, self.done, self.all(), self.updates as u64, self.unsettled as u64, self.first as u64];
+        told.iter().flat_map(|x| x.to_le_bytes()).collect()
     }
 
     /// 13.5, of a record that is right otherwise.
     fn of_no_build(&self) -> bool {
-        let samples = self.done.min(self.border());
+        let samples = self.samples_done();
         let [left, top, right, bottom] = self.region;
         let increments = [(right - left) / (self.width - 1) as f64, (bottom - top) / (self.height - 1) as f64];
         self.done > self.all()
             || self.updates as u64 > LIMITS[self.model as usize] * samples
             || self.edges.iter().any(|x| !x.is_finite())
             || self.done >= self.border() && increments_number(increments) != 0
+            || self.unsettled as u64 > samples
+            || self.first as u64 > samples
+            || (self.unsettled == 0) != (self.first == 0)
+            || self.strict == 1 && self.unsettled != 0
     }
 }
 
@@ -136,7 +157,7 @@ pub fn refusal(job: &[u8], places: usize, answer_length: usize) -> u8 {
         Some(number) => number,
         None if !sized(held.width, held.height) => 6,
         None if places as u64 != 2 * held.width as u64 * held.height as u64 || answer_length != ANSWER_BYTES => 7,
-        None if held.of_no_build() || word(job, CHECK) != check_of(job) => 13,
+        None if held.of_no_build() || held.strict > 1 || word(job, CHECK) != check_of(job) => 13,
         None => 0,
     }
 }

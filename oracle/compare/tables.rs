@@ -14,6 +14,7 @@ use std::rc::Rc;
 const NAMES: [&str; 4] = ["affine", "eucm", "kb", "bc"];
 
 /// What a camera file asks for.
+#[derive(Clone)]
 pub struct Asked {
     pub model: usize,
     pub params: Vec<f64>,
@@ -26,6 +27,7 @@ pub struct Asked {
 pub struct Sample {
     pub point: [f64; 2],
     pub updates: u32,
+    pub settled: bool,
     pub number: u8,
 }
 
@@ -83,7 +85,7 @@ impl Lens for Noting {
             _ if !finite(point) => 11,
             _ => 0,
         };
-        self.notes.borrow_mut().samples.push(Sample { point, updates: trace.updates, number });
+        self.notes.borrow_mut().samples.push(Sample { point, updates: trace.updates, settled: trace.settled(), number });
         point
     }
 }
@@ -99,11 +101,14 @@ pub struct Built {
 }
 
 impl Built {
-    /// How many units come before the first that is refused, and its number: 0 if none is.
-    pub fn end(&self) -> (usize, u8) {
+    /// How many units come before the first that is refused, and its number: 0 if none is. In a strict job a sample that has
+    /// a point is refused if it hasn't settled.
+    pub fn end(&self, strict: bool) -> (usize, u8) {
         let border = self.samples.len();
-        if let Some(i) = self.samples.iter().position(|s| s.number != 0) {
-            return (i, self.samples[i].number);
+        let unsettled = |s: &Sample| strict && !s.settled;
+        if let Some(i) = self.samples.iter().position(|s| s.number != 0 || unsettled(s)) {
+            let own = self.samples[i].number;
+            return (i, if own != 0 { own } else { 18 });
         }
         let spread = increments_number(self.increments);
         if spread != 0 {
@@ -178,7 +183,7 @@ impl Asked {
             return refused(6);
         }
         let built = self.built();
-        let (_, number) = built.end();
+        let (_, number) = built.end(false);
         if number != 0 {
             return refused(number);
         }

@@ -45,13 +45,35 @@ pub struct Tally {
     turns_refused: [u64; NUMBERS],
     calls_refused: [u64; NUMBERS],
     taken: u64,
+    unsettled: Unsettled,
+}
+
+/// Of the tables that aren't strict, those whose borders are done: where the first sample stands that hasn't settled (none, the
+/// first of all, a later one), in how many the last one hasn't, and all such samples. And strict builds: all, and those finished.
+#[derive(Default)]
+struct Unsettled {
+    first: [u64; 3],
+    last: u64,
+    samples: u64,
+    strict: [u64; 2],
+}
+
+/// What samples found: the edges of their points, zeros before the first, the updates, and of those that haven't settled the
+/// count and the position of the first.
+#[derive(Clone, Copy, Default)]
+struct Swept {
+    edges: [f64; 4],
+    updates: u32,
+    unsettled: u32,
+    first: u32,
 }
 
 struct Build {
     asked: Asked,
+    strict: bool,
     built: Built,
-    /// After so many samples: the edges and the updates.
-    swept: Vec<([f64; 4], u32)>,
+    /// After so many samples.
+    swept: Vec<Swept>,
     /// The units before the first that is refused, and its number or 0.
     end: (usize, u8),
     done: usize,
@@ -59,15 +81,20 @@ struct Build {
     owed: Kept,
 }
 
-/// After each count of samples: the edges of their points, zeros before the first, and the updates.
-fn swept(built: &Built) -> Vec<([f64; 4], u32)> {
-    let (mut edges, mut updates) = (BoxRegion::<2>::empty(), 0);
-    let mut after = vec![([0.0; 4], 0)];
-    for sample in &built.samples {
+/// After each count of samples.
+fn swept(built: &Built) -> Vec<Swept> {
+    let (mut edges, mut now) = (BoxRegion::<2>::empty(), Swept::default());
+    let mut after = vec![now];
+    for (i, sample) in built.samples.iter().enumerate() {
         edges.extend(VecF64::<2>::new(sample.point[0], sample.point[1]));
-        updates += sample.updates;
+        now.updates += sample.updates;
+        if !sample.settled {
+            now.unsettled += 1;
+            now.first = if now.first == 0 { i as u32 + 1 } else { now.first };
+        }
         let (lower, upper) = (edges.try_lower().unwrap(), edges.try_upper().unwrap());
-        after.push(([lower.x, lower.y, upper.x, upper.y], updates));
+        now.edges = [lower.x, lower.y, upper.x, upper.y];
+        after.push(now);
     }
     after
 }
@@ -76,16 +103,19 @@ impl Build {
     /// The record after the units done.
     fn record(&self) -> Record {
         let border = self.built.samples.len();
-        let (edges, updates) = self.swept[self.done.min(border)];
+        let swept = self.swept[self.done.min(border)];
         Record {
             model: self.asked.model as u32,
-            updates,
+            updates: swept.updates,
             params: self.asked.twelve(),
             width: self.asked.width as u32,
             height: self.asked.height as u32,
             done: self.done as u64,
-            edges,
+            edges: swept.edges,
             region: if self.done < border { [0.0; 4] } else { self.built.region },
+            unsettled: swept.unsettled,
+            first: swept.first,
+            strict: self.strict as u64,
         }
     }
 
@@ -124,8 +154,9 @@ impl Build {
         }
         let at = |place: Option<isize>| place.map_or("the same".to_string(), |p| format!("differs at {}", p));
         Err(format!(
-            "{:?}, to unit {}, {}: gave {}, owed {}; job {}, table {}, answer {}",
+            "{:?}{}, to unit {}, {}: gave {}, owed {}; job {}, table {}, answer {}",
             self.asked.text(),
+            if self.strict { ", strict" } else { "" },
             self.done,
             what,
             given,
@@ -207,8 +238,9 @@ fn damage_of_record(r: &mut Random, held: &Record) -> (usize, usize, u64) {
     let unfinished = damage::unfinished(r).to_bits();
     let any = r.bits();
     let count = COUNTS[held.model as usize];
-    let limit = record::LIMITS[held.model as usize] * held.done.min(held.border());
-    match r.below(12) {
+    let samples = held.samples_done();
+    let limit = record::LIMITS[held.model as usize] * samples;
+    match r.below(16) {
         0 => (0, 4, [4, 255, 256, 1 << 31, any, any % 4][r.below(6)]),
         1 => (8 + 8 * r.below(count), 8, unfinished),
         2 => (8 + 8 * r.below(2), 8, [0, 1 << 63][r.below(2)]),
@@ -221,6 +253,13 @@ fn damage_of_record(r: &mut Random, held: &Record) -> (usize, usize, u64) {
         9 => (record::REGION + 8 * r.below(4), 8, unfinished),
         // an edge where another is, or far off
         10 => (record::REGION + 8 * r.below(4), 8, held.region[r.below(4)].to_bits()),
+        // count and first, both or one
+        11 | 12 => {
+            let tally = [0, 1, samples.max(1), samples + 1, u32::MAX as u64];
+            (record::TALLIES, 8, tally[r.below(5)] | tally[r.below(5)] << 32)
+        }
+        13 => (record::TALLIES + 4 * r.below(2), 4, [0, 1, samples, samples + 1, any][r.below(5)]),
+        14 => (record::MARK, 8, [0, 1, 1, 2, 255, 1 << 32, any][r.below(7)]),
         _ => (record::REGION + 8 * r.below(4), 8, [f64::MAX, f64::MIN, 1e6, -1e6][r.below(4)].to_bits()),
     }
 }
@@ -259,6 +298,22 @@ fn refused_tables() -> Vec<(usize, Vec<f64>, usize, usize)> {
     ]
 }
 
+/// Tables whose borders have samples that haven't settled: the first, the last, one between, and all, of kb and of bc.
+fn unsettled_tables() -> Vec<(usize, Vec<f64>, usize, usize)> {
+    vec![
+        (2, vec![3.69, 7.16, 1.65, 1.64, 0.02, -0.54, 0.0, 0.0], 3, 2),
+        (2, vec![5.5, 4.7, 0.7, -0.1, -0.4, -0.7, 0.0, 0.0], 3, 2),
+        (2, vec![7.7, 6.7, -0.2, 0.5, -0.2, -1.2, 0.0, 0.0], 3, 2),
+        (2, vec![1.1035, 0.9418, 0.3335, 0.5, 0.106, -0.2004, 0.0025, -0.5064], 2, 2),
+        (2, vec![25.0, 25.0, 16.0, 12.0, -1.6, 0.0, 0.0, 0.2], 32, 24),
+        (3, vec![2.21, 2.41, 0.69, -0.14, -0.74, -0.37, 0.0, 0.01, -0.23, 0.05, 0.0, 0.0], 3, 2),
+        (3, vec![3.68, 6.69, 0.58, 1.13, 0.59, 0.52, 0.0, 0.0, -0.1, -0.49, -0.63, -0.16], 3, 2),
+        (3, vec![1.19, 4.82, 0.65, 0.11, 0.66, -0.51, -0.02, -0.04, 0.16, -0.13, 1.0, 0.0], 3, 2),
+        (3, vec![1.54, 1.54, 0.5, 0.5, -0.85, 0.16, 0.04, 0.07, -0.06, -0.26, 0.33, 0.9], 2, 2),
+        (3, vec![12.0, 12.0, 16.0, 12.0, 0.4, -1.2, 0.0, 0.0, -0.2, 0.0, 2.1, 0.0], 32, 24),
+    ]
+}
+
 /// The sizes that no printer takes; the first is the Rust's own test.
 fn large_tables(r: &mut Random) -> Vec<Asked> {
     let of = |model: usize, params: &[f64], width: usize, height: usize| Asked { model, params: params.to_vec(), width, height };
@@ -272,8 +327,8 @@ fn large_tables(r: &mut Random) -> Vec<Asked> {
 }
 
 fn asked(r: &mut Random) -> Asked {
-    if r.one_in(12) {
-        let all = refused_tables();
+    if r.one_in(8) {
+        let all = if r.one_in(3) { unsettled_tables() } else { refused_tables() };
         let (model, params, width, height) = all[r.below(all.len())].clone();
         return Asked { model, params, width, height };
     }
@@ -281,15 +336,15 @@ fn asked(r: &mut Random) -> Asked {
 }
 
 /// A fresh job into junk, and the build that it begins; none if the job is refused.
-fn begun(r: &mut Random, asked: Asked) -> Result<Option<Build>, String> {
+fn begun(r: &mut Random, asked: Asked, strict: bool) -> Result<Option<Build>, String> {
     let size = [asked.width as u32, asked.height as u32];
     let mut job = Lent::new(r, record::BYTES);
     let mut owed_job = job.clone();
     let params = &handed(&asked.params)[..8 * asked.params.len()];
-    let given = lens::job_new(asked.model as u8, params, size, job.lend());
+    let given = lens::job_new(asked.model as u8, params, size, strict as u8, job.lend());
     let refused = asked.refused_at_once();
     if refused.is_none() {
-        owed_job.put(&Record::fresh(asked.model, asked.twelve(), size).bytes());
+        owed_job.put(&Record::fresh(asked.model, asked.twelve(), size, strict as u8).bytes());
     }
     if given != refused.unwrap_or(0) || job != owed_job {
         return Err(format!("fresh job of {:?}: gave {}, owed {:?}", asked.text(), given, refused));
@@ -300,8 +355,8 @@ fn begun(r: &mut Random, asked: Asked) -> Result<Option<Build>, String> {
     let built = asked.built();
     let table = Lent::new(r, built.cells.len());
     let ours = Kept { job, table, answer: Lent::new(r, record::ANSWER_BYTES) };
-    let (swept, end) = (swept(&built), built.end());
-    Ok(Some(Build { asked, built, swept, end, done: 0, owed: ours.clone(), ours }))
+    let (swept, end) = (swept(&built), built.end(strict));
+    Ok(Some(Build { asked, strict, built, swept, end, done: 0, owed: ours.clone(), ours }))
 }
 
 /// All turns of a build, and some more once it can't go on.
@@ -334,27 +389,53 @@ fn in_turns(r: &mut Random, build: &mut Build, tally: &mut Tally) -> Result<(), 
     Ok(())
 }
 
-fn build(oracle: &mut Oracle, asked: Asked, tally: &mut Tally) -> Option<Table> {
-    let size = [asked.width as u32, asked.height as u32];
+/// A build from a fresh job to its end, if the job isn't refused and nothing differs.
+fn build(oracle: &mut Oracle, asked: Asked, strict: bool, tally: &mut Tally) -> Option<Build> {
     let r = &mut oracle.random;
-    let outcome = begun(r, asked).and_then(|begun| match begun {
+    let outcome = begun(r, asked, strict).and_then(|begun| match begun {
         None => Ok(None),
         Some(mut build) => in_turns(r, &mut build, tally).map(|_| Some(build)),
     });
-    match outcome {
-        Err(what) => oracle.differs(what),
-        Ok(None) => {}
-        Ok(Some(build)) => {
-            tally.tables += 1;
-            tally.units += build.done as u64;
-            if build.end.1 == 0 {
-                tally.finished += 1;
-                tally.largest += (size == [640, 480]) as u64;
-                return Some(Table { cells: build.ours.table.held().to_vec(), region: build.built.region, size });
-            }
+    if let Err(what) = outcome {
+        oracle.differs(what);
+        return None;
+    }
+    let build = outcome.unwrap()?;
+    tally.tables += 1;
+    tally.units += build.done as u64;
+    let finished = build.end.1 == 0;
+    tally.finished += finished as u64;
+    tally.largest += (finished && [build.asked.width, build.asked.height] == [640, 480]) as u64;
+    Some(build)
+}
+
+impl Unsettled {
+    /// Gives whether there is a sample that hasn't settled.
+    fn note(&mut self, build: &Build) -> bool {
+        let border = build.built.samples.len();
+        let swept = build.swept[build.done.min(border)];
+        if build.done >= border {
+            self.first[swept.first.min(2) as usize] += 1;
+            self.last += !build.built.samples[border - 1].settled as u64;
+            self.samples += swept.unsettled as u64;
+        }
+        swept.unsettled > 0
+    }
+}
+
+/// A table that isn't strict, and the same strict if a sample hasn't settled, or now and then. Gives the first if it is finished.
+fn both(oracle: &mut Oracle, asked: Asked, tally: &mut Tally) -> Option<Table> {
+    let size = [asked.width as u32, asked.height as u32];
+    let first = build(oracle, asked.clone(), false, tally)?;
+    if tally.unsettled.note(&first) || oracle.random.one_in(4) {
+        if let Some(strict) = build(oracle, asked, true, tally) {
+            tally.unsettled.strict[(strict.end.1 == 0) as usize] += 1;
         }
     }
-    None
+    if first.end.1 != 0 {
+        return None;
+    }
+    Some(Table { cells: first.ours.table.held().to_vec(), region: first.built.region, size })
 }
 
 impl Oracle {
@@ -362,13 +443,13 @@ impl Oracle {
     pub fn turns(&mut self, tables: u64, mut then: impl FnMut(&mut Oracle, Table)) {
         let mut tally = Tally::default();
         for asked in large_tables(&mut self.random) {
-            if let Some(table) = build(self, asked, &mut tally) {
+            if let Some(table) = both(self, asked, &mut tally) {
                 then(self, table);
             }
         }
         for _ in 0..tables {
             let asked = asked(&mut self.random);
-            if let Some(table) = build(self, asked, &mut tally) {
+            if let Some(table) = both(self, asked, &mut tally) {
                 then(self, table);
             }
         }
@@ -383,7 +464,16 @@ impl Oracle {
             listed(&tally.units_refused)
         );
         println!("turns before any unit: refused {}; damaged records taken {}", listed(&tally.calls_refused), tally.taken);
-        self.met("turns refused at a unit", &tally.turns_refused, &[8, 10, 11, 12, 16]);
+        let Unsettled { first, last, samples, strict } = &tally.unsettled;
+        println!(
+            "borders done, not strict: all settled {}, first unsettled sample 1: {}, a later one: {}; the last one unsettled {}; such \
+             samples {}; strict builds: finished {}, others {}",
+            first[0], first[1], first[2], last, samples, strict[1], strict[0]
+        );
+        self.met("first unsettled sample: none, 1, a later one", first, &[0, 1, 2]);
+        self.met("the last sample unsettled", &[0, *last], &[1]);
+        self.met("strict builds", strict, &[0, 1]);
+        self.met("turns refused at a unit", &tally.turns_refused, &[8, 10, 11, 12, 16, 18]);
         self.met("turns before any unit", &tally.calls_refused, &[1, 4, 5, 6, 7, 13]);
         self.met("finished tables of 640 by 480", &[0, tally.largest], &[1]);
         self.met("damaged records taken", &[0, tally.taken], &[1]);
@@ -398,23 +488,27 @@ impl Oracle {
             q.answer_length = if r.one_in(4) { r.below(record::BYTES + STRIP) } else { record::BYTES };
             let side = [0, 1, 2, 4096, 4097, u32::MAX][r.below(6)];
             let size = if r.one_in(4) { [side, 2] } else { [2 + r.below(4095) as u32, 2 + r.below(4095) as u32] };
+            let strict = if r.one_in(6) { r.bits() as u8 } else { r.below(2) as u8 };
             let number = q.camera_number().unwrap_or(match () {
                 _ if !record::sized(size[0], size[1]) => 6,
                 _ if q.answer_length != record::BYTES => 7,
+                _ if strict > 1 => 13,
                 _ => 0,
             });
             let mut job = Lent::new(r, record::BYTES);
             let mut owed = job.clone();
             if number == 0 {
-                owed.put(&Record::fresh(q.model as usize, q.params, size).bytes());
+                owed.put(&Record::fresh(q.model as usize, q.params, size, strict).bytes());
             }
-            let given = lens::job_new(q.model, &handed(&q.params)[..q.params_length], size, job.lend_of_length(q.answer_length));
+            let params = &handed(&q.params)[..q.params_length];
+            let given = lens::job_new(q.model, params, size, strict, job.lend_of_length(q.answer_length));
             numbers[number as usize] += 1;
             if given != number || job != owed {
-                self.differs(format!("fresh job {}, {:?}: gave {}, owed {}", crate::input(&q), size, given, number));
+                let asked = format!("{}, {:?}, strict mark {}", crate::input(&q), size, strict);
+                self.differs(format!("fresh job {}: gave {}, owed {}", asked, given, number));
             }
         }
         println!("fresh jobs: {}, answered {}, refused {}", jobs, numbers[0], listed(&numbers));
-        self.met("fresh jobs", &numbers, &[0, 1, 3, 4, 5, 6, 7]);
+        self.met("fresh jobs", &numbers, &[0, 1, 3, 4, 5, 6, 7, 13]);
     }
 }

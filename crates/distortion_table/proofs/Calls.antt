@@ -56,57 +56,65 @@ turn-serves = record { answers = answers; plan-kept = plan-kept; ready-kept = λ
     plan-kept : (h : Held Float) (a : ℕ) (said : Said) (k : Held Float) → Unit {0} → Called h a said k → held-plan k ≡ held-plan h
     plan-kept h a said k t (called κ args r s post) = ap (λ (x : Answer Float). plan-of (x .job)) post
 
--- camera and size are kept all along a build
+-- camera, size and mark are kept all along a build
 pub record SameTable (h k : Held Float) : Type 0 where
   pub camera : k .job .camera ≡ h .job .camera
   pub width : k .job .width ≡ h .job .width
   pub height : k .job .height ≡ h .job .height
+  pub strict : k .job .strict ≡ h .job .strict
 
 call-keeps : (h : Held Float) (a : ℕ) (said : Said) (k : Held Float) → Called h a said k → SameTable h k
 call-keeps h a said k (called κ args r s post) =
-    record { camera = ap (λ (x : Answer Float). x .job .camera) post; width = ap (λ (x : Answer Float). x .job .width) post; height = ap (λ (x : Answer Float). x .job .height) post }
+    record {
+      camera = ap (λ (x : Answer Float). x .job .camera) post;
+      width = ap (λ (x : Answer Float). x .job .width) post;
+      height = ap (λ (x : Answer Float). x .job .height) post;
+      strict = ap (λ (x : Answer Float). x .job .strict) post;
+    }
 
 pub build-keeps : (ls : List ℕ) (h k : Held Float) → Build (Held Float) Called ls h k → SameTable h k
-build-keeps [] h k (done same) = record { camera = refl; width = refl; height = refl }
+build-keeps [] h k (done same) = record { camera = refl; width = refl; height = refl; strict = refl }
 build-keeps (x ∷ ls) h k (call from a said m post rest last more) =
     let c = call-keeps from a said m post in
     let d = build-keeps rest m last more in
-    record { camera = d .camera ∙ c .camera; width = d .width ∙ c .width; height = d .height ∙ c .height }
+    record { camera = d .camera ∙ c .camera; width = d .width ∙ c .width; height = d .height ∙ c .height; strict = d .strict ∙ c .strict }
 
 -- ---- a fresh record that is taken
 
-module _ (camera : Camera) (width height : ℕ) where
-  begins : (j : Judgement) (k : Job) → decided j begun.Refused (begun.With (fresh-job camera width height)) ≡ begun.With k → (j ≡ Taken) × (k ≡ fresh-job camera width height)
-  begins Taken k h = let q : fresh-job camera width height ≡ k = cc in (refl, sym q)
+module _ (camera : Camera) (width height : ℕ) (strict : Bool) where
+  begins : (j : Judgement) (k : Job) → decided j begun.Refused (begun.With (fresh-job camera width height strict)) ≡ begun.With k → (j ≡ Taken) × (k ≡ fresh-job camera width height strict)
+  begins Taken k h = let q : fresh-job camera width height strict ≡ k = cc in (refl, sym q)
   begins (Refused r) k h = let z : _≡_ {A = ℕ} 0 1 = cc in absurd (omega arith)
 
   -- camera and size are taken, and the record is the fresh one
-  pub fresh-opens : (k : Job) → job.fresh camera width height ≡ begun.With k → (opens-for camera width height nowhere ≡ Taken) × (k ≡ fresh-job camera width height)
+  pub fresh-opens : (k : Job) → job.fresh camera width height strict ≡ begun.With k → (opens-for camera width height nowhere ≡ Taken) × (k ≡ fresh-job camera width height strict)
   unfolding job.fresh
   fresh-opens k h = begins (opens-for camera width height nowhere) k h
 
   abbrev table : Plan Float
-  table = f32-table camera width height
+  table = f32-table camera width height strict
 
   module _ (opens : opens-for camera width height nowhere ≡ Taken) (cells : List Float) (long : length cells ≡ 2 * (width * height)) where
     pub start-admitted : judged table (fresh cells) ≡ Taken
-    start-admitted = plans.fresh-admitted table (f32-sound camera width height) opens cells long
+    start-admitted = plans.fresh-admitted table (f32-sound camera width height strict) opens cells long
 
-    pub answer-is : (a : ℕ) → turn-of (fresh-job camera width height) cells a ≡ answer (fresh-job camera width height) (turn (next table) a (fresh cells))
-    answer-is a = ap (answer (fresh-job camera width height)) (plans.answer-is table (f32-sound camera width height) opens a (fresh cells) (plans.start-good table (f32-sound camera width height) cells long))
+    pub answer-is : (a : ℕ) → turn-of (fresh-job camera width height strict) cells a ≡ answer (fresh-job camera width height strict) (turn (next table) a (fresh cells))
+    answer-is a = ap (answer (fresh-job camera width height strict)) (plans.answer-is table (f32-sound camera width height strict) opens a (fresh cells) (plans.start-good table (f32-sound camera width height strict) cells long))
 
 -- ---- two things held
 
--- the same camera, size and state are the same record and table
+-- the same camera, size, mark and state are the same record and table
 pub same-held :
-    (h k : Held Float) → h .job .camera ≡ k .job .camera → h .job .width ≡ k .job .width → h .job .height ≡ k .job .height → held-state h ≡ held-state k → h ≡ k
-same-held h k c w v s =
-    ap (λ (x : Camera). record { job = record { camera = x; width = h .job .width; height = h .job .height; at = h .job .at }; cells = h .cells }) c
-    ∙ ap₂ (λ (x y : ℕ). record { job = record { camera = k .job .camera; width = x; height = y; at = h .job .at }; cells = h .cells }) w v
-    ∙ ap (λ (x : State Float). record { job = record { camera = k .job .camera; width = k .job .width; height = k .job .height; at = x .at }; cells = x .cells }) s
+    (h k : Held Float) → h .job .camera ≡ k .job .camera → h .job .width ≡ k .job .width → h .job .height ≡ k .job .height → h .job .strict ≡ k .job .strict
+    → held-state h ≡ held-state k → h ≡ k
+same-held h k c w v m s =
+    ap₂ (λ (x : Camera) (b : Bool). record { job = record { camera = x; width = h .job .width; height = h .job .height; strict = b; at = h .job .at }; cells = h .cells }) c m
+    ∙ ap₂ (λ (x y : ℕ). record { job = record { camera = k .job .camera; width = x; height = y; strict = k .job .strict; at = h .job .at }; cells = h .cells }) w v
+    ∙ ap (λ (x : State Float). record { job = record { camera = k .job .camera; width = k .job .width; height = k .job .height; strict = k .job .strict; at = x .at }; cells = x .cells }) s
 
-pub same-table-of : {c d : Camera} {w x h y : ℕ} → c ≡ d → w ≡ x → h ≡ y → f32-table c w h ≡ f32-table d x y
-same-table-of {c} {d} {w} {x} {h} {y} e f g = ap (λ (z : Camera). f32-table z w h) e ∙ ap₂ (f32-table d) f g
+pub same-table-of : {c d : Camera} {w x h y : ℕ} {a b : Bool} → c ≡ d → w ≡ x → h ≡ y → a ≡ b → f32-table c w h a ≡ f32-table d x y b
+same-table-of {c} {d} {w} {x} {h} {y} {a} e f g m =
+    ap (λ (z : Camera). f32-table z w h a) e ∙ ap₂ (λ (i j : ℕ). f32-table d i j a) f g ∙ ap (f32-table d x y) m
 
 -- a call that is admitted is a turn
 pub taken-turn : (p : Plan Float) (a : ℕ) (s : State Float) → judged p s ≡ Taken → plan.turn-of p a s ≡ turn (next p) a s

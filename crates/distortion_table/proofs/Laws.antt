@@ -1,7 +1,7 @@
 -- What a caller may rely on, of the definitions of specs/ and of the contracts of src/. Assumes nothing.
-use mathlib.Core.Path.{_≡_, refl, sym, ap, _∙_, subst}
+use mathlib.Core.Path.{_≡_, refl, sym, ap, ap₂, _∙_, subst}
 use mathlib.Core.List.{List, _∷_}
-use mathlib.Core.Bool.{true}
+use mathlib.Core.Bool.{Bool, true, false}
 use Prim.Native.Nat.{ℕ, _*_, _≤_, min}
 use native.Mathlib.Omega.{arith}
 use denote.Ref.{now}
@@ -13,11 +13,11 @@ use Rattle.lens.proofs.Laws.{number-one-to-one}
 use Rattle.camera.specs.Camera.{limit}
 use Rattle.camera.specs.declared.Camera.{Camera}
 use Rattle.camera.proofs.Laws.{updates-limit-judged}
-use Rattle.border.specs.Border.{all-units, border-at}
+use Rattle.border.specs.Border.{samples, all-units, border-at}
 use Rattle.turns.specs.Turns.{Said, running, Turn, turn, total}
-use Rattle.plans.specs.Built.{settled-at, doable, says-at, Built}
+use Rattle.plans.specs.Built.{sum-below, settled-at, doable, says-at, Built}
 use Rattle.plans.specs.Calls.{judged, said-number, allowed, Build}
-use Rattle.plans.specs.Plan.{Plan, State, fresh, next}
+use Rattle.plans.specs.Plan.{Plan, State, one-no, fresh, next}
 use Rattle.plans.proofs.Ends as ends
 use Rattle.plans.proofs.Laws as plans
 use Rattle.plans.proofs.Same.{built-same}
@@ -39,33 +39,55 @@ use Rattle.distortion_table.proofs.distort_table.Reads as distort-table
 
 -- ---- demand 3
 
-module _ (camera : Camera) (width height : ℕ) (table : List Float) where
+module _ (camera : Camera) (width height : ℕ) (strict : Bool) (table : List Float) where
   -- where a build starts: a fresh record, and the caller's table
   abbrev pub first : Held Float
-  first = record { job = fresh-job camera width height; cells = table }
+  first = record { job = fresh-job camera width height strict; cells = table }
 
-  -- Demand 3. Start from a fresh job of any camera and size, with any table, and call `turn` with any allowances, 0 among them,
+  -- Demand 3. Start from a fresh job of any camera and size, strict or not, with any table, and call `turn` with any allowances, 0 among them,
   -- each time with the record and the table that the call before handed back. Let A be the sum of the allowances of those calls
-  -- that are admitted, and F the number of units before the first that the definition refuses, or of all units. Then exactly
-  -- min(A, F) units are done; the record is the one that the definition has after so many, of the same camera and size, its
-  -- updates the sum of the definition's over the border samples done; each cell done holds the definition's numbers; and the
+  -- that are admitted, and F the number of units before the first that the definition refuses, or of all units; in a strict job it
+  -- refuses also a border sample that didn't settle. Then exactly
+  -- min(A, F) units are done; the record is the one that the definition has after so many, of the same camera, size and mark: its
+  -- updates the sum of the definition's over the border samples done, its count of unsettled samples and the first of them the
+  -- definition's over these; each cell done holds the definition's numbers; and the
   -- rest of the table is untouched.
   pub built-in-turns :
       (allowances : List ℕ) (last : Held Float) (calls : Build (Held Float) Called allowances first last)
-      → BuiltJob camera width height table (allowed held-plan held-state allowances first last calls) last
+      → BuiltJob camera width height strict table (allowed held-plan held-state allowances first last calls) last
   built-in-turns allowances last calls =
       let k = build-keeps allowances first last calls in
       record {
         same-camera = k .camera;
         same-width = k .width;
         same-height = k .height;
+        same-strict = k .strict;
         built =
-            plans.built (Held Float) (λ h. Unit {0}) held-plan held-state Called turn-serves first tt (f32-sound camera width height)
+            plans.built (Held Float) (λ h. Unit {0}) held-plan held-state Called turn-serves first tt (f32-sound camera width height strict)
             table refl allowances last calls;
       }
 
+  module _ (allowances : List ℕ) (last : Held Float) (calls : Build (Held Float) Called allowances first last) where
+    abbrev whole : Built (f32-table camera width height strict) table (allowed held-plan held-state allowances first last calls) (held-state last)
+    whole = built-in-turns allowances last calls .built
+
+    -- The record's count is the number of the border samples done whose flag, by the definition, says no,
+    pub unsettled-counted :
+        last .job .at .unsettled
+        ≡ sum-below (λ k. one-no (settled-at (sweep-of camera width height strict) k .flag)) (min (last .job .at .done) (samples width height))
+    unsettled-counted = plans.built-unsettled (f32-table camera width height strict) table _ (held-state last) whole
+
+    -- and its first position that of the first of them, counted from 1: the flag there says no and all before it say yes; at 0 all
+    -- of the samples done say yes.
+    pub first-unsettled :
+        plans.First (λ k. settled-at (sweep-of camera width height strict) k .flag) (min (last .job .at .done) (samples width height)) (last .job .at .first)
+    first-unsettled =
+        let flags : ℕ → Bool = λ k. settled-at (sweep-of camera width height strict) k .flag in
+        let n = min (last .job .at .done) (samples width height) in
+        subst (plans.First flags n) (sym (plans.built-first (f32-table camera width height strict) table _ (held-state last) whole)) (plans.first-is flags n)
+
   -- No sample of it has more updates than its model's limit: 0 for affine and eucm, 20 for kb, 50 for bc.
-  pub within-limit : (n : ℕ) → settled-at (sweep-of camera width height) n .updates ≤ limit camera
+  pub within-limit : (n : ℕ) → settled-at (sweep-of camera width height strict) n .updates ≤ limit camera
   within-limit n = updates-limit-judged camera (border-at width height n)
 
   -- However the work is split: two builds that are allowed as much end with the same record and the same table.
@@ -76,91 +98,98 @@ module _ (camera : Camera) (width height : ℕ) (table : List Float) where
   any-split ls ms last other calls others e =
       let b = built-in-turns ls last calls in
       let c = built-in-turns ms other others in
-      same-held last other (b .same-camera ∙ sym (c .same-camera)) (b .same-width ∙ sym (c .same-width)) (b .same-height ∙ sym (c .same-height))
-      (built-same (f32-table camera width height) table _ _ (held-state last) (held-state other) (b .built) (c .built)
-      (ap (λ (A : ℕ). min A (doable (f32-table camera width height))) e))
+      same-held last other (b .same-camera ∙ sym (c .same-camera)) (b .same-width ∙ sym (c .same-width)) (b .same-height ∙ sym (c .same-height)) (b .same-strict ∙ sym (c .same-strict))
+      (built-same (f32-table camera width height strict) table _ _ (held-state last) (held-state other) (b .built) (c .built)
+      (ap (λ (A : ℕ). min A (doable (f32-table camera width height strict))) e))
 
 -- ---- a build from a record that `fresh` handed out, with a table of its size
 
 -- Such a record is the fresh one.
-pub as-begun : (camera : Camera) (width height : ℕ) (start : Job) → job.fresh camera width height ≡ begun.With start → start ≡ fresh-job camera width height
-as-begun camera width height start begin = fresh-opens camera width height start begin .1
+pub as-begun : (camera : Camera) (width height : ℕ) (strict : Bool) (start : Job) → job.fresh camera width height strict ≡ begun.With start → start ≡ fresh-job camera width height strict
+as-begun camera width height strict start begin = fresh-opens camera width height strict start begin .1
 
 module _
-    (camera : Camera) (width height : ℕ) (start : Job) (begin : job.fresh camera width height ≡ begun.With start)
+    (camera : Camera) (width height : ℕ) (strict : Bool) (start : Job) (begin : job.fresh camera width height strict ≡ begun.With start)
     (table : List Float) (long : length table ≡ 2 * (width * height))
   where
-    takes : judged (f32-table camera width height) (fresh table) ≡ Taken
-    takes = start-admitted camera width height (fresh-opens camera width height start begin .0) table long
+    takes : judged (f32-table camera width height strict) (fresh table) ≡ Taken
+    takes = start-admitted camera width height strict (fresh-opens camera width height strict start begin .0) table long
 
     module _
-        (allowances : List ℕ) (last : Held Float) (calls : Build (Held Float) Called allowances (first camera width height table) last)
+        (allowances : List ℕ) (last : Held Float) (calls : Build (Held Float) Called allowances (first camera width height strict table) last)
       where
         -- Every call is admitted,
-        pub build-admitted : judged (f32-table camera width height) (held-state last) ≡ Taken
+        pub build-admitted : judged (f32-table camera width height strict) (held-state last) ≡ Taken
         build-admitted =
-            plans.built-admitted (Held Float) (λ h. Unit {0}) held-plan held-state Called turn-serves (first camera width height table) tt
-            (f32-sound camera width height) table refl allowances last calls takes
+            plans.built-admitted (Held Float) (λ h. Unit {0}) held-plan held-state Called turn-serves (first camera width height strict table) tt
+            (f32-sound camera width height strict) table refl allowances last calls takes
 
-        -- so that none is refused with 4, 5, 6, 7 or 13, but with 8, 10, 11, 12 or 16 if at all,
+        -- so that none is refused with 4, 5, 6, 7 or 13, but with 8, 10, 11, 12 or 16 if at all, or in a strict job with 18,
         pub build-refusals :
-            (a : ℕ) (said : Said) (then : Held Float) → Called last a said then → one-of (said-number said) (0 ∷ unit-numbers) ≡ true
+            (a : ℕ) (said : Said) (then : Held Float) → Called last a said then → one-of (said-number said) (0 ∷ unit-numbers strict) ≡ true
         build-refusals a said then c =
-            let e = build-keeps allowances (first camera width height table) last calls in
+            let e = build-keeps allowances (first camera width height strict table) last calls in
             let p = held-plan last in
-            let same : p ≡ f32-table camera width height = same-table-of (e .camera) (e .width) (e .height) in
+            let same : p ≡ f32-table camera width height strict = same-table-of (e .camera) (e .width) (e .height) (e .strict) in
             let t = turn-serves .answers last a said then tt c in
             let j : judged p (held-state last) ≡ Taken = ap (λ (q : Plan Float). judged q (held-state last)) same ∙ build-admitted in
-            ap (λ (x : Turn (State Float)). one-of (said-number (x .said)) (0 ∷ unit-numbers)) (t ∙ taken-turn p a (held-state last) j)
-            ∙ said-known (turn (next p) a (held-state last) .said) (turn-known (last .job .camera) (last .job .width) (last .job .height) a (held-state last))
+            ap₂ (λ (x : Turn (State Float)) (b : Bool). one-of (said-number (x .said)) (0 ∷ unit-numbers b)) (t ∙ taken-turn p a (held-state last) j) (sym (e .strict))
+            ∙ said-known (last .job .strict) (turn (next p) a (held-state last) .said)
+            (turn-known (last .job .camera) (last .job .width) (last .job .height) (last .job .strict) a (held-state last))
 
         -- and A is the sum of all allowances.
-        pub build-allowed : allowed held-plan held-state allowances (first camera width height table) last calls ≡ total allowances
+        pub build-allowed : allowed held-plan held-state allowances (first camera width height strict table) last calls ≡ total allowances
         build-allowed =
-            plans.built-allowed (Held Float) (λ h. Unit {0}) held-plan held-state Called turn-serves (first camera width height table) tt
-            (f32-sound camera width height) table refl allowances last calls takes
+            plans.built-allowed (Held Float) (λ h. Unit {0}) held-plan held-state Called turn-serves (first camera width height strict table) tt
+            (f32-sound camera width height strict) table refl allowances last calls takes
 
         -- The next call says finished exactly if T units are done after it, refused with the number of the unit behind those
         -- done exactly if that unit has one and the allowance had room for it, and running otherwise.
         pub build-says :
             (a : ℕ) (said : Said) (then : Held Float) → Called last a said then
-            → said ≡ says-at (f32-table camera width height) (last .job .at .done) a (then .job .at .done)
+            → said ≡ says-at (f32-table camera width height strict) (last .job .at .done) a (then .job .at .done)
         build-says =
-            plans.built-says (Held Float) (λ h. Unit {0}) held-plan held-state Called turn-serves (first camera width height table) tt
-            (f32-sound camera width height) table refl allowances last calls takes
+            plans.built-says (Held Float) (λ h. Unit {0}) held-plan held-state Called turn-serves (first camera width height strict table) tt
+            (f32-sound camera width height strict) table refl allowances last calls takes
 
+-- ---- the table at once, which isn't strict
+
+module _
+    (camera : Camera) (width height : ℕ) (start : Job) (begin : job.fresh camera width height false ≡ begun.With start)
+    (table : List Float) (long : length table ≡ 2 * (width * height))
+  where
     at-once-is :
         whole-table camera width height table
-        ≡ answer (fresh-job camera width height) (turn (next (f32-table camera width height)) enough (fresh table))
-    at-once-is = answer-is camera width height (fresh-opens camera width height start begin .0) table long enough
+        ≡ answer (fresh-job camera width height false) (turn (next (f32-table camera width height false)) enough (fresh table))
+    at-once-is = answer-is camera width height false (fresh-opens camera width height false start begin .0) table long enough
 
     enough-units : all-units width height ≤ enough
-    enough-units = largest width height (opened camera width height _ (fresh-opens camera width height start begin .0) .size)
+    enough-units = largest width height (opened camera width height _ (fresh-opens camera width height false start begin .0) .size)
 
     abbrev once : State Float
-    once = turn (next (f32-table camera width height)) enough (fresh table) .state
+    once = turn (next (f32-table camera width height false)) enough (fresh table) .state
 
-    -- The table at once is that of any build that is allowed T units or more: the same record, the same cells;
+    -- The table at once is that of any build, not strict, that is allowed T units or more: the same record, the same cells;
     pub at-once :
-        (allowances : List ℕ) (last : Held Float) → Build (Held Float) Called allowances (first camera width height table) last
+        (allowances : List ℕ) (last : Held Float) → Build (Held Float) Called allowances (first camera width height false table) last
         → all-units width height ≤ total allowances → last ≡ handed-back (whole-table camera width height table)
     at-once allowances last calls h =
-        let p = f32-table camera width height in
+        let p = f32-table camera width height false in
         let e = ends.enough-for p (fresh table) (omega arith) (total allowances) h in
         let f = ends.enough-for p (fresh table) (omega arith) enough enough-units in
-        let c = plans.as-defined p (f32-sound camera width height) table long in
+        let c = plans.as-defined p (f32-sound camera width height false) table long in
         let whole = subst (Built p table (total allowances)) (e ∙ sym f) (c (total allowances)) in
-        let b = built-in-turns camera width height table allowances last calls in
-        let mine = subst (λ (A : ℕ). Built p table A (held-state last)) (build-allowed allowances last calls) (b .built) in
-        same-held last (handed-back (answer (fresh-job camera width height) (turn (next p) enough (fresh table))))
-        (b .same-camera) (b .same-width) (b .same-height)
+        let b = built-in-turns camera width height false table allowances last calls in
+        let mine = subst (λ (A : ℕ). Built p table A (held-state last)) (build-allowed camera width height false start begin table long allowances last calls) (b .built) in
+        same-held last (handed-back (answer (fresh-job camera width height false) (turn (next p) enough (fresh table))))
+        (b .same-camera) (b .same-width) (b .same-height) (b .same-strict)
         (built-same p table (total allowances) (total allowances) (held-state last) once mine whole refl)
         ∙ sym (ap handed-back at-once-is)
 
     -- and it is finished, or refused at a unit: it never says running.
     pub at-once-ends : whole-table camera width height table .said ≡ running → ⊥
     at-once-ends e =
-        ends.never-running (f32-table camera width height) (fresh table) (omega arith) enough enough-units
+        ends.never-running (f32-table camera width height false) (fresh table) (omega arith) enough enough-units
         (sym (ap (λ (x : Answer Float). x .said) at-once-is) ∙ e)
 
 -- ---- each contract permits one answer

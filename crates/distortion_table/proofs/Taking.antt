@@ -20,6 +20,7 @@ pub record Taking (job : Job) (places : ℕ) : Type 0 where
   pub long : places ≡ 2 * (job .width * job .height)
   pub not-past : job .at .done ≤ all-units (job .width) (job .height)
   pub few : job .at .updates < 2 ^ 31
+  pub few-unsettled : job .at .unsettled < 2 ^ 31
 
 pub taking : (job : Job) (places : ℕ) → admitted job places ≡ Taken → Taking job places
 taking job places h =
@@ -27,4 +28,4 @@ taking job places h =
     let o = opened (job .camera) (job .width) (job .height) (job .at .region) (k .opens) in
     let size = o .size in
     let most : min (job .at .done) (samples (job .width) (job .height)) ≤ 16388 = le-trans (min-le-right (job .at .done) (samples (job .width) (job .height))) (omega (arith, size .not-wider, size .not-higher)) in
-    record { taken-size = o .taken-size; size = size; long = k .long; not-past = k .record-of .not-past; few = omega (arith, le-trans (k .record-of .updates) (mul-le-mul {n₂ = 50} {m₂ = 16388} (limit-most (job .camera)) most)) }
+    record { taken-size = o .taken-size; size = size; long = k .long; not-past = k .record-of .not-past; few = omega (arith, le-trans (k .record-of .updates) (mul-le-mul {n₂ = 50} {m₂ = 16388} (limit-most (job .camera)) most)); few-unsettled = omega (arith, k .record-of .tallies .count, most) }

@@ -1,5 +1,6 @@
 -- What a turn answers: what it says, the record, and the table, as the plan of the record's table has it. Definitions
 -- only.
+use mathlib.Core.Bool.{false}
 use mathlib.Core.List.{List}
 use Prim.Native.Nat.{ℕ}
 use lib.Ieee.{Float}
@@ -19,7 +20,7 @@ use Rattle.distortion_table.specs.declared.Turned.{Turned}
 
 -- the plan of a record's table, and the state of its build
 abbrev pub plan-of : Job → Plan Float
-plan-of job = f32-table (job .camera) (job .width) (job .height)
+plan-of job = f32-table (job .camera) (job .width) (job .height) (job .strict)
 
 abbrev pub state-of : {X : Type 0} → Job → List X → State X
 state-of job cells = record { at = job .at; cells = cells }
@@ -31,11 +32,17 @@ pub record Answer (X : Type 0) : Type 0 where
   pub job : Job
   pub cells : List X
 
--- the record keeps its camera and its size
+-- the record keeps its camera, its size and its mark
 abbrev pub answer : {X : Type 0} → Job → Turn (State X) → Answer X
 answer job t = record {
   said = t .said;
-  job = record { camera = job .camera; width = job .width; height = job .height; at = t .state .at };
+  job = record {
+    camera = job .camera;
+    width = job .width;
+    height = job .height;
+    strict = job .strict;
+    at = t .state .at;
+  };
   cells = t .state .cells;
 }
 
@@ -51,10 +58,10 @@ told-status status.Running = running
 abbrev pub told-turned : {X : Type 0} → Turned → List X → Answer X
 told-turned t cells = record { said = told-status (t .status); job = t .job; cells = cells }
 
--- ---- the whole table at once: a turn that may do as many units as the largest table has
+-- ---- the whole table at once: a turn that may do as many units as the largest table has, and isn't strict
 
 abbrev pub enough : ℕ
 enough = all-units most most
 
 abbrev pub whole-table : Camera → ℕ → ℕ → List Float → Answer Float
-whole-table camera width height cells = turn-of (fresh-job camera width height) cells enough
+whole-table camera width height cells = turn-of (fresh-job camera width height false) cells enough

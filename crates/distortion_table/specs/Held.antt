@@ -1,5 +1,6 @@
 -- What a caller holds from call to call, the record and the table, and what a build owes of them. Definitions only.
 use mathlib.Core.Path.{_≡_}
+use mathlib.Core.Bool.{Bool}
 use mathlib.Core.List.{List}
 use Prim.Native.Nat.{ℕ}
 use lib.Ieee.{Float}
@@ -25,10 +26,13 @@ held-plan held = plan-of (held .job)
 abbrev pub held-state : {X : Type 0} → Held X → State X
 held-state held = state-of (held .job) (held .cells)
 
--- ---- what a build owes: camera and size are kept, and the rest as the plan of their table has it
+-- ---- what a build owes: camera, size and mark are kept, and the rest as the plan of their table has it
 
-pub record BuiltJob (camera : Camera) (width height : ℕ) (table : List Float) (A : ℕ) (last : Held Float) : Type 0 where
+pub record BuiltJob
+    (camera : Camera) (width height : ℕ) (strict : Bool) (table : List Float) (A : ℕ) (last : Held Float)
+    : Type 0 where
   pub same-camera : last .job .camera ≡ camera
   pub same-width : last .job .width ≡ width
   pub same-height : last .job .height ≡ height
-  pub built : Built (f32-table camera width height) table A (held-state last)
+  pub same-strict : last .job .strict ≡ strict
+  pub built : Built (f32-table camera width height strict) table A (held-state last)

@@ -10,11 +10,10 @@ ghost use Rattle.border.specs.Border.{samples, all-units};
 ghost use Rattle.turns.specs.Turns.{turn};
 ghost use Rattle.plans.specs.Plan.{with-done, next};
 ghost use Rattle.plans.specs.Loops.{reached, after-run};
-ghost use Rattle.table_plans.specs.Tables.{f32-table};
 ghost use Rattle.job.specs.Job.{admitted};
 ghost use Rattle.distortion_table.specs.Answer.{plan-of, state-of, turn-of, told-status, told-turned, whole-table};
 ghost use Rattle.sweep.specs.Sweep.{told-refusal};
-ghost use Rattle.distortion_table.specs.Parts.{told-ended, handed, Share, Cellwise};
+ghost use Rattle.distortion_table.specs.Parts.{told-ended, handed, Share, Cellwise, CellsTurn};
 
 mod filler;
 
@@ -86,6 +85,7 @@ fn handed(job: Job, ended: Ended) -> Turned
             camera,
             width: job.width,
             height: job.height,
+            strict: job.strict,
             at,
         },
     }
@@ -102,6 +102,8 @@ fn with_done(at: Progress, done: usize) -> Progress
         edges,
         region,
         updates: at.updates,
+        unsettled: at.unsettled,
+        first: at.first,
     }
 }
 
@@ -136,7 +138,7 @@ fn end_at(at: Progress, done: usize, all: usize, refusal: Judgement) -> Ended
     }
 }
 
-// A turn's cells, once its border units are done.
+// A turn's cells, once its border units are done: the strict mark has no say in them.
 fn cells(
     table: &mut [f32],
     camera: Camera,
@@ -148,8 +150,8 @@ fn cells(
 ) -> Ended
     requires { ⌜ (all ≡ samples width height) × Cellwise width height at left (now table) ⌝ }
     ensures { λ r. ⌜
-        told-ended r (now (table .exit))
-        ≡ turn (next (f32-table camera width height)) left record { at = at; cells = now (table .entry) }
+        CellsTurn camera width height left record { at = at; cells = now (table .entry) }
+        (told-ended r (now (table .exit)))
         ⌝ }
 {
     let done = at.done;
@@ -187,7 +189,7 @@ fn work(job: Job, table: &mut [f32], allowance: usize) -> Ended
     let at = job.at;
     let all = border::samples(width as u32, height as u32);
     let count = sweep::due(at.done, all, allowance);
-    let stop = sweep::sweep(camera, width, height, at, allowance);
+    let stop = sweep::sweep(camera, width, height, job.strict, at, allowance);
     let refusal = stop.refusal;
     let after = stop.at;
     match refusal {
@@ -215,10 +217,10 @@ pub fn turn(job: Job, table: &mut [f32], allowance: usize) -> Turned
 // Units enough for the largest table that is taken: 4,096 by 4,096.
 pub const ENOUGH: usize = 16_793_604;
 
-// The whole table at once: one turn of a fresh record, which no allowance cuts short. Its camera and size are judged by
-// the turn.
+// The whole table at once: one turn of a fresh record that isn't strict, which no allowance cuts short. Its camera and
+// size are judged by the turn.
 pub fn distort_table(camera: Camera, width: usize, height: usize, table: &mut [f32]) -> Turned
     ensures { λ r. ⌜ told-turned r (now (table .exit)) ≡ whole-table camera width height (now (table .entry)) ⌝ }
 {
-    turn(job::begun(camera, width, height), table, ENOUGH)
+    turn(job::begun(camera, width, height, false), table, ENOUGH)
 }

@@ -1,5 +1,6 @@
 -- What a caller may rely on, of the definitions of specs/ and of the contracts of src/. Assumes nothing.
 use mathlib.Core.Path.{_≡_, sym, ap, _∙_}
+use mathlib.Core.Bool.{Bool}
 use Prim.Native.Nat.{ℕ}
 use native.Mathlib.Omega.{arith}
 use Rattle.exact.specs.Determined.{Determined}
@@ -45,5 +46,5 @@ pub admitted-number : (job : Job) (places : ℕ) → verdict (admitted job place
 admitted-number = rows.admitted-number
 
 -- `fresh` refuses with 4, 5 or 6 exactly when the table says so, the first row that holds; 0 stands for a record.
-pub fresh-number : (camera : Camera) (width height : ℕ) → begun-number (told-started (fresh camera width height)) ≡ first (fresh-rows camera width height)
+pub fresh-number : (camera : Camera) (width height : ℕ) (strict : Bool) → begun-number (told-started (fresh camera width height strict)) ≡ first (fresh-rows camera width height)
 fresh-number = rows.fresh-number

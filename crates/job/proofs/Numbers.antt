@@ -24,7 +24,7 @@ use Rattle.plans.specs.Calls as plan
 use Rattle.plans.specs.declared.Progress.{Progress}
 use Rattle.table_plans.specs.Tables.{opens-for, sweep-of}
 use Rattle.job.specs.Job.{fresh-job, fresh, told-started, begun-number, admitted}
-use Rattle.job.specs.Rows.{fresh-rows, unfit, no-build, turn-rows}
+use Rattle.job.specs.Rows.{fresh-rows, unfit, no-tally, no-build, turn-rows}
 use Rattle.job.specs.declared.Job.{Job}
 use Rattle.job.specs.declared.Started.the-variants as begun
 
@@ -42,15 +42,15 @@ nowhere-finite : all-finite (four nowhere) ≡ true
 unfolding ofBits all-finite
 nowhere-finite = refl
 
-pub fresh-number : (camera : Camera) (width height : ℕ) → begun-number (told-started (fresh camera width height)) ≡ first (fresh-rows camera width height)
+pub fresh-number : (camera : Camera) (width height : ℕ) (strict : Bool) → begun-number (told-started (fresh camera width height strict)) ≡ first (fresh-rows camera width height)
 unfolding fresh opens-for
-fresh-number camera width height =
+fresh-number camera width height strict =
     ap (λ (b : Bool). begun-number (told-started (decided (by-tests (all-finite (parameters camera) && b) (zero-focal camera) (sized width height)) begun.Refused (begun.With job)))) nowhere-finite
     ∙ ap (λ (b : Bool). begun-number (told-started (decided (by-tests b (zero-focal camera) (sized width height)) begun.Refused (begun.With job)))) (and-true (all-finite (parameters camera)))
     ∙ go (all-finite (parameters camera)) (zero-focal camera) (sized width height)
   where
     job : Job
-    job = fresh-job camera width height
+    job = fresh-job camera width height strict
 
     go : (g z s : Bool) → begun-number (told-started (decided (by-tests g z s) begun.Refused (begun.With job))) ≡ first ((4 when not g) ∷ (5 when z) ∷ (6 when not s) ∷ [])
     go false z s = refl
@@ -76,24 +76,47 @@ fine-not by = go (flat (by .0) || flat (by .1)) (finite (by .0) && finite (by .1
     go false true = refl
     go false false = refl
 
-possible-not : (camera : Camera) (width height : ℕ) (at : Progress) → plan.possible (sweep-of camera width height) at ≡ not (no-build camera width height at)
-unfolding plan.possible
-possible-not camera width height at =
-    rw (leb-not (at .done) (all-units width height), leb-not (at .updates) (limit camera * min (at .done) (samples width height)), leb-not (samples width height) (at .done), fine-not (increments (at .region) width height))
-    (go (ltb (all-units width height) (at .done)) (ltb (limit camera * min (at .done) (samples width height)) (at .updates)) (all-finite (four (at .edges))) (ltb (at .done) (samples width height)) (unfit (increments (at .region) width height)))
+tallied-not : (strict : Bool) (samples unsettled first : ℕ) → plan.tallied strict samples unsettled first ≡ not (no-tally strict samples unsettled first)
+tallied-not strict samples unsettled first =
+    rw (leb-not unsettled samples, leb-not first samples)
+    (go (ltb samples unsettled) (ltb samples first) (eqb unsettled 0) (eqb first 0) strict)
   where
-    go : (a b c d e : Bool) → (not a && (not b && (c && (d || not e)))) ≡ not (a || (b || (not c || (not d && e))))
-    go true b c d e = refl
-    go false true c d e = refl
-    go false false false d e = refl
-    go false false true true e = refl
-    go false false true false e = refl
+    go : (a b u f s : Bool) → (not a && (not b && (plan.both-or-neither u f && (not s || u)))) ≡ not (a || (b || ((u && not f || not u && f) || (s && not u))))
+    go true b u f s = refl
+    go false true u f s = refl
+    go false false true true true = refl
+    go false false true true false = refl
+    go false false true false s = refl
+    go false false false true s = refl
+    go false false false false true = refl
+    go false false false false false = refl
+
+possible-not : (camera : Camera) (width height : ℕ) (strict : Bool) (at : Progress) → plan.possible (sweep-of camera width height strict) at ≡ not (no-build camera width height strict at)
+unfolding plan.possible
+possible-not camera width height strict at =
+    let seen = min (at .done) (samples width height) in
+    rw (
+      leb-not (at .done) (all-units width height),
+      leb-not (at .updates) (limit camera * seen),
+      leb-not (samples width height) (at .done),
+      fine-not (increments (at .region) width height),
+      tallied-not strict seen (at .unsettled) (at .first),
+    )
+    (go (ltb (all-units width height) (at .done)) (ltb (limit camera * seen) (at .updates)) (all-finite (four (at .edges))) (ltb (at .done) (samples width height)) (unfit (increments (at .region) width height)) (no-tally strict seen (at .unsettled) (at .first)))
+  where
+    go : (a b c d e t : Bool) → (not a && (not b && (c && ((d || not e) && not t)))) ≡ not (a || (b || (not c || (not d && e || t))))
+    go true b c d e t = refl
+    go false true c d e t = refl
+    go false false false d e t = refl
+    go false false true true e t = refl
+    go false false true false true t = refl
+    go false false true false false t = refl
 
 pub admitted-number : (job : Job) (places : ℕ) → verdict (admitted job places) ≡ first (turn-rows job places)
 unfolding plan.admitted opens-for
 admitted-number job places =
-    rw (possible-not (job .camera) (job .width) (job .height) (job .at))
-    (go (all-finite (parameters (job .camera)) && all-finite (four (job .at .region))) (zero-focal (job .camera)) (sized (job .width) (job .height)) (eqb places (2 * (job .width * job .height))) (no-build (job .camera) (job .width) (job .height) (job .at)))
+    rw (possible-not (job .camera) (job .width) (job .height) (job .strict) (job .at))
+    (go (all-finite (parameters (job .camera)) && all-finite (four (job .at .region))) (zero-focal (job .camera)) (sized (job .width) (job .height)) (eqb places (2 * (job .width * job .height))) (no-build (job .camera) (job .width) (job .height) (job .strict) (job .at)))
   where
     go : (g z s e n : Bool)
         → verdict (decided (by-tests g z s) Refused (cond e (cond (not n) Taken (Refused ImpossibleRecord)) (Refused WrongLength)))

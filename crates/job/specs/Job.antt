@@ -1,4 +1,5 @@
 -- The record that a build hands from turn to turn: a fresh one, and which records are refused. Definitions only.
+use mathlib.Core.Bool.{Bool}
 use Prim.Native.Nat.{ℕ}
 use Rattle.lens.specs.Judgement.{decided}
 use Rattle.lens.specs.Refusal.{number}
@@ -11,15 +12,21 @@ use Rattle.job.specs.declared.Job.{Job}
 use Rattle.job.specs.declared.Started.{Started}
 use Rattle.job.specs.declared.Started.the-variants.{With, Refused}
 
--- ---- a fresh record: zeros but for its camera and size
+-- ---- a fresh record: zeros but for its camera, its size and the strict mark
 
-abbrev pub fresh-job : Camera → ℕ → ℕ → Job
-fresh-job camera width height = record { camera = camera; width = width; height = height; at = begun }
+abbrev pub fresh-job : Camera → ℕ → ℕ → Bool → Job
+fresh-job camera width height strict = record {
+  camera = camera;
+  width = width;
+  height = height;
+  strict = strict;
+  at = begun;
+}
 
 -- 4, 5, 6: by what refuses every record of this camera and size
-unfoldable pub fresh : Camera → ℕ → ℕ → Started
-fresh camera width height =
-    decided (opens-for camera width height nowhere) Refused (With (fresh-job camera width height))
+unfoldable pub fresh : Camera → ℕ → ℕ → Bool → Started
+fresh camera width height strict =
+    decided (opens-for camera width height nowhere) Refused (With (fresh-job camera width height strict))
 
 -- what the code's answer says: a record, or a refusal's number
 pub data Begun : Type 0 where
@@ -38,7 +45,7 @@ begun-number (no-job n) = n
 -- ---- which records a turn takes: 4, 5, 6, 7, 13; `places` is the length of the table
 
 abbrev pub sweep-for : Job → Sweep
-sweep-for job = sweep-of (job .camera) (job .width) (job .height)
+sweep-for job = sweep-of (job .camera) (job .width) (job .height) (job .strict)
 
 abbrev pub admitted : Job → ℕ → Judgement
 admitted job places = plan.admitted (sweep-for job) (job .at) places

@@ -20,14 +20,25 @@ use Rattle.job.specs.declared.Job.{Job}
 abbrev pub unfit : Increments → Bool
 unfit by = (flat (by .0) || flat (by .1)) || not (finite (by .0) && finite (by .1))
 
--- 13: done > T, updates beyond the model's limit times the samples done, an edge so far that isn't finite, or done ≥ B
--- with a region that has no increments
-abbrev pub no-build : Camera → ℕ → ℕ → Progress → Bool
-no-build camera width height at =
+-- of so many samples done: a count of unsettled ones above them, a first position that is not among them, a count
+-- without a first or a first without a count, or in a strict job a count that isn't 0
+abbrev pub no-tally : Bool → ℕ → ℕ → ℕ → Bool
+no-tally strict samples unsettled first =
+    ltb samples unsettled
+    || (ltb samples first
+    || ((eqb unsettled 0 && not (eqb first 0) || not (eqb unsettled 0) && eqb first 0)
+    || (strict && not (eqb unsettled 0))))
+
+-- 13: done > T, updates beyond the model's limit times the samples done, an edge so far that isn't finite, done ≥ B
+-- with a region that has no increments, or tallies that no build has
+abbrev pub no-build : Camera → ℕ → ℕ → Bool → Progress → Bool
+no-build camera width height strict at =
+    let samples-done = min (at .done) (samples width height) in
     ltb (all-units width height) (at .done)
-    || (ltb (limit camera * min (at .done) (samples width height)) (at .updates)
+    || (ltb (limit camera * samples-done) (at .updates)
     || (not (all-finite (four (at .edges)))
-    || (leb (samples width height) (at .done) && unfit (increments (at .region) width height))))
+    || (leb (samples width height) (at .done) && unfit (increments (at .region) width height)
+    || no-tally strict samples-done (at .unsettled) (at .first))))
 
 -- `places` is the length of the table
 abbrev pub turn-rows : Job → ℕ → List Row
@@ -36,7 +47,7 @@ turn-rows job places =
     ∷ (5 when zero-focal (job .camera))
     ∷ (6 when not (sized (job .width) (job .height)))
     ∷ (7 when not (eqb places (2 * (job .width * job .height))))
-    ∷ (13 when no-build (job .camera) (job .width) (job .height) (job .at))
+    ∷ (13 when no-build (job .camera) (job .width) (job .height) (job .strict) (job .at))
     ∷ []
 
 -- those of a fresh record

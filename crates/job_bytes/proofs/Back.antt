@@ -26,8 +26,9 @@ use Rattle.camera_bytes.specs.Reading as reading
 use Rattle.camera_bytes.specs.Reading.{camera-of}
 use Rattle.job.specs.declared.Job.{Job}
 use Rattle.camera.specs.Numbers.{model-number, twelve}
-use Rattle.job_bytes.specs.Bytes.{job-at, body, record-bytes}
-use Rattle.job_bytes.proofs.Placing.{part₀, part₁, part₂, part₃, part₄, part₅, part₆, part₇, part₈, to₁, to₂, to₃, to₄, to₅, to₆, long₀, long₁, long₂, long₃, long₄, long₅, long₆, always-twelve}
+use Rattle.job_bytes.specs.Bytes.{mark, head, job-at, record-bytes}
+use Rattle.job_bytes.specs.Check.{mark-place}
+use Rattle.job_bytes.proofs.Placing.{part₀, part₁, part₂, part₃, part₄, part₅, part₆, part₇, part₈, last-part, to₁, to₂, to₃, to₄, to₅, to₆, long₀, long₁, long₂, long₃, long₄, long₅, long₆, long₇, always-twelve}
 
 -- ---- numbers that are f64s
 
@@ -113,8 +114,17 @@ module _ (job : Job) where
   abbrev bs : List ℕ
   bs = record-bytes job
 
+  abbrev from₁₀ : List ℕ
+  from₁₀ = bytes 8 (mark (job .strict)) ++ last-part job
+
+  abbrev from₉ : List ℕ
+  from₉ = bytes 4 (job .at .first) ++ from₁₀
+
+  abbrev from₈ : List ℕ
+  from₈ = bytes 4 (job .at .unsettled) ++ from₉
+
   abbrev from₇ : List ℕ
-  from₇ = part₇ job ++ part₈ job
+  from₇ = part₇ job ++ from₈
 
   abbrev from₆ : List ℕ
   from₆ = part₆ job ++ from₇
@@ -134,9 +144,19 @@ module _ (job : Job) where
   abbrev from₁ : List ℕ
   from₁ = part₁ job ++ from₂
 
+  -- the tallies by their own parts
+  tallies-are : part₈ job ++ last-part job ≡ from₈
+  tallies-are =
+      append-assoc (bytes 4 (job .at .unsettled) ++ bytes 4 (job .at .first)) (bytes 8 (mark (job .strict))) (last-part job)
+      ∙ append-assoc (bytes 4 (job .at .unsettled)) (bytes 4 (job .at .first)) from₁₀
+
+  is₈ : bs ≡ head job ++ from₈
+  unfolding record-bytes
+  is₈ = append-assoc (head job) (part₈ job) (last-part job) ∙ ap (λ (l : List ℕ). head job ++ l) tallies-are
+
   is₇ : bs ≡ to₆ job ++ from₇
-  unfolding record-bytes body
-  is₇ = append-assoc (to₆ job) (part₇ job) (part₈ job)
+  unfolding head
+  is₇ = is₈ ∙ append-assoc (to₆ job) (part₇ job) from₈
 
   is₆ : bs ≡ to₅ job ++ from₆
   is₆ = is₇ ∙ append-assoc (to₅ job) (part₆ job) from₇
@@ -177,20 +197,50 @@ module _ (job : Job) where
   at₇ : drop 152 bs ≡ from₇
   at₇ = ap (drop 152) is₇ ∙ drop-at (to₆ job) from₇ 152 (long₆ job)
 
+  at₈ : drop 184 bs ≡ from₈
+  at₈ = ap (drop 184) is₈ ∙ drop-at (head job) from₈ 184 (long₇ job)
+
+  at₉ : drop 188 bs ≡ from₉
+  at₉ = sym (drop-drop 4 184 bs) ∙ ap (drop 4) at₈ ∙ drop-at (bytes 4 (job .at .unsettled)) from₉ 4 (length-bytes 4 (job .at .unsettled))
+
+  at₁₀ : drop 192 bs ≡ from₁₀
+  at₁₀ = sym (drop-drop 4 188 bs) ∙ ap (drop 4) at₉ ∙ drop-at (bytes 4 (job .at .first)) from₁₀ 4 (length-bytes 4 (job .at .first))
+
+  mark-less : (strict : Bool) → mark strict < 2 ^ 64
+  mark-less true = omega arith
+  mark-less false = omega arith
+
+  -- the mark, and that it is one
+  pub mark-back : word bs mark-place ≡ mark (job .strict)
+  mark-back = word-first (mark (job .strict)) (last-part job) bs 192 at₁₀ (mark-less (job .strict))
+
+  is-strict : (strict : Bool) → eqb (mark strict) 1 ≡ strict
+  is-strict true = refl
+  is-strict false = refl
+
   pub model-back : half bs 0 ≡ model-number (job .camera)
   model-back = half-first (model-number (job .camera)) from₁ bs 0 is₁ (omega (arith, model-known (job .camera)))
 
   same-job :
-      (camera : Camera) (width height done updates : ℕ) (edges region : Region) →
+      (camera : Camera) (width height : ℕ) (strict : Bool) (done updates unsettled first : ℕ) (edges region : Region) →
       camera ≡ job .camera →
       width ≡ job .width →
       height ≡ job .height →
+      strict ≡ job .strict →
       done ≡ job .at .done →
       updates ≡ job .at .updates →
+      unsettled ≡ job .at .unsettled →
+      first ≡ job .at .first →
       edges ≡ job .at .edges →
       region ≡ job .at .region →
-      _≡_ {A = Job} record { camera = camera; width = width; height = height; at = record { done = done; edges = edges; region = region; updates = updates } } job
-  same-job camera width height done updates edges region c w h d u e r = rw (c, w, h, d, u, e, r) refl
+      _≡_ {A = Job} record {
+        camera = camera;
+        width = width;
+        height = height;
+        strict = strict;
+        at = record { done = done; edges = edges; region = region; updates = updates; unsettled = unsettled; first = first };
+      } job
+  same-job camera width height strict done updates unsettled first edges region c w h s d u n f e r = rw (c, w, h, s, d, u, n, f, e, r) refl
 
   pub job-back :
       AllFit (parameters (job .camera)) →
@@ -199,15 +249,20 @@ module _ (job : Job) where
       job .width < 2 ^ 32 →
       job .height < 2 ^ 32 →
       job .at .updates < 2 ^ 32 →
+      job .at .unsettled < 2 ^ 32 →
+      job .at .first < 2 ^ 32 →
       job .at .done < 2 ^ 64 →
       job-at bs ≡ job
   unfolding job-at
-  job-back fp fe fr w h u d =
-      let c : camera-of (half bs 0) (drop 8 bs) ≡ job .camera = ap₂ camera-of model-back at₂ ∙ camera-back (job .camera) from₃ fp in
-      let ew : half bs 104 ≡ job .width = half-first (job .width) from₄ bs 104 at₃ w in
-      let eh : half bs 108 ≡ job .height = half-first (job .height) from₅ bs 108 at₄ h in
-      let eu : half bs 4 ≡ job .at .updates = half-first (job .at .updates) from₂ bs 4 at₁ u in
-      let ed : word bs 112 ≡ job .at .done = word-first (job .at .done) from₆ bs 112 at₅ d in
-      let ee : box-at bs 120 ≡ job .at .edges = box-back (job .at .edges) from₇ bs 120 at₆ fe in
-      let er : box-at bs 152 ≡ job .at .region = box-back (job .at .region) (part₈ job) bs 152 at₇ fr in
-      same-job (camera-of (half bs 0) (drop 8 bs)) (half bs 104) (half bs 108) (word bs 112) (half bs 4) (box-at bs 120) (box-at bs 152) c ew eh ed eu ee er
+  job-back fp fe fr w h u n f d =
+      same-job _ _ _ _ _ _ _ _ _ _
+      (ap₂ camera-of model-back at₂ ∙ camera-back (job .camera) from₃ fp)
+      (half-first (job .width) from₄ bs 104 at₃ w)
+      (half-first (job .height) from₅ bs 108 at₄ h)
+      (ap (λ (m : ℕ). eqb m 1) mark-back ∙ is-strict (job .strict))
+      (word-first (job .at .done) from₆ bs 112 at₅ d)
+      (half-first (job .at .updates) from₂ bs 4 at₁ u)
+      (half-first (job .at .unsettled) from₉ bs 184 at₈ n)
+      (half-first (job .at .first) from₁₀ bs 188 at₉ f)
+      (box-back (job .at .edges) from₇ bs 120 at₆ fe)
+      (box-back (job .at .region) from₈ bs 152 at₇ fr)

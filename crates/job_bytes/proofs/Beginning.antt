@@ -11,7 +11,7 @@ use Rattle.lens.specs.Refusal.{number}
 use Rattle.lens.specs.declared.Refusal.{Refusal}
 use Rattle.lens.specs.declared.Judgement.{Judgement}
 use Rattle.lens.specs.declared.Judgement.the-variants.{Taken, Refused}
-use Rattle.lens.specs.declared.Refusal.the-variants.{UnknownModel, WrongCount}
+use Rattle.lens.specs.declared.Refusal.the-variants.{UnknownModel, WrongCount, ImpossibleRecord}
 use Rattle.lens.proofs.Laws.{number-within}
 use Rattle.camera.specs.declared.Camera.{Camera}
 use Rattle.camera.specs.Numbers.{count}
@@ -27,7 +27,7 @@ use Rattle.job.specs.Job.{Begun, no-job, fresh-job, fresh, told-started}
 use Rattle.job.specs.declared.Job.{Job}
 use Rattle.job.specs.declared.Started.{Started}
 use Rattle.job.specs.declared.Started.the-variants as begun
-use Rattle.job_bytes.specs.Bytes.{record-length, record-bytes, started, give-started, fresh-bytes}
+use Rattle.job_bytes.specs.Bytes.{record-length, record-bytes, known-mark, started, give-started, fresh-bytes}
 
 -- ---- the call
 
@@ -44,23 +44,23 @@ refused-given refusal own r lent o e =
     (λ z. omega (arith, number-within refusal .0, told-zero record-length (number refusal) [] lent (sym f ∙ z) .0))
 
 pub call :
-    (model : ℕ) (params : List ℕ) (width height : ℕ) (lent : List ℕ) (g : Given) (s : Started) (a : Asked) →
+    (model : ℕ) (params : List ℕ) (width height m : ℕ) (lent : List ℕ) (g : Given) (s : Started) (a : Asked) →
     g ≡ give-started (told-started s) lent →
-    told-started s ≡ told-started (started a width height) →
+    told-started s ≡ told-started (started a width height m) →
     a ≡ read model params →
-    g ≡ fresh-bytes model params width height lent
+    g ≡ fresh-bytes model params width height m lent
 unfolding fresh-bytes
-call model params width height lent g s a e f k =
-    e ∙ ap (λ (b : Begun). give-started b lent) (f ∙ ap (λ (q : Asked). told-started (started q width height)) k)
+call model params width height m lent g s a e f k =
+    e ∙ ap (λ (b : Begun). give-started b lent) (f ∙ ap (λ (q : Asked). told-started (started q width height m)) k)
 
 -- ---- what 0 says
 
-module _ (model : ℕ) (params : List ℕ) (width height : ℕ) (lent : List ℕ) where
+module _ (model : ℕ) (params : List ℕ) (width height m : ℕ) (lent : List ℕ) where
   abbrev camera : Camera
   camera = camera-of model params
 
   abbrev job : Job
-  job = fresh-job camera width height
+  job = fresh-job camera width height (eqb m 1)
 
   abbrev Says : Given → Type 0
   Says g = g .code ≡ 0 → (g .answer ≡ record-bytes job) × (opens-for camera width height nowhere ≡ Taken)
@@ -76,16 +76,20 @@ module _ (model : ℕ) (params : List ℕ) (width height : ℕ) (lent : List ℕ
   by-start :
       (j : Judgement) →
       opens-for camera width height nowhere ≡ j →
-      Says (give-started (told-started (decided j begun.Refused (begun.With job))) lent)
+      Says (give-started (told-started (known-mark m (decided j begun.Refused (begun.With job)))) lent)
   by-start (Refused r) e = refusing r
-  by-start Taken e = beginning e
+  by-start Taken e = by-mark (leb m 1)
+    where
+      by-mark : (b : Bool) → Says (give-started (told-started (cond b (begun.With job) (begun.Refused ImpossibleRecord))) lent)
+      by-mark true = beginning e
+      by-mark false = refusing ImpossibleRecord
 
-  by-asked : (t u : Bool) → Says (give-started (told-started (started (cond t (cond u (asked.Of camera) (asked.Refused WrongCount)) (asked.Refused UnknownModel)) width height)) lent)
+  by-asked : (t u : Bool) → Says (give-started (told-started (started (cond t (cond u (asked.Of camera) (asked.Refused WrongCount)) (asked.Refused UnknownModel)) width height m)) lent)
   unfolding fresh
   by-asked false u = refusing UnknownModel
   by-asked true false = refusing WrongCount
   by-asked true true = by-start (opens-for camera width height nowhere) refl
 
-  pub fresh-zero : Says (fresh-bytes model params width height lent)
+  pub fresh-zero : Says (fresh-bytes model params width height m lent)
   unfolding fresh-bytes read
   fresh-zero = by-asked (leb model 3) (eqb (length params) (8 * count model))

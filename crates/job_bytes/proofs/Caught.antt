@@ -6,7 +6,7 @@ use Prim.Native.Nat.{ℕ, zero, suc, _+_, _*_, _/_, _%_, _^_, _≤_, _<_}
 use native.Mathlib.Nat.{pow-suc}
 use native.Mathlib.Omega.{arith}
 use borrow.Author.Tests.{eqb-true, eqb-false, eq-eqb}
-use lib.Dec.{eqb}
+use lib.Dec.{eqb, leb}
 use lib.Ieee.{Float, binary64, toBits}
 use lib.ListN.{length, getD, take, drop, length-drop, List·getD-eq-default}
 use lib.Seq.{length-take-le, getD-take, getD-drop, drop-at, ext-getD}
@@ -15,11 +15,11 @@ use Rattle.job.specs.declared.Job.{Job}
 use Rattle.little_endian.specs.Bytes.{value, bytes, word, floats}
 use Rattle.little_endian.proofs.Laws.{bytes-value}
 use Rattle.camera.specs.Numbers.{model-number, twelve}
-use Rattle.job_bytes.specs.Bytes.{body, record-bytes}
-use Rattle.job_bytes.specs.Check.{summed, check-place, check-start, sum-of-words, check-of, intact, RecordBytes, WordApart, ByteApart}
+use Rattle.job_bytes.specs.Bytes.{mark, head, body, record-bytes}
+use Rattle.job_bytes.specs.Check.{summed, check-place, check-start, sum-of-words, check-of, intact, whole, RecordBytes, WordApart, ByteApart}
 use Rattle.job_bytes.proofs.Summing.{same-sum, check-behind, check-less}
-use Rattle.job_bytes.proofs.Placing.{part₀, part₁, part₂, part₃, part₄, part₅, part₆, part₇, part₈, to₁, to₂, to₃, to₄, to₅, to₆, long₇, length-record}
-use Rattle.job_bytes.proofs.Back.{word-first}
+use Rattle.job_bytes.proofs.Placing.{part₀, part₁, part₂, part₃, part₄, part₅, part₆, part₇, part₈, last-part, to₁, to₂, to₃, to₄, to₅, to₆, long-body, length-record}
+use Rattle.job_bytes.proofs.Back.{word-first, mark-back}
 
 -- ---- a word and its eight bytes
 
@@ -32,7 +32,7 @@ value-less (b ∷ l) h =
     let rest : value l < 256 ^ length l = value-less l (λ i. h (suc i)) in
     omega arith
 
-module _ (bs : List ℕ) (r : RecordBytes bs) (k : ℕ) (h : k < 24) where
+module _ (bs : List ℕ) (r : RecordBytes bs) (k : ℕ) (h : k < 26) where
   abbrev eight : List ℕ
   eight = take 8 (drop (8 * k) bs)
 
@@ -63,7 +63,7 @@ module _ (bs : List ℕ) (r : RecordBytes bs) (k : ℕ) (h : k < 24) where
 -- ---- two records of bytes that differ in one word at most
 
 module _ (a b : List ℕ) (ra : RecordBytes a) (rb : RecordBytes b) (k : ℕ) (same : (i : ℕ) → (i / 8 ≡ k → ⊥) → getD a i 0 ≡ getD b i 0) where
-  other-words : (j : ℕ) → j < 24 → (j ≡ k → ⊥) → word a (8 * j) ≡ word b (8 * j)
+  other-words : (j : ℕ) → j < 26 → (j ≡ k → ⊥) → word a (8 * j) ≡ word b (8 * j)
   other-words j h n =
       ap value
       (ext-getD 0 (eight a ra j h) (eight b rb j h) (long-eight a ra j h ∙ sym (long-eight b rb j h)) (λ i l.
@@ -93,7 +93,7 @@ module _ (a b : List ℕ) (ra : RecordBytes a) (rb : RecordBytes b) (k : ℕ) (s
           omega arith
 
   -- where both check words are right, that word is the same too
-  one-word : k < 24 → word a check-place ≡ check-of a → word b check-place ≡ check-of b → word a (8 * k) ≡ word b (8 * k)
+  one-word : k < 26 → word a check-place ≡ check-of a → word b check-place ≡ check-of b → word a (8 * k) ≡ word b (8 * k)
   unfolding check-of
   one-word h ia ib = by-place (eqb k summed) refl
     where
@@ -122,7 +122,7 @@ module _ (a b : List ℕ) (ra : RecordBytes a) (rb : RecordBytes b) (k : ℕ) (s
           by-word : (t : Bool) → eqb (i / 8) k ≡ t → getD a i 0 ≡ getD b i 0
           by-word true e =
               let z : i / 8 ≡ k = eqb-true (i / 8) k e in
-              let h : k < 24 = omega (arith, ra .long) in
+              let h : k < 26 = omega (arith, ra .long) in
               let l₈ : i % 8 < 8 = omega arith in
               let at : 8 * k + i % 8 ≡ i = omega arith in
               let w : word a (8 * k) ≡ word b (8 * k) = one-word h (eqb-true (word a check-place) (check-of a) ia) (eqb-true (word b check-place) (check-of b) ib) in
@@ -161,9 +161,10 @@ each-floats (x ∷ xs) i = each-append (bytes 8 (toBits binary64 x)) (floats xs)
 
 module _ (job : Job) where
   each-body : (i : ℕ) → getD (body job) i 0 < 256
-  unfolding body
+  unfolding head
   each-body =
-      each-append (to₆ job) (part₇ job)
+      each-append (head job) (part₈ job)
+      (each-append (to₆ job) (part₇ job)
       (each-append (to₅ job) (part₆ job)
       (each-append (to₄ job) (part₅ job)
       (each-append (to₃ job) (part₄ job)
@@ -175,13 +176,16 @@ module _ (job : Job) where
       (each-bytes 4 (job .height)))
       (each-bytes 8 (job .at .done)))
       (each-floats (four (job .at .edges))))
-      (each-floats (four (job .at .region)))
+      (each-floats (four (job .at .region))))
+      (each-append (bytes 4 (job .at .unsettled) ++ bytes 4 (job .at .first)) (bytes 8 (mark (job .strict)))
+      (each-append (bytes 4 (job .at .unsettled)) (bytes 4 (job .at .first)) (each-bytes 4 (job .at .unsettled)) (each-bytes 4 (job .at .first)))
+      (each-bytes 8 (mark (job .strict))))
 
   pub record-of-bytes : RecordBytes (record-bytes job)
   unfolding record-bytes
   record-of-bytes = record {
     long = length-record job;
-    each = each-append (body job) (part₈ job) each-body (each-bytes 8 (check-of (body job)));
+    each = each-append (body job) (last-part job) each-body (each-bytes 8 (check-of (body job)));
   }
 
   -- the check word is read back, and is the one of the whole
@@ -189,5 +193,13 @@ module _ (job : Job) where
   unfolding record-bytes
   its-check =
       eq-eqb _ _
-      (word-first (check-of (body job)) [] (body job ++ part₈ job) check-place (drop-at (body job) (part₈ job) check-place (long₇ job) ∙ sym (append-nil (part₈ job))) (check-less (body job))
-      ∙ sym (check-behind (body job) (part₈ job) (long₇ job)))
+      (word-first (check-of (body job)) [] (body job ++ last-part job) check-place (drop-at (body job) (last-part job) check-place (long-body job) ∙ sym (append-nil (last-part job))) (check-less (body job))
+      ∙ sym (check-behind (body job) (last-part job) (long-body job)))
+
+  one-of-two : (strict : Bool) → leb (mark strict) 1 ≡ true
+  one-of-two true = refl
+  one-of-two false = refl
+
+  -- so it is whole
+  pub its-whole : whole (record-bytes job) ≡ true
+  its-whole = rw (mark-back job, one-of-two (job .strict)) its-check

@@ -5,6 +5,7 @@ use mathlib.Core.List.{List}
 use Prim.Native.Nat.{ℕ, _/_, _^_, _<_}
 use native.Mathlib.Omega.{arith}
 use denote.Ref.{now}
+use lib.Dec.{eqb}
 use lib.Ieee.{binary64}
 use lib.Ieee.Bits.{ofBits-fits}
 use lib.ListN.{length}
@@ -24,35 +25,35 @@ use Rattle.table_plans.proofs.Sound.{opened}
 use Rattle.job.specs.Job.{fresh-job}
 use Rattle.job.specs.declared.Job.{Job}
 use Rattle.job_bytes.specs.Bytes.{record-length, record-bytes, record-read, fresh-bytes}
-use Rattle.job_bytes.specs.Check.{intact, RecordBytes, WordApart, ByteApart}
+use Rattle.job_bytes.specs.Check.{intact, whole, RecordBytes, WordApart, ByteApart}
 use Rattle.job_bytes.specs.declared.Found.the-variants.{Of}
 use Rattle.job_bytes.proofs.Reading.{read-job}
 use Rattle.job_bytes.proofs.Placing as placing
 use Rattle.job_bytes.proofs.Back.{camera-fits, model-known, model-back, job-back}
 use Rattle.job_bytes.proofs.Beginning.{fresh-zero}
-use Rattle.job_bytes.proofs.Caught.{both-intact, record-of-bytes, its-check, in-a-word}
+use Rattle.job_bytes.proofs.Caught.{both-intact, record-of-bytes, its-whole, in-a-word}
 use Rattle.job_bytes.proofs.read.Reads as read-contract
-use Rattle.job_bytes.proofs.intact.Reads as intact-contract
+use Rattle.job_bytes.proofs.whole.Reads as whole-contract
 use Rattle.job_bytes.proofs.write.Reads as write-contract
 use Rattle.job_bytes.proofs.fresh.Reads as fresh-contract
 
 -- ---- each contract permits one answer, and one buffer
 
--- Any two answers to one call that the contract of `read` or of `intact` permits are equal.
-pub determined : Determined read-contract.Post × Determined intact-contract.Post
+-- Any two answers to one call that the contract of `read` or of `whole` permits are equal.
+pub determined : Determined read-contract.Post × Determined whole-contract.Post
 determined = (λ κ a s s' r r' p q. p ∙ sym q, λ κ a s s' r r' p q. p ∙ sym q)
 
 -- Any two buffers that the contract of `write` permits after one call are equal, and any two numbers and buffers for `fresh`.
-pub determined-buffers : DeterminedWith write-contract.Post (λ κ s. now (s .1 .0)) × DeterminedWith fresh-contract.Post (λ κ s. now (s .1 .1 .1 .1 .0))
+pub determined-buffers : DeterminedWith write-contract.Post (λ κ s. now (s .1 .0)) × DeterminedWith fresh-contract.Post (λ κ s. now (s .1 .1 .1 .1 .1 .0))
 determined-buffers = (λ κ a s s' r r' p q. (refl, p ∙ sym q), λ κ a s s' r r' p q. both (p ∙ sym q))
 
 -- ---- there and back
 
--- A record has 192 bytes, whatever it holds.
+-- A record has 208 bytes, whatever it holds.
 pub length-record : (job : Job) → length (record-bytes job) ≡ record-length
 length-record = placing.length-record
 
--- What a record's bytes can hold: its numbers are f64s, its size and updates have 32 bits at most, its units 64.
+-- What a record's bytes can hold: its numbers are f64s, its size, its updates and its tallies have 32 bits at most, its units 64.
 pub record Writable (job : Job) : Type 0 where
   pub params : AllFit (parameters (job .camera))
   pub edges : FourFit (job .at .edges)
@@ -60,26 +61,28 @@ pub record Writable (job : Job) : Type 0 where
   pub width : job .width < 2 ^ 32
   pub height : job .height < 2 ^ 32
   pub updates : job .at .updates < 2 ^ 32
+  pub unsettled : job .at .unsettled < 2 ^ 32
+  pub first : job .at .first < 2 ^ 32
   pub done : job .at .done < 2 ^ 64
 
 -- A record written and read back is the same record.
 pub written-read : (job : Job) → Writable job → record-read (record-bytes job) ≡ Of job
 written-read job w =
     sym (read-job (record-bytes job) (length-record job) (omega (arith, model-back job, model-known (job .camera))))
-    ∙ ap Of (job-back job (w .params) (w .edges) (w .region) (w .width) (w .height) (w .updates) (w .done))
+    ∙ ap Of (job-back job (w .params) (w .edges) (w .region) (w .width) (w .height) (w .updates) (w .unsettled) (w .first) (w .done))
 
 -- ---- the check word
 
--- What is written is intact, whatever the record holds.
-pub written-intact : (job : Job) → intact (record-bytes job) ≡ true
-written-intact = its-check
+-- What is written is whole, its mark and its check word right, whatever the record holds.
+pub written-whole : (job : Job) → whole (record-bytes job) ≡ true
+written-whole = its-whole
 
--- And it is 192 numbers below 256.
+-- And it is 208 numbers below 256.
 pub written-bytes : (job : Job) → RecordBytes (record-bytes job)
 written-bytes = record-of-bytes
 
--- Damage within one word of eight bytes shows: of two records' bytes that are the same outside one of their 24 words, and not
--- the same, at most one is intact. The check word is one of the 24.
+-- Damage within one word of eight bytes shows: of two records' bytes that are the same outside one of their 26 words, and not
+-- the same, at most one is intact. The check word is one of the 26.
 pub one-word-caught :
     (a b : List ℕ) → RecordBytes a → RecordBytes b → (k : ℕ) → WordApart k a b → intact a ≡ true → intact b ≡ false
 one-word-caught a b ra rb k apart ia = by-test (intact b) refl
@@ -99,34 +102,36 @@ one-byte-caught a b ra rb place apart = one-word-caught a b ra rb (place / 8) (b
 
 -- ---- a fresh record
 
-fresh-writable : (model : ℕ) (params : List ℕ) (width height : ℕ) → Sized width height → Writable (fresh-job (camera-of model params) width height)
-fresh-writable model params width height s = record {
+fresh-writable : (model : ℕ) (params : List ℕ) (width height m : ℕ) → Sized width height → Writable (fresh-job (camera-of model params) width height (eqb m 1))
+fresh-writable model params width height m s = record {
   params = camera-fits model params;
   edges = (ofBits-fits binary64 0, ofBits-fits binary64 0, ofBits-fits binary64 0, ofBits-fits binary64 0);
   region = (ofBits-fits binary64 0, ofBits-fits binary64 0, ofBits-fits binary64 0, ofBits-fits binary64 0);
   width = omega (arith, s .not-wider);
   height = omega (arith, s .not-higher);
   updates = omega arith;
+  unsettled = omega arith;
+  first = omega arith;
   done = omega arith;
 }
 
--- Where `fresh` returns 0, the buffer holds the record of the camera and size that were handed in with no unit done, one
+-- Where `fresh` returns 0, the buffer holds the record of the camera, size and mark that were handed in with no unit done, one
 -- that bytes can hold, and that record is read back out of it.
 pub fresh-read :
-    (model : ℕ) (params : List ℕ) (width height : ℕ) (lent : List ℕ) →
-    fresh-bytes model params width height lent .code ≡ 0 →
-    (fresh-bytes model params width height lent .answer ≡ record-bytes (fresh-job (camera-of model params) width height))
-    × Writable (fresh-job (camera-of model params) width height)
-    × (record-read (fresh-bytes model params width height lent .answer) ≡ Of (fresh-job (camera-of model params) width height))
-fresh-read model params width height lent z =
-    let says = fresh-zero model params width height lent z in
+    (model : ℕ) (params : List ℕ) (width height m : ℕ) (lent : List ℕ) →
+    fresh-bytes model params width height m lent .code ≡ 0 →
+    (fresh-bytes model params width height m lent .answer ≡ record-bytes (fresh-job (camera-of model params) width height (eqb m 1)))
+    × Writable (fresh-job (camera-of model params) width height (eqb m 1))
+    × (record-read (fresh-bytes model params width height m lent .answer) ≡ Of (fresh-job (camera-of model params) width height (eqb m 1)))
+fresh-read model params width height m lent z =
+    let says = fresh-zero model params width height m lent z in
     let s = opened (camera-of model params) width height nowhere (says .1) .size in
-    let w : Writable (fresh-job (camera-of model params) width height) = fresh-writable model params width height s in
-    (says .0, w, ap record-read (says .0) ∙ written-read (fresh-job (camera-of model params) width height) w)
+    let w : Writable (fresh-job (camera-of model params) width height (eqb m 1)) = fresh-writable model params width height m s in
+    (says .0, w, ap record-read (says .0) ∙ written-read (fresh-job (camera-of model params) width height (eqb m 1)) w)
 
 -- There camera and size are taken.
 pub fresh-opens-zero :
-    (model : ℕ) (params : List ℕ) (width height : ℕ) (lent : List ℕ) →
-    fresh-bytes model params width height lent .code ≡ 0 →
+    (model : ℕ) (params : List ℕ) (width height m : ℕ) (lent : List ℕ) →
+    fresh-bytes model params width height m lent .code ≡ 0 →
     opens-for (camera-of model params) width height nowhere ≡ Taken
-fresh-opens-zero model params width height lent z = fresh-zero model params width height lent z .1
+fresh-opens-zero model params width height m lent z = fresh-zero model params width height m lent z .1

@@ -14,8 +14,8 @@ use Rattle.camera.specs.Numbers.{model-number, twelve}
 use Rattle.camera.specs.declared.Camera.{Camera}
 use Rattle.camera.specs.declared.Camera.the-variants as cameras
 use Rattle.job.specs.declared.Job.{Job}
-use Rattle.job_bytes.specs.Bytes.{record-length, body, record-bytes}
-use Rattle.job_bytes.specs.Check.{check-of}
+use Rattle.job_bytes.specs.Bytes.{record-length, mark, head, tallies, body, record-bytes}
+use Rattle.job_bytes.specs.Check.{check-place, check-of}
 use Rattle.job_bytes.proofs.Summing.{check-behind}
 
 pub longer : (a b : List ℕ) (m n : ℕ) → length a ≡ m → length b ≡ n → length (a ++ b) ≡ m + n
@@ -41,7 +41,7 @@ laid at new bs h = simp (le-leb (at + length new) (length bs) h)
 pub room-kept : (at : ℕ) (new x y : List ℕ) → y ≡ put at new x → length y ≡ length x
 room-kept at new x y e = ap length e ∙ length-put at new x
 
--- ---- the nine parts of a record, and what stands before each
+-- ---- the ten parts of a record, and what stands before each
 
 module _ (job : Job) where
   abbrev pub part₀ : List ℕ
@@ -68,9 +68,12 @@ module _ (job : Job) where
   abbrev pub part₇ : List ℕ
   part₇ = floats (four (job .at .region))
 
-  -- the check word
   abbrev pub part₈ : List ℕ
-  part₈ = bytes 8 (check-of (body job))
+  part₈ = tallies job
+
+  -- the check word
+  abbrev pub last-part : List ℕ
+  last-part = bytes 8 (check-of (body job))
 
   abbrev pub to₁ : List ℕ
   to₁ = part₀ ++ part₁
@@ -111,13 +114,22 @@ module _ (job : Job) where
   pub long₆ : length to₆ ≡ 152
   long₆ = longer to₅ part₆ 120 32 long₅ (length-four (job .at .edges))
 
-  pub long₇ : length (body job) ≡ 184
-  unfolding body
+  pub long₇ : length (head job) ≡ 184
+  unfolding head
   long₇ = longer to₆ part₇ 152 32 long₆ (length-four (job .at .region))
+
+  pub long₈ : length part₈ ≡ 16
+  long₈ =
+      longer (bytes 4 (job .at .unsettled) ++ bytes 4 (job .at .first)) (bytes 8 (mark (job .strict))) 8 8
+      (longer (bytes 4 (job .at .unsettled)) (bytes 4 (job .at .first)) 4 4 (length-bytes 4 (job .at .unsettled)) (length-bytes 4 (job .at .first)))
+      (length-bytes 8 (mark (job .strict)))
+
+  pub long-body : length (body job) ≡ check-place
+  long-body = longer (head job) part₈ 184 16 long₇ long₈
 
   pub length-record : length (record-bytes job) ≡ record-length
   unfolding record-bytes
-  length-record = longer (body job) part₈ 184 8 long₇ (length-bytes 8 (check-of (body job)))
+  length-record = longer (body job) last-part check-place 8 long-body (length-bytes 8 (check-of (body job)))
 
   -- a buffer that is too short
   pub no-room : (lent : List ℕ) → length lent < record-length → lent ≡ put 0 (record-bytes job) lent
@@ -135,7 +147,7 @@ module _ (job : Job) where
         y ≡ put 0 (a ++ b) lent
     behind a b x y at size la lb h e f = f ∙ ap (put at b) e ∙ put-put 0 a b lent at (omega (arith, la)) (omega (arith, la, lb, h, room))
 
-    pub all-put :
+    pub head-put :
         (model : ℕ) (x₀ x₁ x₂ x₃ x₄ x₅ x₆ x₇ : List ℕ) →
         model ≡ model-number (job .camera) →
         x₀ ≡ put 0 (bytes 4 model) lent →
@@ -146,9 +158,9 @@ module _ (job : Job) where
         x₅ ≡ put 112 part₅ x₄ →
         x₆ ≡ put 120 part₆ x₅ →
         x₇ ≡ put 152 part₇ x₆ →
-        x₇ ≡ put 0 (body job) lent
-    unfolding body
-    all-put model x₀ x₁ x₂ x₃ x₄ x₅ x₆ x₇ m e₀ e₁ e₂ e₃ e₄ e₅ e₆ e₇ =
+        x₇ ≡ put 0 (head job) lent
+    unfolding head
+    head-put model x₀ x₁ x₂ x₃ x₄ x₅ x₆ x₇ m e₀ e₁ e₂ e₃ e₄ e₅ e₆ e₇ =
         let f₀ : x₀ ≡ put 0 part₀ lent = e₀ ∙ ap (λ (w : ℕ). put 0 (bytes 4 w) lent) m in
         let f₁ : x₁ ≡ put 0 to₁ lent = behind part₀ part₁ x₀ x₁ 4 4 long₀ (length-bytes 4 (job .at .updates)) (omega arith) f₀ e₁ in
         let f₂ : x₂ ≡ put 0 to₂ lent = behind to₁ part₂ x₁ x₂ 8 96 long₁ (length-twelve (job .camera)) (omega arith) f₁ e₂ in
@@ -158,21 +170,44 @@ module _ (job : Job) where
         let f₆ : x₆ ≡ put 0 to₆ lent = behind to₅ part₆ x₅ x₆ 120 32 long₅ (length-four (job .at .edges)) (omega arith) f₅ e₆ in
         behind to₆ part₇ x₆ x₇ 152 32 long₆ (length-four (job .at .region)) (omega arith) f₆ e₇
 
+    -- the tallies by their own parts
+    pub tallies-put :
+        (marked : ℕ) (x₀ x₁ x₂ : List ℕ) →
+        marked ≡ mark (job .strict) →
+        x₀ ≡ put 184 (bytes 4 (job .at .unsettled)) lent →
+        x₁ ≡ put 188 (bytes 4 (job .at .first)) x₀ →
+        x₂ ≡ put 192 (bytes 8 marked) x₁ →
+        x₂ ≡ put 184 (tallies job) lent
+    tallies-put marked x₀ x₁ x₂ m e₀ e₁ e₂ =
+        let a = bytes 4 (job .at .unsettled) in
+        let b = bytes 4 (job .at .first) in
+        let c = bytes 8 (mark (job .strict)) in
+        let la : length a ≡ 4 = length-bytes 4 (job .at .unsettled) in
+        let lb : length b ≡ 4 = length-bytes 4 (job .at .first) in
+        let lab : length (a ++ b) ≡ 8 = longer a b 4 4 la lb in
+        e₂ ∙ ap (λ (w : ℕ). put 192 (bytes 8 w) x₁) m
+        ∙ ap (put 192 c) (e₁ ∙ ap (put 188 b) e₀ ∙ put-put 184 a b lent 188 (omega (arith, la)) (omega (arith, la, lb, room)))
+        ∙ put-put 184 (a ++ b) c lent 192 (omega (arith, lab)) (omega (arith, lab, length-bytes 8 (mark (job .strict)), room))
+
+    -- both make the body
+    pub body-put : (x₇ x₈ : List ℕ) → x₇ ≡ put 0 (head job) lent → x₈ ≡ put 184 (tallies job) x₇ → x₈ ≡ put 0 (body job) lent
+    body-put x₇ x₈ e f = behind (head job) part₈ x₇ x₈ 184 16 long₇ long₈ (omega arith) e f
+
     -- the check word is the one of what stands before it in the buffer
     pub check-put :
-        (check : ℕ) (x₇ x₈ : List ℕ) →
-        x₇ ≡ put 0 (body job) lent →
-        check ≡ check-of (take record-length x₇) →
-        x₈ ≡ put 184 (bytes 8 check) x₇ →
-        x₈ ≡ put 0 (record-bytes job) lent
+        (check : ℕ) (bodied all : List ℕ) →
+        bodied ≡ put 0 (body job) lent →
+        check ≡ check-of (take record-length bodied) →
+        all ≡ put check-place (bytes 8 check) bodied →
+        all ≡ put 0 (record-bytes job) lent
     unfolding record-bytes
-    check-put check x₇ x₈ e c f =
+    check-put check bodied all e c f =
         let rest : List ℕ = drop (0 + length (body job)) lent in
-        let end : record-length ≡ length (body job) + 8 = omega (arith, long₇) in
-        let front : take record-length x₇ ≡ body job ++ take 8 rest =
-        ap (take record-length) (e ∙ laid 0 (body job) lent (omega (arith, long₇, room)))
+        let end : record-length ≡ length (body job) + 8 = omega (arith, long-body) in
+        let front : take record-length bodied ≡ body job ++ take 8 rest =
+        ap (take record-length) (e ∙ laid 0 (body job) lent (omega (arith, long-body, room)))
         ∙ ap (λ (k : ℕ). take k (body job ++ rest)) end
         ∙ take-append-add (body job) rest 8 in
-        let same : check ≡ check-of (body job) = c ∙ ap check-of front ∙ check-behind (body job) (take 8 rest) long₇ in
-        behind (body job) part₈ x₇ x₈ 184 8 long₇ (length-bytes 8 (check-of (body job))) (omega arith) e
-        (f ∙ ap (λ (w : ℕ). put 184 (bytes 8 w) x₇) same)
+        let same : check ≡ check-of (body job) = c ∙ ap check-of front ∙ check-behind (body job) (take 8 rest) long-body in
+        behind (body job) last-part bodied all check-place 8 long-body (length-bytes 8 (check-of (body job))) (omega arith) e
+        (f ∙ ap (λ (w : ℕ). put check-place (bytes 8 w) bodied) same)

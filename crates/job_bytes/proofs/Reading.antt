@@ -4,6 +4,7 @@ use mathlib.Core.List.{List}
 use Prim.Native.Nat.{ℕ, _-_, _≤_, _<_}
 use native.Mathlib.Omega.{arith}
 use borrow.Author.Tests.{le-leb, lt-leb, eq-eqb, ne-eqb}
+use lib.Dec.{eqb}
 use lib.ListN.{length, take, drop, length-drop}
 use lib.Seq.{take-all}
 use Rattle.lens.specs.declared.Refusal.the-variants.{UnknownModel, WrongLength}
@@ -14,6 +15,7 @@ use Rattle.region_bytes.specs.Box.{box-at}
 use Rattle.camera_bytes.specs.Reading.{camera-of}
 use Rattle.job.specs.declared.Job.{Job}
 use Rattle.job_bytes.specs.Bytes.{record-length, job-at, record-read}
+use Rattle.job_bytes.specs.Check.{mark-place}
 use Rattle.job_bytes.specs.declared.Found.the-variants.{Of, Refused}
 
 module _ (bs : List ℕ) where
@@ -22,20 +24,29 @@ module _ (bs : List ℕ) where
   rest = take-all (length bs - 8) (drop 8 bs) (omega (arith, length-drop 8 bs))
 
   pub placed :
-      (model : ℕ) (camera : Camera) (width height done updates : ℕ) (edges region : Region) →
+      (model : ℕ) (camera : Camera) (width height marked done updates unsettled first : ℕ) (edges region : Region) →
       model ≡ half bs 0 →
       camera ≡ camera-of model (take (length bs - 8) (drop 8 bs)) →
       width ≡ half bs 104 →
       height ≡ half bs 108 →
+      marked ≡ word bs mark-place →
       done ≡ word bs 112 →
       edges ≡ box-at bs 120 →
       region ≡ box-at bs 152 →
       updates ≡ half bs 4 →
-      _≡_ {A = Job} record { camera = camera; width = width; height = height; at = record { done = done; edges = edges; region = region; updates = updates } } (job-at bs)
+      unsettled ≡ half bs 184 →
+      first ≡ half bs 188 →
+      _≡_ {A = Job} record {
+        camera = camera;
+        width = width;
+        height = height;
+        strict = eqb marked 1;
+        at = record { done = done; edges = edges; region = region; updates = updates; unsettled = unsettled; first = first };
+      } (job-at bs)
   unfolding job-at
-  placed model camera width height done updates edges region m c w h d e r u =
+  placed model camera width height marked done updates unsettled first edges region m c w h s d e r u n f =
       let k : camera ≡ camera-of (half bs 0) (drop 8 bs) = c ∙ ap₂ camera-of m rest in
-      rw (k, w, h, d, e, r, u) refl
+      rw (k, w, h, s, d, e, r, u, n, f) refl
 
   pub read-misfit : (length bs ≡ record-length → ⊥) → Refused WrongLength ≡ record-read bs
   unfolding record-read

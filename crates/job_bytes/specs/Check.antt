@@ -1,19 +1,19 @@
 -- The check word behind a record: a sum over all that stands before it, so that damaged bytes are told from those that
 -- were written. Definitions only.
 use mathlib.Core.Path.{_≡_}
-use mathlib.Core.Bool.{Bool}
+use mathlib.Core.Bool.{Bool, _&&_}
 use mathlib.Core.List.{List}
 use Prim.Native.Nat.{ℕ, zero, suc, _+_, _*_, _/_, _%_, _^_, _<_}
-use lib.Dec.{eqb}
+use lib.Dec.{eqb, leb}
 use lib.ListN.{length, getD}
 use Rattle.little_endian.specs.Bytes.{word}
 
 -- how many words of eight bytes are summed, and where the check word stands: behind them
 abbrev pub summed : ℕ
-summed = 23
+summed = 25
 
 abbrev pub check-place : ℕ
-check-place = 184
+check-place = 200
 
 -- what the sum starts from: the bytes "LENSJOB1". Bytes that are all 0 would pass a sum that starts from 0
 abbrev pub check-start : ℕ
@@ -31,11 +31,22 @@ check-of bs = (check-start + sum-of-words summed bs) % 2 ^ 64
 abbrev pub intact : List ℕ → Bool
 intact bs = eqb (word bs check-place) (check-of bs)
 
+-- where the strict mark stands, and whether it is one
+abbrev pub mark-place : ℕ
+mark-place = 192
+
+abbrev pub marked : List ℕ → Bool
+marked bs = leb (word bs mark-place) 1
+
+-- what a turn asks of the bytes, beside what they say
+abbrev pub whole : List ℕ → Bool
+whole bs = marked bs && intact bs
+
 -- ---- damage
 
--- what a caller can hold for a record: 192 numbers below 256
+-- what a caller can hold for a record: 208 numbers below 256
 pub record RecordBytes (bs : List ℕ) : Type 0 where
-  pub long : length bs ≡ 192
+  pub long : length bs ≡ 208
   pub each : (i : ℕ) → getD bs i 0 < 256
 
 -- the same but for the k-th word of eight bytes, and not the same

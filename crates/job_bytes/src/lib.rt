@@ -1,4 +1,4 @@
-// The record of a table that is being built, as 192 bytes at fixed places: what C keeps between two turns. The
+// The record of a table that is being built, as 208 bytes at fixed places: what C keeps between two turns. The
 // last eight are a check word over all others.
 ghost use mathlib.Core.Path.{_≡_};
 ghost use Prim.Native.Nat.{_≤_};
@@ -7,8 +7,8 @@ ghost use Rattle.little_endian.specs.Bytes.{half, floats, put};
 ghost use Rattle.camera.specs.Numbers.{model-number, twelve};
 ghost use Rattle.given.specs.Given.{given, answered};
 ghost use Rattle.job.specs.Job.{told-started};
-ghost use Rattle.job_bytes.specs.Check.{check-of, intact};
-ghost use Rattle.job_bytes.specs.Bytes.{record-length, job-at, body, record-bytes, record-read, started, give-started, fresh-bytes};
+ghost use Rattle.job_bytes.specs.Check.{check-of, intact, whole};
+ghost use Rattle.job_bytes.specs.Bytes.{record-length, mark, head, tallies, job-at, record-bytes, record-read, known-mark, started, give-started, fresh-bytes};
 use camera::Camera;
 use camera_bytes::Asked;
 use job::Job;
@@ -17,7 +17,7 @@ use lens::Refusal;
 use plans::Progress;
 
 // How many bytes a record has.
-pub const LENGTH: usize = 192;
+pub const LENGTH: usize = 208;
 
 // What the check word's sum starts from: the bytes "LENSJOB1".
 const CHECK_START: u64 = 0x31424f4a534e454c;
@@ -37,11 +37,14 @@ fn job_at(bytes: &[u8], model: u8) -> Job
         camera: camera_bytes::camera_of(model, &bytes[8..]),
         width: little_endian::half(bytes, 104) as usize,
         height: little_endian::half(bytes, 108) as usize,
+        strict: little_endian::word(bytes, 192) == 1,
         at: Progress {
             done: little_endian::word(bytes, 112) as usize,
             edges: region_bytes::box_at(bytes, 120),
             region: region_bytes::box_at(bytes, 152),
             updates: little_endian::half(bytes, 4),
+            unsettled: little_endian::half(bytes, 184) as usize,
+            first: little_endian::half(bytes, 188) as usize,
         },
     }
 }
@@ -61,24 +64,35 @@ pub fn read(bytes: &[u8]) -> Found
     Found::Of(job_at(bytes, model as u8))
 }
 
-// The check word of the 23 words that stand before it: their sum.
+// The check word of the 25 words that stand before it: their sum.
 fn check_word(bytes: &[u8]) -> u64
     ensures { λ r. ⌜ r ≡ check-of (now (bytes .entry)) ⌝ }
 {
     let mut sum = CHECK_START;
     let mut i = 0;
-    while i < 23 {
+    while i < 25 {
         sum = std::num::wrapping_add_u64(sum, little_endian::word(bytes, 8 * i));
         i += 1;
     }
     sum
 }
 
-// Whether a record's check word is right. A record that isn't of the right length is not judged here.
-pub fn intact(bytes: &[u8]) -> bool
+// Whether a record's check word is right.
+fn intact(bytes: &[u8]) -> bool
     ensures { λ r. ⌜ r ≡ intact (now (bytes .entry)) ⌝ }
 {
-    little_endian::word(bytes, 184) == check_word(bytes)
+    little_endian::word(bytes, 200) == check_word(bytes)
+}
+
+// Whether its strict mark is one and its check word is right. A record that isn't of the right length is not judged
+// here.
+pub fn whole(bytes: &[u8]) -> bool
+    ensures { λ r. ⌜ r ≡ whole (now (bytes .entry)) ⌝ }
+{
+    if 1 < little_endian::word(bytes, 192) {
+        return false;
+    }
+    intact(bytes)
 }
 
 // A camera's model by its number.
@@ -95,10 +109,28 @@ fn put_camera(camera: Camera, out: &mut [u8])
     little_endian::put_floats(out, 8, &numbers);
 }
 
-// All of a record but its check word.
-fn put_body(job: Job, out: &mut [u8])
+// The strict mark.
+fn mark(strict: bool) -> u64
+    ensures { λ r. ⌜ r ≡ mark strict ⌝ }
+{
+    if strict { 1 } else { 0 }
+}
+
+// What the record tells of samples that didn't settle.
+fn put_tallies(job: Job, out: &mut [u8])
     requires { ⌜ record-length ≤ length (now out) ⌝ }
-    ensures { λ _. ⌜ now (out .exit) ≡ put 0 (body job) (now (out .entry)) ⌝ }
+    ensures { λ _. ⌜ now (out .exit) ≡ put 184 (tallies job) (now (out .entry)) ⌝ }
+{
+    let at = job.at;
+    little_endian::put(out, 184, 4, at.unsettled as u64);
+    little_endian::put(out, 188, 4, at.first as u64);
+    little_endian::put(out, 192, 8, mark(job.strict));
+}
+
+// What stands ahead of that.
+fn put_head(job: Job, out: &mut [u8])
+    requires { ⌜ record-length ≤ length (now out) ⌝ }
+    ensures { λ _. ⌜ now (out .exit) ≡ put 0 (head job) (now (out .entry)) ⌝ }
 {
     let camera = job.camera;
     let at = job.at;
@@ -120,18 +152,34 @@ pub fn write(job: Job, out: &mut [u8])
     ensures { λ _. ⌜ now (out .exit) ≡ put 0 (record-bytes job) (now (out .entry)) ⌝ }
 {
     if LENGTH <= out.len() {
-        put_body(job, out);
+        put_head(job, out);
+        put_tallies(job, out);
         let check = check_word(&out[0..LENGTH]);
-        little_endian::put(out, 184, 8, check);
+        little_endian::put(out, 200, 8, check);
+    }
+}
+
+// 13 for a mark that is neither 0 nor 1.
+fn known_mark(mark: u8, started: Started) -> Started
+    ensures { λ r. ⌜ told-started r ≡ told-started (known-mark mark started) ⌝ }
+{
+    match started {
+        Started::With(job) => {
+            if mark <= 1 {
+                return Started::With(job);
+            }
+            Started::Refused(Refusal::ImpossibleRecord)
+        }
+        Started::Refused(refusal) => Started::Refused(refusal),
     }
 }
 
 // A fresh record of the camera that is asked for, or why there is none.
-fn started(asked: Asked, width: usize, height: usize) -> Started
-    ensures { λ r. ⌜ told-started r ≡ told-started (started asked width height) ⌝ }
+fn started(asked: Asked, width: usize, height: usize, mark: u8) -> Started
+    ensures { λ r. ⌜ told-started r ≡ told-started (started asked width height mark) ⌝ }
 {
     match asked {
-        Asked::Of(camera) => job::fresh(camera, width, height),
+        Asked::Of(camera) => known_mark(mark, job::fresh(camera, width, height, mark == 1)),
         Asked::Refused(refusal) => Started::Refused(refusal),
     }
 }
@@ -156,15 +204,16 @@ fn give_started(started: Started, out: &mut [u8]) -> u8
     }
 }
 
-// The bytes of a fresh record: 1, 3, 4, 5, 6, 7, or 0 and all 192 of them.
-pub fn fresh(model: u8, params: &[u8], width: u32, height: u32, out: &mut [u8]) -> u8
+// The bytes of a fresh record: 1, 3, 4, 5, 6, 7, 13, or 0 and all 208 of them.
+pub fn fresh(model: u8, params: &[u8], width: u32, height: u32, mark: u8, out: &mut [u8]) -> u8
     ensures { λ r. ⌜ given r (now (out .exit)) ≡
-        fresh-bytes model (now (params .entry)) width height (now (out .entry)) ⌝ }
+        fresh-bytes model (now (params .entry)) width height mark (now (out .entry)) ⌝ }
 {
     let started = started(
         camera_bytes::read(model, params),
         width as usize,
         height as usize,
+        mark,
     );
     give_started(started, out)
 }

@@ -90,6 +90,8 @@ pub enum Refusal {
     NotTheForm,
     // the ray of a pixel doesn't point forwards: its point would be mirrored, or nowhere
     RayNotForward,
+    // a strict job met a border sample that didn't settle
+    SampleUnsettled,
 }
 
 // EPS as a call, so that a contract ties the constant to the definition.
@@ -119,6 +121,7 @@ pub fn number(refusal: Refusal) -> u8
         Refusal::ImpossibleRecord => 13,
         Refusal::NotTheForm => 14,
         Refusal::RayNotForward => 16,
+        Refusal::SampleUnsettled => 18,
     }
 }
 

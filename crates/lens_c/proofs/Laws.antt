@@ -3,6 +3,7 @@ use mathlib.Core.Path.{_≡_, refl, sym, ap, _∙_, subst}
 use mathlib.Core.List.{List}
 use Prim.Native.Nat.{ℕ}
 use denote.Ref.{now}
+use lib.Dec.{eqb}
 use lib.Ieee.{Float}
 use lib.ListN.{length}
 use Rattle.exact.specs.Determined.{Determined, DeterminedWith}
@@ -30,7 +31,7 @@ use Rattle.lens_c.proofs.lens_turn.Reads as lens-turn-contract
 
 -- ---- demand 3, for firmware
 
--- a call that the contract of `lens_turn` permits, with an answer of 32 bytes, whichever it is
+-- a call that the contract of `lens_turn` permits, with an answer of 48 bytes, whichever it is
 pub data Turned : HeldBytes → ℕ → Said → HeldBytes → Type 0 where
   turned :
       (κ : _) (a : _) (r : _) (s : _) → lens-turn-contract.Post κ a r s → length (now (a .1 .1 .1 .0)) ≡ answer-length
@@ -41,27 +42,27 @@ by-contract : (h : HeldBytes) (a : ℕ) (said : Said) (k : HeldBytes) → Turned
 by-contract h a said k (turned κ args r s post room) =
     record { lent = now (args .1 .1 .1 .0); room = room; leaves = ap left post; says = ap bytes-said post }
 
--- Demand 3. Start from the job that `lens_job_new` leaves when it returns 0, whatever model, parameters and size it was handed,
--- with any table, and call `lens_turn` with any allowances and an answer of 32 bytes, each time with the job and the table that
+-- Demand 3. Start from the job that `lens_job_new` leaves when it returns 0, whatever model, parameters, size and mark it was handed,
+-- with any table, and call `lens_turn` with any allowances and an answer of 48 bytes, each time with the job and the table that
 -- the call before handed back. Then job and table are those of exactly min(A, F) units, as `built-in-turns` of distortion_table
 -- has it.
 pub built-by-turns :
     (κ : _) (a : _) (r : _) (s : _) (post : lens-job-new-contract.Post κ a r s) (zero : r ≡ 0)
     (table : List Float) (allowances : List ℕ) (last : HeldBytes)
-    (calls : Build HeldBytes Turned allowances record { job = now (s .1 .1 .1 .1 .0); cells = table } last)
-    → Built (f32-table (camera-of (a .0) (now (a .1 .0))) (a .1 .1 .0) (a .1 .1 .1 .0)) table
-    (allowed bytes-plan bytes-state allowances record { job = now (s .1 .1 .1 .1 .0); cells = table } last calls) (bytes-state last)
+    (calls : Build HeldBytes Turned allowances record { job = now (s .1 .1 .1 .1 .1 .0); cells = table } last)
+    → Built (f32-table (camera-of (a .0) (now (a .1 .0))) (a .1 .1 .0) (a .1 .1 .1 .0) (eqb (a .1 .1 .1 .1 .0) 1)) table
+    (allowed bytes-plan bytes-state allowances record { job = now (s .1 .1 .1 .1 .1 .0); cells = table } last calls) (bytes-state last)
 built-by-turns κ a r s post zero table allowances last calls =
     let e = both post in
     let model = a .0 in
     let params = now (a .1 .0) in
-    let plan = f32-table (camera-of model params) (a .1 .1 .0) (a .1 .1 .1 .0) in
+    let plan = f32-table (camera-of model params) (a .1 .1 .0) (a .1 .1 .1 .0) (eqb (a .1 .1 .1 .1 .0) 1) in
     let start : List ℕ → HeldBytes = λ bs. record { job = bs; cells = table } in
     subst
     (λ (bs : List ℕ). (c : Build HeldBytes Turned allowances (start bs) last)
     → Built plan table (allowed bytes-plan bytes-state allowances (start bs) last c) (bytes-state last))
     (sym (e .1))
-    (built-by-bytes Turned by-contract model params (a .1 .1 .0) (a .1 .1 .1 .0) (now (a .1 .1 .1 .1 .0)) (sym (e .0) ∙ zero) table allowances last)
+    (built-by-bytes Turned by-contract model params (a .1 .1 .0) (a .1 .1 .1 .0) (a .1 .1 .1 .1 .0) (now (a .1 .1 .1 .1 .1 .0)) (sym (e .0) ∙ zero) table allowances last)
     calls
 
 -- ---- each contract permits one answer, and one buffer
@@ -86,7 +87,7 @@ determined = (
 pub determined-for-tables :
     DeterminedWith lens-lookup-contract.Post (λ κ s. now (s .1 .1 .1 .1 .1 .1 .0))
     × DeterminedWith lens-observe-contract.Post (λ κ s. now (s .1 .1 .0))
-    × DeterminedWith lens-job-new-contract.Post (λ κ s. now (s .1 .1 .1 .1 .0))
+    × DeterminedWith lens-job-new-contract.Post (λ κ s. now (s .1 .1 .1 .1 .1 .0))
     × DeterminedWith {L = List ℕ × List Float × List ℕ} lens-turn-contract.Post (λ κ s. (now (s .0), now (s .1 .0), now (s .1 .1 .1 .0)))
 determined-for-tables = (
   λ κ a s s' r r' p q. both (p ∙ sym q),

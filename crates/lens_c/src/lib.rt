@@ -114,23 +114,24 @@ pub extern "C" fn lens_observe(model: u8, params: &[u8], list: &mut [u8]) -> u8
     observation_bytes::observe(model, params, list)
 }
 
-// A fresh record of a table that is to be built, 192 bytes.
+// A fresh record of a table that is to be built, 208 bytes. The mark is 1 for a strict one, else 0.
 #[no_mangle]
 pub extern "C" fn lens_job_new(
     model: u8,
     params: &[u8],
     width: u32,
     height: u32,
+    strict: u8,
     job: &mut [u8],
 ) -> u8
     ensures { λ r. ⌜ given r (now (job .exit)) ≡
-        fresh-bytes model (now (params .entry)) width height (now (job .entry)) ⌝ }
+        fresh-bytes model (now (params .entry)) width height strict (now (job .entry)) ⌝ }
 {
-    job_bytes::fresh(model, params, width, height, job)
+    job_bytes::fresh(model, params, width, height, strict, job)
 }
 
 // A turn of a table that is being built: so many units, or fewer if one refuses or none is left. What it came to is
-// 32 bytes.
+// 48 bytes.
 #[no_mangle]
 pub extern "C" fn lens_turn(
     job: &mut [u8],

@@ -13,9 +13,9 @@ use Rattle.lens.specs.declared.Undistorted.the-variants.{At}
 use Rattle.turns.specs.Turns.{turn}
 use Rattle.turns.proofs.Laws as any
 use Rattle.border.specs.Edges.{doubled}
-use Rattle.plans.specs.Plan.{Plan, State, nowhere, sampled, with-region, with-done, found, next}
+use Rattle.plans.specs.Plan.{Plan, State, nowhere, one-no, sampled, with-region, with-done, found, next}
 use Rattle.plans.specs.declared.Progress.{Progress}
-use Rattle.plans.specs.Built.{sum-below, settled-at, edges-below, region-of, progress-of}
+use Rattle.plans.specs.Built.{sum-below, first-no, settled-at, edges-below, region-of, progress-of}
 use Rattle.plans.proofs.Done.{Done, a-sample, the-last, a-cell, unit-done}
 
 module _ {X : Type 0} (p : Plan X) where
@@ -26,6 +26,8 @@ module _ {X : Type 0} (p : Plan X) where
     edges = edges-below (p .sweep) m;
     region = cond before nowhere (region-of (p .sweep));
     updates = sum-below (λ k. settled-at (p .sweep) k .updates) m;
+    unsettled = sum-below (λ k. one-no (settled-at (p .sweep) k .flag)) m;
+    first = first-no (λ k. settled-at (p .sweep) k .flag) m;
   }
 
   as-counted : (n m : ℕ) (before : Bool) → min n (p .sweep .samples) ≡ m → ltb n (p .sweep .samples) ≡ before → progress-of (p .sweep) n ≡ counted n m before
@@ -34,7 +36,7 @@ module _ {X : Type 0} (p : Plan X) where
 
   -- one more sample
   sampled-is : (n : ℕ) (before : Bool) (settled : Settled) → found (p .sweep) n ≡ At settled → sampled (counted n n before) settled ≡ counted (n + 1) (suc n) before
-  unfolding sum-below edges-below
+  unfolding sum-below first-no edges-below
   sampled-is n before settled e =
       let f : settled ≡ settled-at (p .sweep) n = sym (ap (λ (u : Undistorted). told u .settled) e) in
       ap (sampled (counted n n before)) f ∙ rw add-one refl

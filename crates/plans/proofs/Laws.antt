@@ -24,9 +24,9 @@ use Rattle.region.specs.declared.Region.{Region}
 use Rattle.turns.specs.Turns.{Said, refused, Turn, turn, turns, total}
 use Rattle.turns.proofs.Laws as any
 use Rattle.border.proofs.Finite.{Four, all-four}
-use Rattle.plans.specs.Plan.{numbers, Plan, State, nowhere, fresh, all-units, cells-done, found, next}
+use Rattle.plans.specs.Plan.{numbers, Plan, State, nowhere, one-no, fresh, all-units, cells-done, found, next}
 use Rattle.plans.specs.declared.Progress.{Progress}
-use Rattle.plans.specs.Built.{sum-below, settled-at, edges-below, region-of, progress-of, doable, says-at, Built}
+use Rattle.plans.specs.Built.{sum-below, first-no, settled-at, edges-below, region-of, progress-of, doable, says-at, Built}
 use Rattle.plans.specs.Calls.{judged, turn-of, allowed, Sound, Serves, Build, done, call}
 use Rattle.plans.proofs.Along.{Along, turn-along, region-is}
 use Rattle.plans.proofs.Counted as counted
@@ -36,6 +36,49 @@ use Rattle.plans.proofs.Written as written
 nowhere-finite : Four nowhere
 unfolding ofBits
 nowhere-finite = record { left = refl; top = refl; right = refl; bottom = refl }
+
+-- ---- the position of the first flag that says no is what it says
+
+-- Of n flags: at 0 all say yes; else the flag at this position, counted from 1, says no, and all ahead of it say yes.
+pub record First (f : ℕ → Bool) (n m : ℕ) : Type 0 where
+  pub within : m ≤ n
+  pub no-there : (k : ℕ) → m ≡ suc k → f k ≡ false
+  pub yes-all : (k : ℕ) → k < n → (m ≡ 0) → f k ≡ true
+  pub yes-ahead : (k : ℕ) → suc k < m → f k ≡ true
+
+pub first-is : (f : ℕ → Bool) (n : ℕ) → First f n (first-no f n)
+unfolding first-no
+first-is f zero = record {
+  within = omega arith;
+  no-there = λ k e. absurd (omega (arith, e));
+  yes-all = λ k h e. absurd (omega (arith, h));
+  yes-ahead = λ k h. absurd (omega (arith, h));
+}
+first-is f (suc n) = go (first-no f n) (first-is f n) (eqb (first-no f n) 0) refl (f n) refl
+  where
+    go : (m : ℕ) → First f n m → (z : Bool) → eqb m 0 ≡ z → (b : Bool) → f n ≡ b → First f (suc n) (cond z (cond b 0 (suc n)) m)
+    go m h true e true g = record {
+      within = omega arith;
+      no-there = λ k q. absurd (omega (arith, q));
+      yes-all = λ k l q. all k (ltb k n) refl l;
+      yes-ahead = λ k q. absurd (omega (arith, q));
+    }
+      where
+        all : (k : ℕ) (x : Bool) → ltb k n ≡ x → k < suc n → f k ≡ true
+        all k true x l = h .yes-all k (ltb-true k n x) (eqb-true m 0 e)
+        all k false x l = let q : k ≡ n = omega (arith, l, ltb-false k n x) in ap f q ∙ g
+    go m h true e false g = record {
+      within = omega arith;
+      no-there = λ k q. let r : k ≡ n = omega (arith, q) in ap f r ∙ g;
+      yes-all = λ k l q. absurd (omega (arith, q));
+      yes-ahead = λ k q. h .yes-all k (omega (arith, q)) (eqb-true m 0 e);
+    }
+    go m h false e b g = record {
+      within = omega (arith, h .within);
+      no-there = h .no-there;
+      yes-all = λ k l q. absurd (eqb-false m 0 e q);
+      yes-ahead = h .yes-ahead;
+    }
 
 -- the states that calls with these allowances pass through, by the definition, and what of them is admitted
 module _ {X : Type 0} (p : Plan X) where
@@ -51,7 +94,7 @@ module _ {X : Type 0} (p : Plan X) (sound : Sound p) where
   -- ---- a state that is the definition's of the units done
   module _ (cells : List X) where
     start-along : Along p (fresh cells .at)
-    unfolding progress-of sum-below edges-below
+    unfolding progress-of sum-below first-no edges-below
     start-along =
         let z : min 0 (p .sweep .samples) ≡ 0 = omega arith in
         rw (z, lt-ltb 0 (p .sweep .samples) (sound .steady .bordered)) refl
@@ -109,6 +152,7 @@ module _ {X : Type 0} (p : Plan X) (sound : Sound p) where
       updates = omega arith;
       edges = nowhere-finite;
       behind = λ past. absurd (omega (arith, past, sound .steady .bordered));
+      tallies = record { count = omega arith; position = omega arith; some-first = λ e. e; first-some = λ e. e; none-strict = λ e. refl };
     };
     region = nowhere-finite;
     long = h;
@@ -214,6 +258,15 @@ module _ {X : Type 0} (p : Plan X) (table : List X) (A : ℕ) (s : State X) (b :
       go : {k : ℕ} (u : Undistorted) → found (p .sweep) k ≡ u → told u .settled .updates ≤ p .sweep .limit
       go {k} (found-at.At settled) e = sound .steady .limited (p .sweep .pixel-at k) settled e
       go (found-at.Refused r) e = omega arith
+
+  -- the unsettled ones are as many as the definition has among them, and the first is the definition's,
+  pub built-unsettled : s .at .unsettled ≡ sum-below (λ k. one-no (settled-at (p .sweep) k .flag)) (min (s .at .done) (p .sweep .samples))
+  unfolding progress-of
+  built-unsettled = ap (λ (x : Progress). x .unsettled) there
+
+  pub built-first : s .at .first ≡ first-no (λ k. settled-at (p .sweep) k .flag) (min (s .at .done) (p .sweep .samples))
+  unfolding progress-of
+  built-first = ap (λ (x : Progress). x .first) there
 
   -- and the region is the definition's, once the border is behind.
   pub built-region : p .sweep .samples ≤ s .at .done → s .at .region ≡ region-of (p .sweep)

@@ -10,4 +10,5 @@ pub mod Numbers
 pub mod Phases
 pub mod Reaching
 pub mod Same
+pub mod Tallies
 pub mod Written

@@ -1,7 +1,7 @@
 -- Demand 3 over any plan: what the definition says of each unit, in closed forms, and what a build owes. Definitions
 -- only.
 use mathlib.Core.Path.{_≡_}
-use mathlib.Core.Bool.{cond}
+use mathlib.Core.Bool.{Bool, cond}
 use mathlib.Core.List.{List}
 use Prim.Native.Nat.{ℕ, zero, suc, _+_, _-_, _*_, _≤_, _<_, min}
 use lib.Dec.{eqb, ltb}
@@ -16,14 +16,19 @@ use Rattle.region.specs.Region.{increments, wrong}
 use Rattle.region.specs.declared.Region.{Region}
 use Rattle.turns.specs.Turns.{Said, finished, refused, running}
 use Rattle.border.specs.Edges.{edges-after, doubled}
-use Rattle.plans.specs.Plan.{Content, numbers, none, Sweep, Plan, State, nowhere, all-units, cells-done, found, too-strict, cell-in}
+use Rattle.plans.specs.Plan.{Content, numbers, none, Sweep, Plan, State, nowhere, one-no, all-units, cells-done, found, too-strict, cell-in}
 use Rattle.plans.specs.declared.Progress.{Progress}
 
--- ---- of any numbers
+-- ---- of any numbers and flags
 
 unfoldable pub sum-below : (ℕ → ℕ) → ℕ → ℕ
 sum-below f zero = 0
 sum-below f (suc n) = sum-below f n + f n
+
+-- the position of the first of n flags that says no, counted from 1; 0 if none does
+unfoldable pub first-no : (ℕ → Bool) → ℕ → ℕ
+first-no f zero = 0
+first-no f (suc n) = cond (eqb (first-no f n) 0) (cond (f n) 0 (suc n)) (first-no f n)
 
 -- of k numbers from the n-th on, how many stand before the first that is not 0
 unfoldable pub before-refused : (ℕ → ℕ) → ℕ → ℕ → ℕ
@@ -51,6 +56,8 @@ module _ (sweep : Sweep) where
     edges = edges-below (min n (sweep .samples));
     region = cond (ltb n (sweep .samples)) nowhere region-of;
     updates = sum-below (λ k. settled-at k .updates) (min n (sweep .samples));
+    unsettled = sum-below (λ k. one-no (settled-at k .flag)) (min n (sweep .samples));
+    first = first-no (λ k. settled-at k .flag) (min n (sweep .samples));
   }
 
   -- the number that a sample is refused with, 0 if it is not: its own, or 18

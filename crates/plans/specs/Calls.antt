@@ -1,7 +1,7 @@
 -- Calls one after the other: which records a plan takes, what a call answers, and a build by any function whose
 -- contract says so. Definitions only.
 use mathlib.Core.Path.{_≡_}
-use mathlib.Core.Bool.{Bool, true, cond, _&&_, _||_}
+use mathlib.Core.Bool.{Bool, true, cond, not, _&&_, _||_}
 use mathlib.Core.List.{List, [], _∷_}
 use Prim.Native.Nat.{ℕ, _+_, _*_, _≤_, _<_, min}
 use lib.Dec.{leb, ltb, eqb}
@@ -24,19 +24,32 @@ use Rattle.plans.specs.declared.Progress.{Progress}
 
 -- ---- which records a sweep takes
 
+abbrev pub both-or-neither : Bool → Bool → Bool
+both-or-neither a b = cond a b (not b)
+
+-- of so many samples, a count of those that didn't settle and a first one that can be: neither is above the samples,
+-- there is a first exactly if the count isn't 0, and in a strict job the count is 0
+abbrev pub tallied : Bool → ℕ → ℕ → ℕ → Bool
+tallied strict samples unsettled first =
+    leb unsettled samples
+    && (leb first samples
+    && (both-or-neither (eqb unsettled 0) (eqb first 0)
+    && (not strict || eqb unsettled 0)))
+
 module _ (sweep : Sweep) where
   abbrev pub samples-done : Progress → ℕ
   samples-done at = min (at .done) (sweep .samples)
 
   -- what every build keeps: no more units than there are, no more updates than its samples can have made, edges that
-  -- are numbers, and behind the border a region with increments above 0
+  -- are numbers, behind the border a region with increments above 0, and tallies that agree
   unfoldable pub possible : Progress → Bool
   possible at =
       leb (at .done) (all-units sweep)
       && (leb (at .updates) (sweep .limit * samples-done at)
       && (all-finite (four (at .edges))
-      && (ltb (at .done) (sweep .samples)
-      || eqb (verdict (wrong (increments (at .region) (sweep .width) (sweep .height)))) 0)))
+      && ((ltb (at .done) (sweep .samples)
+      || eqb (verdict (wrong (increments (at .region) (sweep .width) (sweep .height)))) 0)
+      && tallied (sweep .strict) (samples-done at) (at .unsettled) (at .first))))
 
   -- 7, then 13; `places` is the length of the table
   abbrev pub sound : Progress → ℕ → Judgement

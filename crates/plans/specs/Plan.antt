@@ -3,7 +3,7 @@
 use mathlib.Core.Bool.{Bool, cond, not, _&&_}
 use mathlib.Core.List.{List}
 use Prim.Native.Nat.{ℕ, _+_, _-_, _*_, _/_, _%_}
-use lib.Dec.{ltb}
+use lib.Dec.{eqb, ltb}
 use lib.ListN.{set}
 use Rattle.lens.specs.Constants.{zeros}
 use Rattle.lens.specs.Judgement.{decided}
@@ -56,12 +56,20 @@ abbrev pub nowhere : Region
 nowhere = record { left = zeros; top = zeros; right = zeros; bottom = zeros }
 
 abbrev pub begun : Progress
-begun = record { done = 0; edges = nowhere; region = nowhere; updates = 0 }
+begun = record { done = 0; edges = nowhere; region = nowhere; updates = 0; unsettled = 0; first = 0 }
 
 abbrev pub fresh : {X : Type 0} → List X → State X
 fresh cells = record { at = begun; cells = cells }
 
 -- ---- a sample
+
+-- one more whose flag says no, or not
+abbrev pub one-no : Bool → ℕ
+one-no flag = cond flag 0 1
+
+-- the position of the first such, counted from 1: it stays once there is one
+abbrev pub first-after : ℕ → ℕ → Bool → ℕ
+first-after done first flag = cond (eqb first 0) (cond flag 0 (done + 1)) first
 
 abbrev pub sampled : Progress → Settled → Progress
 sampled at settled = record {
@@ -69,13 +77,29 @@ sampled at settled = record {
   edges = edges-after (at .done) (at .edges) (settled .point);
   region = at .region;
   updates = at .updates + settled .updates;
+  unsettled = at .unsettled + one-no (settled .flag);
+  first = first-after (at .done) (at .first) (settled .flag);
 }
 
 abbrev pub with-region : Progress → Region → Progress
-with-region at region = record { done = at .done; edges = at .edges; region = region; updates = at .updates }
+with-region at region = record {
+  done = at .done;
+  edges = at .edges;
+  region = region;
+  updates = at .updates;
+  unsettled = at .unsettled;
+  first = at .first;
+}
 
 abbrev pub with-done : Progress → ℕ → Progress
-with-done at done = record { done = done; edges = at .edges; region = at .region; updates = at .updates }
+with-done at done = record {
+  done = done;
+  edges = at .edges;
+  region = at .region;
+  updates = at .updates;
+  unsettled = at .unsettled;
+  first = at .first;
+}
 
 -- behind the last sample: the region is worked out, and its increments judged
 abbrev pub closed : ℕ → ℕ → Progress → Next Progress

@@ -49,7 +49,7 @@ pixel-fit (pixels.At p) = go (finite (narrowed (p .0)) && finite (narrowed (p .1
 
 module _ (camera : Camera) (width height : ℕ) where
   abbrev table : Plan Float
-  table = f32-table camera width height
+  table = f32-table camera width height false
 
   cell-fit : (region : Region) (by : Increments) (u v : ℕ) → ContentFit (cell-by (distort-judged camera) f32 region by u v)
   unfolding cell-by

@@ -44,7 +44,7 @@ use Rattle.printer.proofs.Short.{refused-short, table-short, region-lon
 abbrev Short : List (List ℕ) → Type 0
 Short lines = length (joined lines) ≤ most-printed
 
-refusal-short : (n : ℕ) → n ≤ 16 → Short (refusal-lines n)
+refusal-short : (n : ℕ) → n ≤ 18 → Short (refusal-lines n)
 unfolding joined
 refusal-short n h = omega (arith, length-append (refused-line n) [], refused-short n (omega arith))
 
@@ -93,18 +93,18 @@ module _ (camera : Camera) (width height : ℕ) (s : Sized width height) where
   pub few : (updates done : ℕ) → updates ≤ limit camera * min done (samples width height) → updates < 10000000
   few updates done h = omega (arith, h, mul-le-mul-right (min done (samples width height)) (limit-most camera), min-le-right done (samples width height), s .not-wider, s .not-higher)
 
-  whole-short : (job : Job) → fresh camera width height ≡ begun.With job → width * height ≤ most-cells → Short (shown (whole-table camera width height (blank (width * height))))
+  whole-short : (job : Job) → fresh camera width height false ≡ begun.With job → width * height ≤ most-cells → Short (shown (whole-table camera width height (blank (width * height))))
   whole-short job e h =
       let cells = blank (width * height) in
       let long = blank-long (width * height) h in
-      let p = f32-table camera width height in
-      let sound = f32-sound camera width height in
+      let p = f32-table camera width height false in
+      let sound = f32-sound camera width height false in
       let after = turn-keeps p sound enough (plan.fresh cells) (start-good p sound cells long) in
       let t = turn (next p) enough (plan.fresh cells) in
-      subst (λ (a : Answer Float). Short (shown a)) (sym (answer-is camera width height (fresh-opens camera width height job e .0) cells long enough))
-      (shown-short (answer (fresh-job camera width height) t) refl refl (few _ (t .state .at .done) (after .record-of .updates)) (omega (arith, after .long)) (table-told camera width height enough (plan.fresh cells)))
+      subst (λ (a : Answer Float). Short (shown a)) (sym (answer-is camera width height false (fresh-opens camera width height false job e .0) cells long enough))
+      (shown-short (answer (fresh-job camera width height false) t) refl refl (few _ (t .state .at .done) (after .record-of .updates)) (omega (arith, after .long)) (table-told camera width height enough (plan.fresh cells)))
 
-  pub sized-short : (job : Job) → fresh camera width height ≡ begun.With job → Short (sized-lines camera width height)
+  pub sized-short : (job : Job) → fresh camera width height false ≡ begun.With job → Short (sized-lines camera width height)
   unfolding sized-lines
   sized-short job e = go (ltb most-cells (width * height)) refl
     where
@@ -114,11 +114,11 @@ module _ (camera : Camera) (width height : ℕ) (s : Sized width height) where
 
 table-lines-short : (camera : Camera) (width height : ℕ) → Short (table-lines camera width height)
 unfolding table-lines
-table-lines-short camera width height = go (fresh camera width height) refl
+table-lines-short camera width height = go (fresh camera width height false) refl
   where
-    go : (b : Started) → fresh camera width height ≡ b → Short (started b (sized-lines camera width height))
+    go : (b : Started) → fresh camera width height false ≡ b → Short (started b (sized-lines camera width height))
     go (begun.Refused r) e = refusal-short (number r) (number-within r .1)
-    go (begun.With job) e = sized-short camera width height (opened camera width height nowhere (fresh-opens camera width height job e .0) .size) job e
+    go (begun.With job) e = sized-short camera width height (opened camera width height nowhere (fresh-opens camera width height false job e .0) .size) job e
 
 lines-short : (input : List ℕ) → Short (printed-lines input)
 unfolding printed-lines

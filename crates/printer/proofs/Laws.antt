@@ -1,6 +1,6 @@
 -- What a caller may rely on, of the definitions of specs/ and of the contract of src/. Assumes nothing.
 use mathlib.Core.Path.{_≡_, refl, sym, ap, _∙_}
-use mathlib.Core.Bool.{Bool, true, cond}
+use mathlib.Core.Bool.{Bool, true, false, cond}
 use mathlib.Core.List.{List, [], _∷_, append-nil}
 use mathlib.Core.Option.{some}
 use Prim.Native.Nat.{ℕ, _*_, _≤_, _<_}
@@ -68,25 +68,25 @@ printed-asks = none-holds
 -- ---- an input that asks for a table
 
 module _ (input : List ℕ) (camera : Camera) (width height : ℕ) (asks : parsed input ≡ file.Asked camera width height)
-    (job : Job) (begin : fresh camera width height ≡ begun.With job) (cells-few : width * height ≤ most-cells) where
+    (job : Job) (begin : fresh camera width height false ≡ begun.With job) (cells-few : width * height ≤ most-cells) where
   -- the table that it asks for, built at once
   abbrev pub built : Answer Float
   built = whole-table camera width height (blank (width * height))
 
   abbrev table : Plan Float
-  table = f32-table camera width height
+  table = f32-table camera width height false
 
   abbrev last : Turn (State Float)
   last = turn (next table) enough (plan.fresh (blank (width * height)))
 
   opens : opens-for camera width height nowhere ≡ Taken
-  opens = fresh-opens camera width height job begin .0
+  opens = fresh-opens camera width height false job begin .0
 
   long : length (blank (width * height)) ≡ 2 * (width * height)
   long = blank-long (width * height) cells-few
 
-  built-is : built ≡ answer (fresh-job camera width height) last
-  built-is = answer-is camera width height opens (blank (width * height)) long enough
+  built-is : built ≡ answer (fresh-job camera width height false) last
+  built-is = answer-is camera width height false opens (blank (width * height)) long enough
 
   shown-lines : (said : Said) → built .said ≡ said → printed-lines input ≡ shown-as said built
   unfolding printed-lines table-lines sized-lines
@@ -124,7 +124,7 @@ module _ (input : List ℕ) (camera : Camera) (width height : ℕ) (asks : parse
   fair-built : fair (listed width height (built .job .at .updates) (built .job .at .region) (built .cells)) ≡ true
   fair-built =
       let s = opened camera width height nowhere opens .size in
-      let sound = f32-sound camera width height in
+      let sound = f32-sound camera width height false in
       let start = plan.fresh (blank (width * height)) in
       let after = turn-keeps table sound enough start (start-good table sound (blank (width * height)) long) in
       let at = last .state .at in

@@ -1,4 +1,5 @@
 -- Whatever unit of a table refuses, its number has two digits at most. Assumes nothing.
+use mathlib.Core.Bool.{false}
 use Prim.Native.Nat.{ℕ, _≤_}
 use native.Mathlib.Omega.{arith}
 use lib.Ieee.{Float}
@@ -11,12 +12,12 @@ use Rattle.table_plans.specs.Tables.{unit-numbers, f32-table}
 use Rattle.table_plans.proofs.Numbers.{Known, by-each, turn-known}
 
 abbrev pub Told : Said → Type 0
-Told said = said-number said ≤ 16
+Told said = said-number said ≤ 18
 
-told-so : (said : Said) → units.Told Known said → Told said
+told-so : (said : Said) → units.Told (Known false) said → Told said
 told-so finished k = omega arith
 told-so running k = omega arith
-told-so (refused n) k = by-each (λ m. m ≤ 16) unit-numbers n k (omega arith, (omega arith, (omega arith, (omega arith, (omega arith, tt)))))
+told-so (refused n) k = by-each (λ m. m ≤ 18) (unit-numbers false) n k (omega arith, (omega arith, (omega arith, (omega arith, (omega arith, tt)))))
 
-pub table-told : (camera : Camera) (width height a : ℕ) (s : State Float) → Told (turn (next (f32-table camera width height)) a s .said)
-table-told camera width height a s = told-so (turn (next (f32-table camera width height)) a s .said) (turn-known camera width height a s)
+pub table-told : (camera : Camera) (width height a : ℕ) (s : State Float) → Told (turn (next (f32-table camera width height false)) a s .said)
+table-told camera width height a s = told-so (turn (next (f32-table camera width height false)) a s .said) (turn-known camera width height false a s)

@@ -95,8 +95,8 @@ module _ (camera : Camera) (width height : ℕ) where
   asked-order : joined (table-lines camera width height) ≡ by-rows (first (asked-rows (Asked camera width height))) text
   unfolding table-lines
   asked-order =
-      by-start (fresh camera width height)
-      ∙ ap (λ (n : ℕ). by-rows (else n (cond (ltb most-cells (width * height)) 6 0)) text) (fresh-number camera width height)
+      by-start (fresh camera width height false)
+      ∙ ap (λ (n : ℕ). by-rows (else n (cond (ltb most-cells (width * height)) 6 0)) text) (fresh-number camera width height false)
       ∙ ap (λ (n : ℕ). by-rows n text) (sym asked-first)
 
 -- ---- 14, 1, 3 before them
@@ -125,7 +125,7 @@ pub record Asks (input : List ℕ) : Type 0 where
   pub height : ℕ
   pub job : Job
   pub asks : parsed input ≡ Asked camera width height
-  pub begin : fresh camera width height ≡ begun.With job
+  pub begin : fresh camera width height false ≡ begun.With job
   pub few : width * height ≤ most-cells
 
 module _ (input : List ℕ) where
@@ -136,7 +136,7 @@ module _ (input : List ℕ) where
   begins :
       (camera : Camera) (width height : ℕ) (b : Started) →
       parsed input ≡ Asked camera width height →
-      fresh camera width height ≡ b →
+      fresh camera width height false ≡ b →
       begun-number (told-started b) ≡ 0 →
       width * height ≤ most-cells →
       Asks input
@@ -148,7 +148,7 @@ module _ (input : List ℕ) where
   asks-by (Refused r) e f g = absurd (omega (arith, f, number-within r))
   asks-by (Asked camera width height) e f g =
       let z = neither _ _ (sym (asked-first camera width height) ∙ g) in
-      begins camera width height (fresh camera width height) e refl (fresh-number camera width height ∙ z .0)
+      begins camera width height (fresh camera width height false) e refl (fresh-number camera width height false ∙ z .0)
       (few-cells most-cells (width * height) (ltb most-cells (width * height)) refl (z .1))
 
   pub none-holds : first (printer-rows input) ≡ 0 → Asks input

@@ -1,5 +1,5 @@
 -- What the printer writes for an input (docs/RULES.md, 16): its lines, and the bytes of all of them. Definitions only.
-use mathlib.Core.Bool.{cond}
+use mathlib.Core.Bool.{false, cond}
 use mathlib.Core.List.{List, [], _∷_}
 use Prim.Native.Nat.{ℕ, _*_}
 use lib.Dec.{ltb}
@@ -55,7 +55,7 @@ started (begun.Refused r) lines = refusal-lines (number r)
 started (begun.With job) lines = lines
 
 unfoldable pub table-lines : Camera → ℕ → ℕ → List (List ℕ)
-table-lines camera width height = started (fresh camera width height) (sized-lines camera width height)
+table-lines camera width height = started (fresh camera width height false) (sized-lines camera width height)
 
 -- and first of all 14, 1 and 3
 abbrev pub file-lines : Parsed → List (List ℕ)

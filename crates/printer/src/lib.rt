@@ -106,7 +106,7 @@ fn print_table(out: &mut [u8], camera: Camera, width: usize, height: usize) -> u
     ensures { λ r. ⌜ written (now (out .exit)) r ≡
         placed-all (written (now (out .entry)) 0) (table-lines camera width height) ⌝ }
 {
-    match job::fresh(camera, width, height) {
+    match job::fresh(camera, width, height, false) {
         Started::Refused(refusal) => refuse(out, refusal),
         Started::With(_) => print_sized(out, camera, width, height),
     }

@@ -16,15 +16,15 @@ use Rattle.sweep.specs.declared.Stop.{Stop}
 use Rattle.sweep.specs.declared.Swept.{Swept}
 use Rattle.sweep.specs.declared.Swept.the-variants.{To, Refused}
 
--- a size that is taken, and updates whose sum has room; every record that is admitted is so
+-- a size that is taken, and counts that have room for more; every record that is admitted is so
 abbrev pub roomy : ℕ → ℕ → Progress → Bool
-roomy width height from = sized width height && ltb (from .updates) (2 ^ 31)
+roomy width height from = sized width height && (ltb (from .updates) (2 ^ 31) && ltb (from .unsettled) (2 ^ 31))
 
 -- the units of an allowance, as far as the border goes; 13 for a progress that isn't roomy
-unfoldable pub run : Camera → ℕ → ℕ → ℕ → Progress → Turn Progress
-run camera width height allowance from =
+unfoldable pub run : Camera → ℕ → ℕ → Bool → ℕ → Progress → Turn Progress
+run camera width height strict allowance from =
     cond (roomy width height from)
-    (met (turn (swept (sweep-of camera width height)) (min allowance (samples width height - from .done)) from))
+    (met (turn (swept (sweep-of camera width height strict)) (min allowance (samples width height - from .done)) from))
     record { state = from; said = refused 13 }
 
 -- ---- what the code's answers say

@@ -54,99 +54,106 @@ by-each P (x ∷ xs) n e p = go (λ h. by-each P xs n h (p .1)) (eqb n x) refl e
     go rest true q h = subst P (sym (eqb-true n x q)) (p .0)
     go rest false q h = rest h
 
-abbrev pub Known : ℕ → Type 0
-Known n = one-of n unit-numbers ≡ true
+-- one of those that refuse a unit
+abbrev pub Known : Bool → ℕ → Type 0
+Known strict n = one-of n (unit-numbers strict) ≡ true
 
--- ---- a sample: 10, 16 or 11
+module _ (strict : Bool) where
+  -- ---- a sample: 10, 16 or 11
 
-abbrev FoundKnown : Undistorted → Type 0
-FoundKnown (found.At s) = Unit {0}
-FoundKnown (found.Refused r) = Known (number r)
+  abbrev FoundKnown : Undistorted → Type 0
+  FoundKnown (found.At s) = Unit {0}
+  FoundKnown (found.Refused r) = Known strict (number r)
 
-kb-known : (near : Bool) (slope : Slope) (point : Settled) (at : Reached) (rth un vn : Float) → FoundKnown (cond near (found.At point) (kb.outward slope at rth un vn))
-kb-known true slope point at rth un vn = tt
-kb-known false (Is t) point at rth un vn = tt
-kb-known false TooSteep point at rth un vn = refl
+  kb-known : (near : Bool) (slope : Slope) (point : Settled) (at : Reached) (rth un vn : Float) → FoundKnown (cond near (found.At point) (kb.outward slope at rth un vn))
+  kb-known true slope point at rth un vn = tt
+  kb-known false (Is t) point at rth un vn = tt
+  kb-known false TooSteep point at rth un vn = refl
 
-eucm-known : (mirrored : Bool) (s : Settled) → FoundKnown (cond mirrored (found.Refused RayNotForward) (found.At s))
-eucm-known true s = refl
-eucm-known false s = tt
+  eucm-known : (mirrored : Bool) (s : Settled) → FoundKnown (cond mirrored (found.Refused RayNotForward) (found.At s))
+  eucm-known true s = refl
+  eucm-known false s = tt
 
-point-known : (camera : Camera) (pixel : Pixel) → FoundKnown (point-of camera pixel)
-point-known (Affine p) pixel = tt
-point-known (EnhancedUnified p) pixel = eucm-known (le (eucm.ray-z p pixel) zeros) (eucm.undistort-before p pixel)
-point-known (KannalaBrandt p) pixel = kb-known (le (kb.rth2 p pixel) eps) (tangent (kb.newton p (root (kb.rth2 p pixel)) .th)) _ _ _ _ _
-point-known (BrownConrady p) pixel = tt
+  point-known : (camera : Camera) (pixel : Pixel) → FoundKnown (point-of camera pixel)
+  point-known (Affine p) pixel = tt
+  point-known (EnhancedUnified p) pixel = eucm-known (le (eucm.ray-z p pixel) zeros) (eucm.undistort-before p pixel)
+  point-known (KannalaBrandt p) pixel = kb-known (le (kb.rth2 p pixel) eps) (tangent (kb.newton p (root (kb.rth2 p pixel)) .th)) _ _ _ _ _
+  point-known (BrownConrady p) pixel = tt
 
-finite-known : (u : Undistorted) → FoundKnown u → FoundKnown (finite-point u)
-finite-known (found.Refused r) h = h
-finite-known (found.At s) h = go (finite (s .point .0) && finite (s .point .1))
-  where
-    go : (f : Bool) → FoundKnown (cond f (found.At s) (found.Refused AnswerNotFinite))
-    go true = tt
-    go false = refl
+  finite-known : (u : Undistorted) → FoundKnown u → FoundKnown (finite-point u)
+  finite-known (found.Refused r) h = h
+  finite-known (found.At s) h = go (finite (s .point .0) && finite (s .point .1))
+    where
+      go : (f : Bool) → FoundKnown (cond f (found.At s) (found.Refused AnswerNotFinite))
+      go true = tt
+      go false = refl
 
--- ---- the increments: 8 or 11
+  -- ---- the increments: 8 or 11
 
-abbrev JudgedKnown : Judgement → Type 0
-JudgedKnown judged.Taken = Unit {0}
-JudgedKnown (judged.Refused r) = Known (number r)
+  abbrev JudgedKnown : Judgement → Type 0
+  JudgedKnown judged.Taken = Unit {0}
+  JudgedKnown (judged.Refused r) = Known strict (number r)
 
-wrong-known : (by : Increments) → JudgedKnown (wrong by)
-unfolding wrong
-wrong-known by = go (flat (by .0) || flat (by .1)) (finite (by .0) && finite (by .1))
-  where
-    go : (f g : Bool) → JudgedKnown (cond f (judged.Refused IncrementNotPositive) (cond g judged.Taken (judged.Refused AnswerNotFinite)))
-    go true g = refl
-    go false true = tt
-    go false false = refl
+  wrong-known : (by : Increments) → JudgedKnown (wrong by)
+  unfolding wrong
+  wrong-known by = go (flat (by .0) || flat (by .1)) (finite (by .0) && finite (by .1))
+    where
+      go : (f g : Bool) → JudgedKnown (cond f (judged.Refused IncrementNotPositive) (cond g judged.Taken (judged.Refused AnswerNotFinite)))
+      go true g = refl
+      go false true = tt
+      go false false = refl
 
--- ---- a cell: 11 or 12
+  -- ---- a cell: 11 or 12
 
-abbrev ContentKnown : Content Float → Type 0
-ContentKnown (numbers a b) = Unit {0}
-ContentKnown (none n) = Known n
+  abbrev ContentKnown : Content Float → Type 0
+  ContentKnown (numbers a b) = Unit {0}
+  ContentKnown (none n) = Known strict n
 
-f32-known : (pixel : Pixel) → ContentKnown (f32 pixel)
-f32-known pixel = go (finite (narrowed (pixel .0)) && finite (narrowed (pixel .1)))
-  where
-    go : (h : Bool) → ContentKnown (cond h (numbers (narrowed (pixel .0)) (narrowed (pixel .1))) (none 12))
-    go true = tt
-    go false = refl
+  f32-known : (pixel : Pixel) → ContentKnown (f32 pixel)
+  f32-known pixel = go (finite (narrowed (pixel .0)) && finite (narrowed (pixel .1)))
+    where
+      go : (h : Bool) → ContentKnown (cond h (numbers (narrowed (pixel .0)) (narrowed (pixel .1))) (none 12))
+      go true = tt
+      go false = refl
 
-cell-known : (camera : Camera) (region : Region) (by : Increments) (u v : ℕ) → ContentKnown (cell-by (distort-judged camera) f32 region by u v)
-unfolding cell-by
-cell-known camera region by u v = go (finite (cell-point region by u v .0) && finite (cell-point region by u v .1)) (finite (pixel .0) && finite (pixel .1))
-  where
-    pixel : Pixel
-    pixel = pixel-of camera (cell-point region by u v)
+  cell-known : (camera : Camera) (region : Region) (by : Increments) (u v : ℕ) → ContentKnown (cell-by (distort-judged camera) f32 region by u v)
+  unfolding cell-by
+  cell-known camera region by u v = go (finite (cell-point region by u v .0) && finite (cell-point region by u v .1)) (finite (pixel .0) && finite (pixel .1))
+    where
+      pixel : Pixel
+      pixel = pixel-of camera (cell-point region by u v)
 
-    go : (f g : Bool) → ContentKnown (cond f (of-pixel f32 (cond g (pixels.At pixel) (pixels.Refused AnswerNotFinite))) (none 11))
-    go false g = refl
-    go true false = refl
-    go true true = f32-known pixel
+      go : (f g : Bool) → ContentKnown (cond f (of-pixel f32 (cond g (pixels.At pixel) (pixels.Refused AnswerNotFinite))) (none 11))
+      go false g = refl
+      go true false = refl
+      go true true = f32-known pixel
+
+-- what holds of 0 and of each of a strict table's numbers holds of a number that is 0 or one of a table's
+pub by-unit : (P : ℕ → Type 0) (strict : Bool) (n : ℕ) → one-of n (0 ∷ unit-numbers strict) ≡ true → Each P (0 ∷ unit-numbers true) → P n
+by-unit P true n h e = by-each P (0 ∷ unit-numbers true) n h e
+by-unit P false n h e = by-each P (0 ∷ unit-numbers false) n h (e .0, (e .1 .0, (e .1 .1 .0, (e .1 .1 .1 .0, (e .1 .1 .1 .1 .0, (e .1 .1 .1 .1 .1 .0, tt))))))
 
 -- ---- a turn
 
-module _ (camera : Camera) (width height : ℕ) where
-  refusing : Refusing (f32-table camera width height) Known
+module _ (camera : Camera) (width height : ℕ) (strict : Bool) where
+  refusing : Refusing (f32-table camera width height strict) (Known strict)
   refusing = record {
-    samples = λ pixel r e. subst FoundKnown e (finite-known (point-of camera pixel) (point-known camera pixel));
-    strictly = λ e. absurd (false≢true e);
-    increments = λ by r e. subst JudgedKnown e (wrong-known by);
-    cells = λ region u v n e. subst ContentKnown e (cell-known camera region (increments region width height) u v);
+    samples = λ pixel r e. subst (FoundKnown strict) e (finite-known strict (point-of camera pixel) (point-known strict camera pixel));
+    strictly = λ e. ap (λ (b : Bool). one-of 18 (unit-numbers b)) e;
+    increments = λ by r e. subst (JudgedKnown strict) e (wrong-known strict by);
+    cells = λ region u v n e. subst (ContentKnown strict) e (cell-known strict camera region (increments region width height) u v);
   }
 
-  -- A turn that a unit refuses is refused with 8, 10, 11, 12 or 16.
-  pub turn-known : (a : ℕ) (s : State Float) → Told Known (turn (next (f32-table camera width height)) a s .said)
-  turn-known = turn-says (f32-table camera width height) Known refusing
+  -- A turn that a unit refuses is refused with 8, 10, 11, 12 or 16, or in a strict job with 18.
+  pub turn-known : (a : ℕ) (s : State Float) → Told (Known strict) (turn (next (f32-table camera width height strict)) a s .said)
+  turn-known = turn-says (f32-table camera width height strict) (Known strict) refusing
 
 -- as a number: 0, or one of these
-pub said-known : (said : Said) → Told Known said → one-of (said-number said) (0 ∷ unit-numbers) ≡ true
-said-known finished h = refl
-said-known running h = refl
-said-known (refused n) h = go (eqb n 0)
+pub said-known : (strict : Bool) (said : Said) → Told (Known strict) said → one-of (said-number said) (0 ∷ unit-numbers strict) ≡ true
+said-known strict finished h = refl
+said-known strict running h = refl
+said-known strict (refused n) h = go (eqb n 0)
   where
-    go : (z : Bool) → (z || one-of n unit-numbers) ≡ true
+    go : (z : Bool) → (z || one-of n (unit-numbers strict)) ≡ true
     go true = refl
     go false = h

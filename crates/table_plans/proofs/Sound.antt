@@ -124,5 +124,5 @@ module _ (camera : Camera) (width height : ℕ) where
       refusals = λ region u v. telling-cell engine kind t region (increments region width height) u v;
     }
 
-  pub f32-sound : Sound (f32-table camera width height)
-  f32-sound = table-sound (engine-of camera) (corners-twice width height) false f32 (engine-sure camera) f32-telling (omega arith)
+  pub f32-sound : (strict : Bool) → Sound (f32-table camera width height strict)
+  f32-sound strict = table-sound (engine-of camera) (corners-twice width height) strict f32 (engine-sure camera) f32-telling (omega arith)

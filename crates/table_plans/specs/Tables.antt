@@ -74,19 +74,19 @@ table-by sweep engine kind = record {
   cell = λ region. cell-by (engine .distort) kind region (increments region (sweep .width) (sweep .height));
 }
 
--- the sweep of every table, whatever its cells hold
-abbrev pub sweep-of : Camera → ℕ → ℕ → Sweep
-sweep-of camera width height = sweep-by camera (engine-of camera) (corners-twice width height) false width height
+-- the sweep of every table, whatever its cells hold; a strict one is refused at a sample that didn't settle
+abbrev pub sweep-of : Camera → ℕ → ℕ → Bool → Sweep
+sweep-of camera width height strict = sweep-by camera (engine-of camera) (corners-twice width height) strict width height
 
 -- the table of f32s
-abbrev pub f32-table : Camera → ℕ → ℕ → Plan Float
-f32-table camera width height = table-by (sweep-of camera width height) (engine-of camera) f32
+abbrev pub f32-table : Camera → ℕ → ℕ → Bool → Plan Float
+f32-table camera width height strict = table-by (sweep-of camera width height strict) (engine-of camera) f32
 
--- ---- what refuses a unit of it: 8, 10, 11, 12, 16
+-- ---- what refuses a unit of it: 8, 10, 11, 12, 16, and 18 in a strict one
 
 abbrev pub one-of : ℕ → List ℕ → Bool
 one-of n [] = false
 one-of n (x ∷ xs) = eqb n x || one-of n xs
 
-abbrev pub unit-numbers : List ℕ
-unit-numbers = 8 ∷ 10 ∷ 11 ∷ 12 ∷ 16 ∷ []
+abbrev pub unit-numbers : Bool → List ℕ
+unit-numbers strict = 8 ∷ 10 ∷ 11 ∷ 12 ∷ 16 ∷ cond strict (18 ∷ []) []

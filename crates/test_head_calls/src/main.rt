@@ -13,7 +13,7 @@
 //   8  lens_turn with each bit lent flipped in turn
 //      Then 1 if the bytes lent and the table that come back are to stay, 0 if all is to be as before the call; the
 //      model; how much is handed over: bytes to read, bytes lent, bytes for the answer, numbers of the table; width;
-//      height; x; y; the allowance
+//      height; x; y; the allowance, or the strict mark of a fresh job
 //
 // A call is answered by a line: what is returned, and each buffer that the call may write, as it is after the call, or
 // `kept` if it is bit for bit as it was. For 8 that is a line for each bit of the bytes lent, from the lowest of the
@@ -52,7 +52,8 @@ fn at_most(n: u64, most: usize) -> usize
     if n < most as u64 { n as usize } else { most }
 }
 
-fn model_of(field: u64) -> u8 {
+// A model, or a strict mark.
+fn byte_of(field: u64) -> u8 {
     (field % 256) as u8
 }
 
@@ -163,9 +164,16 @@ fn put_numbers(q: &[u64; FIELDS], table: &mut [f32; NUMBERS]) {
 // ---- the calls, each with as much of its buffers as its line says. More than there is has no call, and the number 255
 
 fn with_camera(q: &[u64; FIELDS], params: &[u8], lent: &mut [u8]) -> u8 {
-    let model = model_of(q[2]);
+    let model = byte_of(q[2]);
     if q[0] == 4 {
-        lens_c::lens_job_new(model, params, size_of(q[7]), size_of(q[8]), lent)
+        lens_c::lens_job_new(
+            model,
+            params,
+            size_of(q[7]),
+            size_of(q[8]),
+            byte_of(q[11]),
+            lent,
+        )
     } else {
         lens_c::lens_observe(model, params, lent)
     }

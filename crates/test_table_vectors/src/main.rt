@@ -1,13 +1,14 @@
 // Builds lens tables in turns, as outside vectors ask, which tools/make_table_vectors.py makes from the
 // text of the Rust. The gate runs this on the file stdin, and holds what it writes to the file stdout.
 //
-// A line of the input has 16 fields with tabs between, each of 16 lower-case hexadecimal digits: the
-// model, from 0 to 3, the width, the height, the allowance of every turn, and then bit patterns of f64s:
-// twelve parameters, of which a model takes as many as it has. The answer is `fresh`, or `refused` and a
-// number and nothing more. Then comes a line for each turn, by its status: `running`, `finished`, or
-// `refused` and a number, with the units done and the updates. A turn follows as long as the status is
-// running, but none follows a turn of allowance 0. Then the edges and the region, and every place of the
-// table as it is then, two for each cell: one that was not written has 3f000000, as before the first turn.
+// A line of the input has 17 fields with tabs between, each of 16 lower-case hexadecimal digits: the
+// model, from 0 to 3, the width, the height, the allowance of every turn, 1 for a strict job or else 0, and
+// then bit patterns of f64s: twelve parameters, of which a model takes as many as it has. The answer is
+// `fresh`, or `refused` and a number and nothing more. Then comes a line for each turn, by its status:
+// `running`, `finished`, or `refused` and a number, with the units done, the updates, how many samples did
+// not settle and the position of the first. A turn follows as long as the status is running, but none
+// follows a turn of allowance 0. Then the edges and the region, and every place of the table as it is then,
+// two for each cell: one that was not written has 3f000000, as before the first turn.
 // A line that is not of that form, or asks for more cells than there is room for, is answered by `bad`.
 // The last line says how many were answered.
 use distortion_table::Status;
@@ -23,14 +24,14 @@ ghost use lib.ListN.{length};
 
 // The fields of a line, and its bytes: a field has 16 digits, and a tab or the line's end after them.
 // All lines are of one length, so that one is read at a time, and there may be any number of them.
-const FIELDS: usize = 16;
+const FIELDS: usize = 17;
 
-const LINE: usize = 272;
+const LINE: usize = 289;
 
 // The parameters in a line, and the field that the first stands in.
 const PARAMS: usize = camera::numbers::MOST;
 
-const FIRST: usize = 4;
+const FIRST: usize = 5;
 
 // The cells that a table may have here, and their places: two for each.
 const ROOM: usize = 3072;
@@ -123,6 +124,15 @@ fn running(status: Status) -> bool {
     }
 }
 
+// Ends a turn's line with its record's counts.
+fn say_counts(done: usize, updates: u32, unsettled: usize, first: usize) {
+    say_count(done as u64);
+    say_count(updates as u64);
+    say_count(unsettled as u64);
+    say_count(first as u64);
+    say_end();
+}
+
 // Takes a turn and writes its line.
 fn step(table: &mut [f32], job: Job, allowance: usize) -> Stepped {
     let turned = distortion_table::turn(job, table, allowance);
@@ -130,9 +140,7 @@ fn step(table: &mut [f32], job: Job, allowance: usize) -> Stepped {
     let after = turned.job;
     let at = after.at;
     say_status(status);
-    say_count(at.done as u64);
-    say_count(at.updates as u64);
-    say_end();
+    say_counts(at.done, at.updates, at.unsettled, at.first);
     Stepped {
         more: allowance != 0 && running(status),
         job: after,
@@ -231,6 +239,7 @@ fn answer_question(q: &[u64; FIELDS]) {
         camera::numbers::camera_of(model_of(q[0]), &params),
         width,
         height,
+        q[4] == 1,
     ) {
         Started::Refused(refusal) => {
             say_refusal(refusal);
@@ -242,9 +251,9 @@ fn answer_question(q: &[u64; FIELDS]) {
     }
 }
 
-// Answers a line of numbers, if there is such a model.
+// Answers a line of numbers, if there is such a model and such a mark.
 fn answer_numbers(q: &[u64; FIELDS]) {
-    if q[0] < 4 {
+    if q[0] < 4 && q[4] < 2 {
         answer_question(q);
     } else {
         refuse();

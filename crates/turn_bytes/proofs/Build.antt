@@ -43,11 +43,11 @@ use Rattle.little_endian.specs.Bytes.{bytes, word, value}
 use Rattle.little_endian.proofs.Laws.{length-bytes, value-bytes}
 use Rattle.given.specs.Given.{code}
 use Rattle.job_bytes.specs.Bytes.{record-bytes, record-read, job-at}
-use Rattle.job_bytes.specs.Check.{intact}
+use Rattle.job_bytes.specs.Check.{whole}
 use Rattle.job_bytes.specs.declared.Found.{Found}
 use Rattle.job_bytes.specs.declared.Found.the-variants.{Of}
-use Rattle.job_bytes.proofs.Laws.{Writable, written-read, written-intact}
-use Rattle.turn_bytes.specs.Turn.{Handed, handed, checked, answer-length, before-units, status-number, answer-bytes, written, turn-bytes}
+use Rattle.job_bytes.proofs.Laws.{Writable, written-read, written-whole}
+use Rattle.turn_bytes.specs.Turn.{Handed, handed, checked, answer-length, before-units, status-number, words, answer-bytes, written, turn-bytes}
 use Rattle.turn_bytes.specs.Calls.{HeldBytes, bytes-plan, bytes-state, left, bytes-said}
 use Rattle.turn_bytes.proofs.Turning.{length-words, read-of, not-taken, taken}
 
@@ -57,13 +57,8 @@ first-word : (w : ℕ) (l : List ℕ) → w < 256 ^ 8 → word (bytes 8 w ++ l) 
 first-word w l h = ap (λ (k : ℕ). value (take k (bytes 8 w ++ l))) (sym (length-bytes 8 w)) ∙ ap value (take-append-seam (bytes 8 w) l) ∙ value-bytes 8 w h
 
 status-of : (said : Said) (job : Job) → word (answer-bytes said job) 0 ≡ status-number said
-status-of said job =
-    let a = bytes 8 (status-number said) in
-    let b = bytes 8 (job .at .done) in
-    let c = bytes 8 (all-units (job .width) (job .height)) in
-    let d = bytes 8 (job .at .updates) in
-    ap (λ (l : List ℕ). word (l ++ d) 0) (append-assoc a b c) ∙ ap (λ (l : List ℕ). word l 0) (append-assoc a (b ++ c) d)
-    ∙ first-word (status-number said) (b ++ c ++ d) (small said)
+unfolding words
+status-of said job = first-word (status-number said) _ (small said)
   where
     small : (x : Said) → status-number x < 256 ^ 8
     small finished = omega arith
@@ -71,14 +66,15 @@ status-of said job =
     small running = omega arith
 
 -- a unit's number is not 0
-not-zero : (n : ℕ) → Known n → eqb n 0 ≡ false
-not-zero n k = by-each (λ m. eqb m 0 ≡ false) unit-numbers n k (refl, (refl, (refl, (refl, (refl, tt)))))
+not-zero : (strict : Bool) (n : ℕ) → Known strict n → eqb n 0 ≡ false
+not-zero true n k = by-each (λ m. eqb m 0 ≡ false) (unit-numbers true) n k (refl, (refl, (refl, (refl, (refl, (refl, tt))))))
+not-zero false n k = by-each (λ m. eqb m 0 ≡ false) (unit-numbers false) n k (refl, (refl, (refl, (refl, (refl, tt)))))
 
-said-back : (said : Said) (job : Job) (cells : List Float) → Told Known said → bytes-said (written record { said = said; job = job; cells = cells }) ≡ said
+said-back : (said : Said) (job : Job) (cells : List Float) → Told (Known (job .strict)) said → bytes-said (written record { said = said; job = job; cells = cells }) ≡ said
 said-back finished job cells k = ap (λ (n : ℕ). cond (eqb n 1) finished running) (status-of finished job)
 said-back running job cells k = ap (λ (n : ℕ). cond (eqb n 1) finished running) (status-of running job)
 said-back (refused n) job cells k =
-    ap (λ (b : Bool). cond b (cond (eqb (word (answer-bytes (refused n) job) 0) 1) finished running) (refused n)) (not-zero n k)
+    ap (λ (b : Bool). cond b (cond (eqb (word (answer-bytes (refused n) job) 0) 1) finished running) (refused n)) (not-zero (job .strict) n k)
 
 -- ---- what a caller holds: bytes of a record that they can hold
 
@@ -109,10 +105,10 @@ module _ (job : Job) (w : Writable job) (cells : List Float) (a : ℕ) (lent : L
       go true e = sym (eqb-true n 0 e)
       go false e = refl
 
-  own-number : before-units (record-read bs) (intact bs) cells lent ≡ verdict (admitted job (length cells))
+  own-number : before-units (record-read bs) (whole bs) cells lent ≡ verdict (admitted job (length cells))
   unfolding code
   own-number =
-      ap₂ (λ (f : Found) (t : Bool). before-units f t cells lent) (written-read job w) (written-intact job)
+      ap₂ (λ (f : Found) (t : Bool). before-units f t cells lent) (written-read job w) (written-whole job)
       ∙ ap (code (checked true (verdict (admitted job (length cells))))) (eq-eqb (length lent) answer-length room)
       ∙ whole-number (verdict (admitted job (length cells)))
 
@@ -122,8 +118,8 @@ module _ (job : Job) (w : Writable job) (cells : List Float) (a : ℕ) (lent : L
   refused-is : (r : Refusal) → admitted job (length cells) ≡ Refused r → after ≡ handed (number r) bs cells lent
   unfolding turn-bytes
   refused-is r e =
-      let n : before-units (record-read bs) (intact bs) cells lent ≡ number r = own-number ∙ ap verdict e in
-      not-taken bs cells lent (turn-of (job-at bs) cells a) (before-units (record-read bs) (intact bs) cells lent) (λ z. omega (arith, number-within r .0, n, z))
+      let n : before-units (record-read bs) (whole bs) cells lent ≡ number r = own-number ∙ ap verdict e in
+      not-taken bs cells lent (turn-of (job-at bs) cells a) (before-units (record-read bs) (whole bs) cells lent) (λ z. omega (arith, number-within r .0, n, z))
       ∙ ap (λ (k : ℕ). handed k bs cells lent) n
 
   module _ (e : admitted job (length cells) ≡ Taken) where
@@ -133,7 +129,7 @@ module _ (job : Job) (w : Writable job) (cells : List Float) (a : ℕ) (lent : L
     taken-is : after ≡ written (answer job turned)
     unfolding turn-bytes
     taken-is =
-        taken bs cells lent (turn-of (job-at bs) cells a) (before-units (record-read bs) (intact bs) cells lent) (own-number ∙ ap verdict e)
+        taken bs cells lent (turn-of (job-at bs) cells a) (before-units (record-read bs) (whole bs) cells lent) (own-number ∙ ap verdict e)
         ∙ ap written as-turned
 
     -- the record goes into bytes again
@@ -147,9 +143,10 @@ module _ (job : Job) (w : Writable job) (cells : List Float) (a : ℕ) (lent : L
     still-writable =
         let k = is-admitted (sweep-for job) (job .at) (length cells) e in
         let size = opened (job .camera) (job .width) (job .height) (job .at .region) (k .opens) .size in
-        let g = turn-keeps (plan-of job) (f32-sound (job .camera) (job .width) (job .height)) a (state-of job cells) good in
+        let g = turn-keeps (plan-of job) (f32-sound (job .camera) (job .width) (job .height) (job .strict)) a (state-of job cells) good in
         let n = turn-numbers-fit (plan-of job) (undistort-judged-fits (job .camera)) a (state-of job cells) record { region = w .region; edges = w .edges } in
-        let few : limit (job .camera) * min (turned .state .at .done) (samples (job .width) (job .height)) ≤ 50 * samples (job .width) (job .height) = mul-le-mul (limit-most (job .camera)) (min-le-right (turned .state .at .done) (samples (job .width) (job .height))) in
+        let most = min-le-right (turned .state .at .done) (samples (job .width) (job .height)) in
+        let few : limit (job .camera) * min (turned .state .at .done) (samples (job .width) (job .height)) ≤ 50 * samples (job .width) (job .height) = mul-le-mul (limit-most (job .camera)) most in
         record {
           params = w .params;
           edges = n .edges;
@@ -157,6 +154,8 @@ module _ (job : Job) (w : Writable job) (cells : List Float) (a : ℕ) (lent : L
           width = w .width;
           height = w .height;
           updates = omega (arith, g .record-of .updates, few, size .not-wider, size .not-higher);
+          unsettled = omega (arith, g .record-of .tallies .count, most, size .not-wider, size .not-higher);
+          first = omega (arith, g .record-of .tallies .position, most, size .not-wider, size .not-higher);
           done = omega (arith, g .record-of .not-past, bounded (job .width) (job .height) size, size .not-wider, size .not-higher);
         }
 
@@ -172,7 +171,7 @@ module _ (job : Job) (w : Writable job) (cells : List Float) (a : ℕ) (lent : L
       go Taken e =
           let x = answer job turned in
           ap (λ (h : Handed). record { state = bytes-state (left h); said = bytes-said h }) (taken-is e)
-          ∙ ap₂ (λ (k : Job) (s : Said). record { state = state-of k (x .cells); said = s }) (read-back (x .job) (still-writable e)) (said-back (x .said) (x .job) (x .cells) (turn-known (job .camera) (job .width) (job .height) a (state-of job cells)))
+          ∙ ap₂ (λ (k : Job) (s : Said). record { state = state-of k (x .cells); said = s }) (read-back (x .job) (still-writable e)) (said-back (x .said) (x .job) (x .cells) (turn-known (job .camera) (job .width) (job .height) (job .strict) a (state-of job cells)))
 
   -- it keeps the plan, and leaves what the next call may take
   kept-so : (bytes-plan (left after) ≡ plan-of job) × Ready (left after)
@@ -187,7 +186,7 @@ module _ (job : Job) (w : Writable job) (cells : List Float) (a : ℕ) (lent : L
           subst (λ (h : Handed). (bytes-plan (left h) ≡ plan-of job) × Ready (left h)) (sym (taken-is e))
           (ap plan-of (read-back (x .job) (still-writable e)), record { job = x .job; bytes-of = refl; writable = still-writable e })
 
--- ---- any function whose calls leave and say what `turn-bytes` does, with an answer's buffer of 32 bytes
+-- ---- any function whose calls leave and say what `turn-bytes` does, with an answer's buffer of 48 bytes
 
 pub record ByTurnBytes (h : HeldBytes) (a : ℕ) (said : Said) (k : HeldBytes) : Type 0 where
   pub lent : List ℕ
@@ -227,19 +226,20 @@ module _ (Post : HeldBytes → ℕ → Said → HeldBytes → Type 0) (by-contra
       ready-kept h a said k r p = kept h a said k r p .1
 
 -- a call that the plan admits reports what it left: its number is 0 or that of a unit, and the answer's words are those of the record
-pub record Reports (x : Handed) : Type 0 where
-  pub number : one-of (x .code) (0 ∷ unit-numbers) ≡ true
+pub record Reports (strict : Bool) (x : Handed) : Type 0 where
+  pub number : one-of (x .code) (0 ∷ unit-numbers strict) ≡ true
   pub answer : x .answer ≡ answer-bytes (bytes-said x) (job-at (x .job))
 
-pub admitted-reports : (h : HeldBytes) → Ready h → plan.judged (bytes-plan h) (bytes-state h) ≡ Taken → (a : ℕ) (lent : List ℕ) → length lent ≡ answer-length → Reports (turn-bytes (h .job) (h .cells) a lent)
+pub admitted-reports : (h : HeldBytes) → Ready h → plan.judged (bytes-plan h) (bytes-state h) ≡ Taken → (a : ℕ) (lent : List ℕ) → length lent ≡ answer-length → Reports (job-at (h .job) .strict) (turn-bytes (h .job) (h .cells) a lent)
 admitted-reports h r e a lent room =
     let f : admitted (r .job) (length (h .cells)) ≡ Taken = sym (ap (λ (j : Job). admitted j (length (h .cells))) (job-so h r)) ∙ e in
     let x = answer (r .job) (turn (next (plan-of (r .job))) a (state-of (r .job) (h .cells))) in
-    let k = turn-known (r .job .camera) (r .job .width) (r .job .height) a (state-of (r .job) (h .cells)) in
-    subst Reports (sym (held-so h r a lent ∙ taken-is (r .job) (r .writable) (h .cells) a lent room f))
+    let k = turn-known (r .job .camera) (r .job .width) (r .job .height) (r .job .strict) a (state-of (r .job) (h .cells)) in
+    subst (λ (j : Job). Reports (j .strict) (turn-bytes (h .job) (h .cells) a lent)) (sym (job-so h r))
+    (subst (Reports (r .job .strict)) (sym (held-so h r a lent ∙ taken-is (r .job) (r .writable) (h .cells) a lent room f))
     record {
-      number = said-known (x .said) k;
+      number = said-known (r .job .strict) (x .said) k;
       answer =
           ap₂ answer-bytes (sym (said-back (x .said) (x .job) (x .cells) k))
           (sym (read-back (x .job) (still-writable (r .job) (r .writable) (h .cells) a lent room f)));
-    }
+    })

@@ -28,7 +28,7 @@ use Rattle.distortion_table.specs.Answer.{plan-of, state-of, turn-of}
 use Rattle.little_endian.specs.Bytes.{half}
 use Rattle.given.specs.Given.{code}
 use Rattle.job_bytes.specs.Bytes.{record-length, record-read, job-at}
-use Rattle.job_bytes.specs.Check.{intact}
+use Rattle.job_bytes.specs.Check.{whole}
 use Rattle.job_bytes.specs.declared.Found.the-variants.{Of, Refused}
 use Rattle.turn_bytes.specs.Turn.{checked, own, answer-length, before-units}
 use Rattle.turn_bytes.specs.Calls.{call-numbers}
@@ -79,28 +79,28 @@ code-so n false h = go (eqb n 0) (ltb n 7)
     go false true = h
     go false false = refl
 
-pub before-so : (bs : List ℕ) (cells : List Float) (lent : List ℕ) → one-of (before-units (record-read bs) (intact bs) cells lent) (0 ∷ call-numbers) ≡ true
-before-so bs cells lent = code-so (own (record-read bs) (intact bs) (length cells)) (eqb (length lent) answer-length) (own-so bs (intact bs) (length cells))
+pub before-so : (bs : List ℕ) (cells : List Float) (lent : List ℕ) → one-of (before-units (record-read bs) (whole bs) cells lent) (0 ∷ call-numbers) ≡ true
+before-so bs cells lent = code-so (own (record-read bs) (whole bs) (length cells)) (eqb (length lent) answer-length) (own-so bs (whole bs) (length cells))
 
 -- ---- a call that is taken
 
--- its record is admitted, and its bytes are intact
-pub own-taken : (bs : List ℕ) (places : ℕ) → own (record-read bs) (intact bs) places ≡ 0 → (admitted (job-at bs) places ≡ judged.Taken) × (intact bs ≡ true)
+-- its record is admitted, and its bytes are whole
+pub own-taken : (bs : List ℕ) (places : ℕ) → own (record-read bs) (whole bs) places ≡ 0 → (admitted (job-at bs) places ≡ judged.Taken) × (whole bs ≡ true)
 unfolding record-read
 own-taken bs places h = go (eqb (length bs) record-length) (leb (half bs 0) 3) h
   where
-    go : (l m : Bool) → own (cond l (cond m (Of (job-at bs)) (Refused UnknownModel)) (Refused WrongLength)) (intact bs) places ≡ 0
-        → (admitted (job-at bs) places ≡ judged.Taken) × (intact bs ≡ true)
+    go : (l m : Bool) → own (cond l (cond m (Of (job-at bs)) (Refused UnknownModel)) (Refused WrongLength)) (whole bs) places ≡ 0
+        → (admitted (job-at bs) places ≡ judged.Taken) × (whole bs ≡ true)
     go false m e = absurd (omega (arith, e))
     go true false e = absurd (omega (arith, e))
-    go true true e = is-right (job-at bs) (intact bs) places e
+    go true true e = is-right (job-at bs) (whole bs) places e
 
 pub taken-so :
     (bs : List ℕ) (cells : List Float) (lent : List ℕ) (a : ℕ) →
-    before-units (record-read bs) (intact bs) cells lent ≡ 0 →
-    one-of (said-number (turn-of (job-at bs) cells a .said)) (0 ∷ unit-numbers) ≡ true
+    before-units (record-read bs) (whole bs) cells lent ≡ 0 →
+    one-of (said-number (turn-of (job-at bs) cells a .said)) (0 ∷ unit-numbers (job-at bs .strict)) ≡ true
 taken-so bs cells lent a z =
     let j : Job = job-at bs in
-    let e : admitted j (length cells) ≡ judged.Taken = own-taken bs (length cells) (none-before (record-read bs) (intact bs) cells lent z .0) .0 in
-    ap (λ (v : Judgement). one-of (said-number (decided v (λ r. record { state = state-of j cells; said = refused (number r) }) (turn (next (plan-of j)) a (state-of j cells)) .said)) (0 ∷ unit-numbers)) e
-    ∙ said-known (turn (next (plan-of j)) a (state-of j cells) .said) (turn-known (j .camera) (j .width) (j .height) a (state-of j cells))
+    let e : admitted j (length cells) ≡ judged.Taken = own-taken bs (length cells) (none-before (record-read bs) (whole bs) cells lent z .0) .0 in
+    ap (λ (v : Judgement). one-of (said-number (decided v (λ r. record { state = state-of j cells; said = refused (number r) }) (turn (next (plan-of j)) a (state-of j cells)) .said)) (0 ∷ unit-numbers (j .strict))) e
+    ∙ said-known (j .strict) (turn (next (plan-of j)) a (state-of j cells) .said) (turn-known (j .camera) (j .width) (j .height) (j .strict) a (state-of j cells))

@@ -1,8 +1,8 @@
 -- From the parts of a call to what it hands back. Assumes nothing.
 use mathlib.Core.Path.{_≡_, refl, sym, ap, ap₂, _∙_}
 use mathlib.Core.Bool.{Bool, true, false, cond}
-use mathlib.Core.List.{List, [], _++_}
-use Prim.Native.Nat.{ℕ, _+_}
+use mathlib.Core.List.{List, [], _∷_, _++_, append-assoc, append-nil}
+use Prim.Native.Nat.{ℕ, _+_, _*_, _≤_}
 use native.Mathlib.Omega.{arith}
 use borrow.Author.Tests.{eq-eqb, ne-eqb, eqb-true, eqb-false}
 use lib.Dec.{eqb, leb}
@@ -25,39 +25,44 @@ use Rattle.little_endian.proofs.Laws.{length-bytes, put-whole, put-put}
 use Rattle.given.specs.Given.{code, answered}
 use Rattle.given.proofs.Laws.{told-zero}
 use Rattle.job_bytes.specs.Bytes.{record-length, record-bytes, record-read, job-at}
-use Rattle.job_bytes.specs.Check.{intact}
+use Rattle.job_bytes.specs.Check.{whole}
 use Rattle.job_bytes.specs.declared.Found.{Found}
 use Rattle.job_bytes.specs.declared.Found.the-variants.{Of, Refused}
-use Rattle.turn_bytes.specs.Turn.{handed, checked, own, answer-length, before-units, status-number, four-words, written, taken-or-not, turn-bytes, turn-held}
+use Rattle.turn_bytes.specs.Turn.{handed, checked, own, answer-length, before-units, status-number, words, report, written, taken-or-not, turn-bytes, turn-held}
 
--- ---- four numbers, as they are put one behind the other
+-- ---- numbers, as they are put one behind the other
 
-module _ (a b c d : ℕ) where
-  abbrev two : List ℕ
-  two = bytes 8 a ++ bytes 8 b
+pub length-words : (ws : List ℕ) → length (words ws) ≡ 8 * length ws
+unfolding words
+length-words [] = refl
+length-words (w ∷ ws) = omega (arith, length-append (bytes 8 w) (words ws), length-bytes 8 w, length-words ws)
 
-  abbrev three : List ℕ
-  three = two ++ bytes 8 c
+one-behind : (ws : List ℕ) (w : ℕ) → words ws ++ bytes 8 w ≡ words (ws ++ (w ∷ []))
+unfolding words
+one-behind [] w = sym (append-nil (bytes 8 w))
+one-behind (x ∷ ws) w = append-assoc (bytes 8 x) (words ws) (bytes 8 w) ∙ ap (λ (l : List ℕ). bytes 8 x ++ l) (one-behind ws w)
 
-  long-two : length two ≡ 16
-  long-two = length-append (bytes 8 a) (bytes 8 b) ∙ ap₂ (λ (m n : ℕ). m + n) (length-bytes 8 a) (length-bytes 8 b)
+-- one more behind those that were put
+pub one-more :
+    (ws : List ℕ) (w place : ℕ) (lent x y : List ℕ) →
+    place ≡ 8 * length ws →
+    place + 8 ≤ length lent →
+    x ≡ put 0 (words ws) lent →
+    y ≡ put place (bytes 8 w) x →
+    y ≡ put 0 (words (ws ++ (w ∷ []))) lent
+one-more ws w place lent x y p h e f =
+    let n = length-words ws in
+    f ∙ ap (put place (bytes 8 w)) e
+    ∙ put-put 0 (words ws) (bytes 8 w) lent place (omega (arith, n, p)) (omega (arith, n, p, h, length-bytes 8 w))
+    ∙ ap (λ (l : List ℕ). put 0 l lent) (one-behind ws w)
 
-  long-three : length three ≡ 24
-  long-three = length-append two (bytes 8 c) ∙ ap₂ (λ (m n : ℕ). m + n) long-two (length-bytes 8 c)
+pub first-put : (w : ℕ) (lent x : List ℕ) → x ≡ put 0 (bytes 8 w) lent → x ≡ put 0 (words (w ∷ [])) lent
+unfolding words
+first-put w lent x e = e ∙ ap (λ (l : List ℕ). put 0 l lent) (sym (append-nil (bytes 8 w)))
 
-  pub length-words : length (four-words a b c d) ≡ answer-length
-  length-words = length-append three (bytes 8 d) ∙ ap₂ (λ (m n : ℕ). m + n) long-three (length-bytes 8 d)
-
-  pub four-put :
-      (lent : List ℕ) →
-      length lent ≡ answer-length →
-      put 24 (bytes 8 d) (put 16 (bytes 8 c) (put 8 (bytes 8 b) (put 0 (bytes 8 a) lent))) ≡ four-words a b c d
-  four-put lent e =
-      let la : length (bytes 8 a) ≡ 8 = length-bytes 8 a in
-      ap (λ (l : List ℕ). put 24 (bytes 8 d) (put 16 (bytes 8 c) l)) (put-put 0 (bytes 8 a) (bytes 8 b) lent 8 (omega (arith, la)) (omega (arith, la, length-bytes 8 b, e)))
-      ∙ ap (put 24 (bytes 8 d)) (put-put 0 two (bytes 8 c) lent 16 (omega (arith, long-two)) (omega (arith, long-two, length-bytes 8 c, e)))
-      ∙ put-put 0 three (bytes 8 d) lent 24 (omega (arith, long-three)) (omega (arith, long-three, length-bytes 8 d, e))
-      ∙ put-whole (four-words a b c d) lent (length-words ∙ sym e)
+-- over a whole answer
+pub all-words : (ws lent x : List ℕ) → length lent ≡ 8 * length ws → x ≡ put 0 (words ws) lent → x ≡ words ws
+all-words ws lent x h e = e ∙ put-whole (words ws) lent (length-words ws ∙ sym h)
 
 -- ---- what is read out of bytes
 
@@ -81,7 +86,7 @@ pub none-before :
 unfolding answered
 none-before found whole cells lent e = told-zero answer-length (own found whole (length cells)) [] lent e
 
--- then the record is admitted, and its bytes are intact
+-- then the record is admitted, and its bytes are whole
 both-right : (whole : Bool) (refusal : ℕ) → checked whole refusal ≡ 0 → (refusal ≡ 0) × (whole ≡ true)
 both-right whole refusal e = by-tests (eqb refusal 0) whole refl e
   where
@@ -122,8 +127,8 @@ module _ (job : Job) (whole : Bool) (places n : ℕ) (e : n ≡ verdict (admitte
 pub as-judged :
     (job : Job) (bs : List ℕ) (cells : List Float) (lent : List ℕ) {r n : ℕ} →
     r ≡ code n (eqb (length lent) answer-length) →
-    n ≡ own (Of job) (intact bs) (length cells) →
-    r ≡ before-units (Of job) (intact bs) cells lent
+    n ≡ own (Of job) (whole bs) (length cells) →
+    r ≡ before-units (Of job) (whole bs) cells lent
 as-judged job bs cells lent e f = e ∙ ap (λ (k : ℕ). code k (eqb (length lent) answer-length)) f
 
 -- one that is not taken writes nothing, and one that is taken writes all that its turn answers
@@ -137,34 +142,34 @@ module _ (bs : List ℕ) (cells : List Float) (lent : List ℕ) (a : Answer Floa
 -- ---- a call whose record is read
 
 module _ (job : Job) (bs : List ℕ) (cells : List Float) (allowance : ℕ) (lent : List ℕ) where
-  pub held-refused : (r : ℕ) → r ≡ before-units (Of job) (intact bs) cells lent → (r ≡ 0 → ⊥) → handed r bs cells lent ≡ turn-held job bs cells allowance lent
+  pub held-refused : (r : ℕ) → r ≡ before-units (Of job) (whole bs) cells lent → (r ≡ 0 → ⊥) → handed r bs cells lent ≡ turn-held job bs cells allowance lent
   unfolding turn-held
   held-refused r e n =
       ap (λ (k : ℕ). handed k bs cells lent) e
-      ∙ sym (not-taken bs cells lent (turn-of job cells allowance) (before-units (Of job) (intact bs) cells lent) (λ z. n (e ∙ z)))
+      ∙ sym (not-taken bs cells lent (turn-of job cells allowance) (before-units (Of job) (whole bs) cells lent) (λ z. n (e ∙ z)))
 
   pub held-taken :
       (t : Turned) (after : List Float) (r : ℕ) (record-after answer-after : List ℕ) (all : ℕ) →
-      before-units (Of job) (intact bs) cells lent ≡ 0 →
+      before-units (Of job) (whole bs) cells lent ≡ 0 →
       told-turned t after ≡ turn-of job cells allowance →
       all ≡ all-units (job .width) (job .height) →
       r ≡ said-number (told-status (t .status)) →
       record-after ≡ record-bytes (t .job) →
-      answer-after ≡ four-words (status-number (told-status (t .status))) (t .job .at .done) all (t .job .at .updates) →
+      answer-after ≡ report (status-number (told-status (t .status))) all (t .job .at) →
       handed r record-after after answer-after ≡ turn-held job bs cells allowance lent
   unfolding turn-held
   held-taken t after r record-after answer-after all z e f g h i =
       let units : all ≡ all-units (t .job .width) (t .job .height) = f ∙ sym (ap (λ (a : Answer Float). all-units (a .job .width) (a .job .height)) e) in
       ap (λ (n : ℕ). handed n record-after after answer-after) g
       ∙ ap₂ (λ (b c : List ℕ). handed (said-number (told-status (t .status))) b after c) h i
-      ∙ ap (λ (n : ℕ). handed (said-number (told-status (t .status))) (record-bytes (t .job)) after (four-words (status-number (told-status (t .status))) (t .job .at .done) n (t .job .at .updates))) units
+      ∙ ap (λ (n : ℕ). handed (said-number (told-status (t .status))) (record-bytes (t .job)) after (report (status-number (told-status (t .status))) n (t .job .at))) units
       ∙ ap written e
-      ∙ sym (taken bs cells lent (turn-of job cells allowance) (before-units (Of job) (intact bs) cells lent) z)
+      ∙ sym (taken bs cells lent (turn-of job cells allowance) (before-units (Of job) (whole bs) cells lent) z)
 
   pub as-read : record-read bs ≡ Of job → turn-held job bs cells allowance lent ≡ turn-bytes bs cells allowance lent
   unfolding turn-held turn-bytes
   as-read e =
-      ap₂ (λ (f : Found) (j : Job). taken-or-not (before-units f (intact bs) cells lent) bs cells lent (turn-of j cells allowance)) (sym e) (read-of bs job e .0)
+      ap₂ (λ (f : Found) (j : Job). taken-or-not (before-units f (whole bs) cells lent) bs cells lent (turn-of j cells allowance)) (sym e) (read-of bs job e .0)
 
 -- ---- a call whose record cannot be read
 
@@ -175,6 +180,6 @@ pub unread :
     handed r bs cells lent ≡ turn-bytes bs cells allowance lent
 unfolding turn-bytes
 unread bs cells allowance lent refusal r e f =
-    let k : r ≡ before-units (record-read bs) (intact bs) cells lent = f ∙ sym (ap (λ (g : Found). before-units g (intact bs) cells lent) e) in
+    let k : r ≡ before-units (record-read bs) (whole bs) cells lent = f ∙ sym (ap (λ (g : Found). before-units g (whole bs) cells lent) e) in
     ap (λ (n : ℕ). handed n bs cells lent) k
-    ∙ sym (not-taken bs cells lent (turn-of (job-at bs) cells allowance) (before-units (record-read bs) (intact bs) cells lent) (λ z. omega (arith, none-before (Refused refusal) (intact bs) cells lent (sym f ∙ k ∙ z) .0, number-within refusal .0)))
+    ∙ sym (not-taken bs cells lent (turn-of (job-at bs) cells allowance) (before-units (record-read bs) (whole bs) cells lent) (λ z. omega (arith, none-before (Refused refusal) (whole bs) cells lent (sym f ∙ k ∙ z) .0, number-within refusal .0)))

@@ -1,11 +1,12 @@
 -- One turn of a table over bytes: what is handed in, and what comes back. Definitions only.
 --
--- The answer has 32 bytes, four numbers of eight:
+-- The answer has 48 bytes, six numbers of eight:
 --
---     0  status: 0 running, 1 finished, 2 refused      16  units in all
---     8  units done                                    24  updates
+--     0  status: 0 running, 1 finished, 2 refused      24  updates
+--     8  units done                                    32  border samples done that didn't settle
+--    16  units in all                                  40  the position of the first of them, from 1; 0 for none
 use mathlib.Core.Bool.{Bool, cond}
-use mathlib.Core.List.{List, _++_}
+use mathlib.Core.List.{List, [], _∷_, _++_}
 use Prim.Native.Nat.{ℕ}
 use lib.Dec.{eqb}
 use lib.Ieee.{Float}
@@ -15,13 +16,14 @@ use Rattle.lens.specs.Refusal.{number}
 use Rattle.border.specs.Border.{all-units}
 use Rattle.turns.specs.Turns.{Said, finished, refused, running}
 use Rattle.plans.specs.Calls.{said-number}
+use Rattle.plans.specs.declared.Progress.{Progress}
 use Rattle.job.specs.Job.{admitted}
 use Rattle.job.specs.declared.Job.{Job}
 use Rattle.distortion_table.specs.Answer.{Answer, turn-of}
 use Rattle.little_endian.specs.Bytes.{bytes}
 use Rattle.given.specs.Given.{code}
 use Rattle.job_bytes.specs.Bytes.{record-bytes, record-read, job-at}
-use Rattle.job_bytes.specs.Check.{intact}
+use Rattle.job_bytes.specs.Check.{whole}
 use Rattle.job_bytes.specs.declared.Found.{Found}
 use Rattle.job_bytes.specs.declared.Found.the-variants.{Of, Refused}
 
@@ -37,11 +39,11 @@ handed code job cells answer = record { code = code; job = job; cells = cells; a
 
 -- ---- before any unit
 
--- 13 for a check word that is wrong, where nothing else is
+-- 13 for bytes that aren't whole, where nothing else is wrong
 abbrev pub checked : Bool → ℕ → ℕ
 checked whole refusal = cond (eqb refusal 0) (cond whole 0 13) refusal
 
--- the record's own refusal: 7 and 1, then 4, 5, 6, 7, 13, and 13 for bytes that aren't intact; 0 if there is none.
+-- the record's own refusal: 7 and 1, then 4, 5, 6, 7, 13, and 13 for bytes that aren't whole; 0 if there is none.
 -- `places` is the length of the table
 abbrev pub own : Found → Bool → ℕ → ℕ
 own (Of job) whole places = checked whole (verdict (admitted job places))
@@ -49,7 +51,7 @@ own (Refused refusal) whole places = number refusal
 
 -- how many bytes an answer has
 abbrev pub answer-length : ℕ
-answer-length = 32
+answer-length = 48
 
 -- the lower of the record's own refusal and 7, which is for an answer of another length
 abbrev pub before-units : Found → Bool → List Float → List ℕ → ℕ
@@ -62,12 +64,16 @@ status-number running = 0
 status-number finished = 1
 status-number (refused n) = 2
 
-abbrev pub four-words : ℕ → ℕ → ℕ → ℕ → List ℕ
-four-words a b c d = bytes 8 a ++ bytes 8 b ++ bytes 8 c ++ bytes 8 d
+-- numbers one behind the other, eight bytes each
+unfoldable pub words : List ℕ → List ℕ
+words [] = []
+words (w ∷ ws) = bytes 8 w ++ words ws
+
+abbrev pub report : ℕ → ℕ → Progress → List ℕ
+report status all at = words (status ∷ at .done ∷ all ∷ at .updates ∷ at .unsettled ∷ at .first ∷ [])
 
 abbrev pub answer-bytes : Said → Job → List ℕ
-answer-bytes said job =
-    four-words (status-number said) (job .at .done) (all-units (job .width) (job .height)) (job .at .updates)
+answer-bytes said job = report (status-number said) (all-units (job .width) (job .height)) (job .at)
 
 -- with the number of the unit that refused; 0 if none did
 abbrev pub written : Answer Float → Handed
@@ -81,10 +87,10 @@ taken-or-not number bs cells lent answer = cond (eqb number 0) (written answer) 
 
 unfoldable pub turn-bytes : List ℕ → List Float → ℕ → List ℕ → Handed
 turn-bytes bs cells allowance lent =
-    taken-or-not (before-units (record-read bs) (intact bs) cells lent) bs cells lent
+    taken-or-not (before-units (record-read bs) (whole bs) cells lent) bs cells lent
     (turn-of (job-at bs) cells allowance)
 
 -- the same of bytes that hold this record
 unfoldable pub turn-held : Job → List ℕ → List Float → ℕ → List ℕ → Handed
 turn-held job bs cells allowance lent =
-    taken-or-not (before-units (Of job) (intact bs) cells lent) bs cells lent (turn-of job cells allowance)
+    taken-or-not (before-units (Of job) (whole bs) cells lent) bs cells lent (turn-of job cells allowance)

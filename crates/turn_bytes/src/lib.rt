@@ -8,18 +8,19 @@ ghost use Rattle.border.specs.Border.{all-units};
 ghost use Rattle.plans.specs.Calls.{said-number};
 ghost use Rattle.distortion_table.specs.Answer.{told-status};
 ghost use Rattle.job_bytes.specs.Bytes.{record-length, record-bytes};
-ghost use Rattle.job_bytes.specs.Check.{intact};
+ghost use Rattle.job_bytes.specs.Check.{whole};
 ghost use Rattle.job_bytes.specs.declared.Found.the-variants.{Of};
-ghost use Rattle.turn_bytes.specs.Turn.{handed, own, answer-length, status-number, four-words, turn-held, turn-bytes};
+ghost use Rattle.turn_bytes.specs.Turn.{handed, own, answer-length, status-number, report, turn-held, turn-bytes};
 use distortion_table::Status;
 use distortion_table::Turned;
 use job::Job;
 use job_bytes::Found;
 use lens::Judgement;
 use lens::Refusal;
+use plans::Progress;
 
 // How many bytes an answer has.
-pub const ANSWER: usize = 32;
+pub const ANSWER: usize = 48;
 
 // A judgement by its number: 0 for a record that is taken.
 fn verdict(judgement: Judgement) -> u8
@@ -61,15 +62,17 @@ fn all_units(width: usize, height: usize) -> usize
     border::samples(width as u32, height as u32) + width * height
 }
 
-// Four numbers, eight bytes each, over the whole answer.
-fn put_four(out: &mut [u8], a: u64, b: u64, c: u64, d: u64)
+// What a turn came to, six numbers of eight bytes each, over the whole answer.
+fn put_report(status: u64, all: u64, at: Progress, out: &mut [u8])
     requires { ⌜ length (now out) ≡ answer-length ⌝ }
-    ensures { λ _. ⌜ now (out .exit) ≡ four-words a b c d ⌝ }
+    ensures { λ _. ⌜ now (out .exit) ≡ report status all at ⌝ }
 {
-    little_endian::put(out, 0, 8, a);
-    little_endian::put(out, 8, 8, b);
-    little_endian::put(out, 16, 8, c);
-    little_endian::put(out, 24, 8, d);
+    little_endian::put(out, 0, 8, status);
+    little_endian::put(out, 8, 8, at.done as u64);
+    little_endian::put(out, 16, 8, all);
+    little_endian::put(out, 24, 8, at.updates as u64);
+    little_endian::put(out, 32, 8, at.unsettled as u64);
+    little_endian::put(out, 40, 8, at.first as u64);
 }
 
 // Writes what a turn hands back, all being the units in all.
@@ -78,34 +81,26 @@ fn give(turned: Turned, all: u64, job: &mut [u8], answer: &mut [u8]) -> u8
     ensures { λ r. ⌜
         (r ≡ said-number (told-status (turned .status)))
         × (now (job .exit) ≡ record-bytes (turned .job))
-        × (now (answer .exit)
-        ≡ four-words (status-number (told-status (turned .status))) (turned .job .at .done) all
-        (turned .job .at .updates))
+        × (now (answer .exit) ≡ report (status-number (told-status (turned .status))) all (turned .job .at))
         ⌝ }
 {
     let said = turned.status;
     let held = turned.job;
     let at = held.at;
     job_bytes::write(held, job);
-    put_four(
-        answer,
-        status_number(said),
-        at.done as u64,
-        all,
-        at.updates as u64,
-    );
+    put_report(status_number(said), all, at, answer);
     unit_number(said)
 }
 
-// The record's own refusal, or 0. Its check word is judged last, and only where all else is right.
+// The record's own refusal, or 0. Its mark and its check word are judged last, and only where all else is right.
 fn own(held: Job, job: &[u8], places: usize) -> u8
-    ensures { λ r. ⌜ r ≡ own (Of held) (intact (now (job .entry))) places ⌝ }
+    ensures { λ r. ⌜ r ≡ own (Of held) (whole (now (job .entry))) places ⌝ }
 {
     let number = verdict(job::admitted(held, places));
     if number != 0 {
         return number;
     }
-    if job_bytes::intact(job) {
+    if job_bytes::whole(job) {
         return 0;
     }
     lens::number(Refusal::ImpossibleRecord)

@@ -1,5 +1,6 @@
 -- `distortion_table::cells` meets its contract. Assumes nothing.
 use mathlib.Core.Path.{_≡_, refl, sym, ap, _∙_}
+use mathlib.Core.Bool.{false}
 use Prim.Native.Nat.{ℕ, _*_, _-_, _<_}
 use native.Mathlib.Nat.{min-le-right}
 use native.Mathlib.Omega.{arith}
@@ -16,11 +17,11 @@ use Rattle.distortion_table.proofs.cells.Statement.{statement}
 use Rattle.distortion_table.proofs.cells.Tie as tie
 
 returns : tie.Need-returns
-returns c =
+returns c strict =
     let a = c .before .before .args in
     let p = c .before .before .pre in
     let h : a .at .done < samples (a .width) (a .height) = omega (arith, p .0, c .if1 .taken) in
-    let t = f32-table (a .camera) (a .width) (a .height) in
+    let t = f32-table (a .camera) (a .width) (a .height) strict in
     let s : State Float = record { at = a .at; cells = a .table .now } in
     sym (ap (λ (n : ℕ). turn (next t) n s) (p .1 .spent h) ∙ at-border-spent t s h)
 
@@ -43,7 +44,7 @@ add-end-at c =
     let k = c .before .before .before .before .before .cells-due .ensures in
     let f = c .before .before .before .lend .result in
     let d =
-    filled-most (f32-table (a .camera) (a .width) (a .height)) (a .at) (a .table .now) (a .left) (c .before .before .before .before .before .cells-due .result .first) (c .before .before .before .before .before .cells-due .result .count)
+    filled-most (f32-table (a .camera) (a .width) (a .height) false) (a .at) (a .table .now) (a .left) (c .before .before .before .before .before .cells-due .result .first) (c .before .before .before .before .before .cells-due .result .count)
     (omega (arith, p .0, k .here)) (k .counted) (k .within) (p .1 .places) (f .done) (told-refusal (f .refusal)) (c .before .before .before .lend .last .0) (c .before .before .before .lend .ensures) in
     omega (arith, d, p .0, k .within, k .counted, min-le-right (a .left) (a .width * a .height - c .before .before .before .before .before .cells-due .result .first), bounded (a .width) (a .height) (p .1 .size), p .1 .size .not-wider, p .1 .size .not-higher)
 
@@ -54,13 +55,13 @@ add-end-at-2 : tie.Need-add-end-at-2
 add-end-at-2 c = let p = c .before .before .before .before .before .before .before .before .pre in omega (arith, p .0, p .1 .size .not-wider, p .1 .size .not-higher, bounded (c .before .before .before .before .before .before .before .before .args .width) (c .before .before .before .before .before .before .before .before .args .height) (p .1 .size))
 
 returns-2 : tie.Need-returns-2
-returns-2 c =
+returns-2 c strict =
     let a = c .before .before .before .before .before .before .before .before .before .args in
     let p = c .before .before .before .before .before .before .before .before .before .pre in
     let k = c .before .before .before .before .before .before .cells-due .ensures in
     let f = c .before .before .before .before .lend .result in
     rw (c .end-at .ensures .0, c .end-at .ensures .1, p .0)
-    (cells-end (f32-table (a .camera) (a .width) (a .height)) (a .at) (a .table .now) (a .left) (c .before .before .before .before .before .before .cells-due .result .first) (c .before .before .before .before .before .before .cells-due .result .count)
+    (cells-end (f32-table (a .camera) (a .width) (a .height) strict) (a .at) (a .table .now) (a .left) (c .before .before .before .before .before .before .cells-due .result .first) (c .before .before .before .before .before .before .cells-due .result .count)
     (omega (arith, p .0, k .here)) (k .counted) (k .within) (p .1 .places) (f .done) (told-refusal (f .refusal)) (c .before .before .before .before .lend .last .0) (c .before .before .before .before .lend .ensures))
 
 pub cells-spec : {M : Type 1} → statement M

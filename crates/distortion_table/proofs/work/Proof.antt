@@ -24,10 +24,10 @@ use Rattle.distortion_table.proofs.work.Tie as tie
 -- what the sweep met, in units that the turn does
 swept-so :
     (job : Job) (places : ℕ) → admitted job places ≡ Taken → (allowance count : ℕ) → count ≡ min allowance (samples (job .width) (job .height) - job .at .done)
-    → {t : Turn Progress} → t ≡ run (job .camera) (job .width) (job .height) allowance (job .at) → t ≡ met (turn (swept (sweep-for job)) count (job .at))
+    → {t : Turn Progress} → t ≡ run (job .camera) (job .width) (job .height) (job .strict) allowance (job .at) → t ≡ met (turn (swept (sweep-for job)) count (job .at))
 swept-so job places h allowance count n e =
     let k = taking job places h in
-    e ∙ run-is (job .camera) (job .width) (job .height) allowance (job .at) (k .taken-size) (k .few)
+    e ∙ run-is (job .camera) (job .width) (job .height) (job .strict) allowance (job .at) (k .taken-size) (k .few) (k .few-unsettled)
     ∙ ap (λ (m : ℕ). met (turn (swept (sweep-for job)) m (job .at))) (sym n)
 
 cast-samples : tie.Need-cast-samples
@@ -71,7 +71,7 @@ returns-2 c =
     let j = a .job in
     let s = c .before .before .before .before .before .before .before .sweep .result in
     let counted : c .before .before .before .before .before .before .before .before .due .result ≡ min (a .allowance) (samples (j .width) (j .height) - j .at .done) = rw (← c .before .before .before .before .before .before .before .before .before .samples .ensures) (c .before .before .before .before .before .before .before .before .due .ensures) in
-    c .before .before .cells .ensures
+    c .before .before .cells .ensures (j .strict)
     ∙ sym (border-on (plan-of j) (j .at) (a .table .now) (a .allowance) (c .before .before .before .before .before .before .before .before .due .result) counted (s .at) (told-refusal (s .refusal)) (swept-so j (length (a .table .now)) (c .before .before .before .before .before .before .before .before .before .before .before .before .pre) (a .allowance) (c .before .before .before .before .before .before .before .before .due .result) counted (c .before .before .before .before .before .before .before .sweep .ensures)) (ap told-refusal (c .before .before .before .before .enum-told .given .1)))
 
 pub work-spec : {M : Type 1} → statement M

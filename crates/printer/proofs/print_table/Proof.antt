@@ -1,4 +1,5 @@
 -- `printer::print_table` meets its contract. Assumes nothing.
+use mathlib.Core.Bool.{false}
 use mathlib.Core.Path.{_≡_, sym, ap, _∙_}
 use Rattle.plans.specs.Plan.{nowhere}
 use Rattle.table_plans.proofs.Sound.{opened}
@@ -15,14 +16,14 @@ use Rattle.printer.proofs.print_table.Tie as tie
 print-sized-requires : tie.Need-print-sized-requires
 print-sized-requires c κs =
     let a = c .before .before .before .before .before .args in
-    let same = started-one-to-one (c .before .before .before .fresh .result) (fresh (a .camera) (a .width) (a .height)) (c .before .before .before .fresh .ensures) in
-    opened (a .camera) (a .width) (a .height) nowhere (fresh-opens (a .camera) (a .width) (a .height) _ (sym same ∙ c .before .enum-told .given .1) .0) .size
+    let same = started-one-to-one (c .before .before .before .fresh .result) (fresh (a .camera) (a .width) (a .height) false) (c .before .before .before .fresh .ensures) in
+    opened (a .camera) (a .width) (a .height) nowhere (fresh-opens (a .camera) (a .width) (a .height) false _ (sym same ∙ c .before .enum-told .given .1) .0) .size
 
 returns : tie.Need-returns
 unfolding table-lines
 returns c =
     let a = c .before .before .before .before .before .before .before .before .before .args in
-    let same = started-one-to-one (c .before .before .before .before .before .before .before .fresh .result) (fresh (a .camera) (a .width) (a .height)) (c .before .before .before .before .before .before .before .fresh .ensures) in
+    let same = started-one-to-one (c .before .before .before .before .before .before .before .fresh .result) (fresh (a .camera) (a .width) (a .height) false) (c .before .before .before .before .before .before .before .fresh .ensures) in
     c .before .before .refuse .ensures
     ∙ ap (λ (s : Started). placed-all (written (a .out .now) 0) (started s (sized-lines (a .camera) (a .width) (a .height)))) (sym (c .before .before .before .before .before .refusal .given .1) ∙ same)
 
@@ -30,7 +31,7 @@ returns-2 : tie.Need-returns-2
 unfolding table-lines
 returns-2 c =
     let a = c .before .before .before .before .before .before .before .before .args in
-    let same = started-one-to-one (c .before .before .before .before .before .before .fresh .result) (fresh (a .camera) (a .width) (a .height)) (c .before .before .before .before .before .before .fresh .ensures) in
+    let same = started-one-to-one (c .before .before .before .before .before .before .fresh .result) (fresh (a .camera) (a .width) (a .height) false) (c .before .before .before .before .before .before .fresh .ensures) in
     c .before .before .print-sized .ensures
     ∙ ap (λ (s : Started). placed-all (written (a .out .now) 0) (started s (sized-lines (a .camera) (a .width) (a .height)))) (sym (c .before .before .before .before .enum-told .given .1) ∙ same)
 

@@ -1,5 +1,5 @@
 -- `sweep::sweep_one` meets its contract. Assumes nothing.
-use mathlib.Core.Path.{_≡_, refl, sym, ap, _∙_}
+use mathlib.Core.Path.{_≡_, sym, ap, _∙_}
 use native.Mathlib.Omega.{arith}
 use borrow.Author.Needs.{needs}
 use Rattle.lens.specs.Undistorted.{Told, told}
@@ -8,37 +8,47 @@ use Rattle.camera.specs.Camera.{undistort-judged}
 use Rattle.camera.proofs.Laws.{updates-limit-judged, limit-most}
 use Rattle.plans.specs.Plan.{closed}
 use Rattle.plans.specs.declared.Progress.{Progress}
-use Rattle.plans.proofs.AtBorder.{sample-refused, sample-done, sample-last}
+use Rattle.plans.proofs.AtBorder.{sample-refused, sample-strict, sample-done, sample-last}
 use Rattle.table_plans.specs.Tables.{sweep-of}
 use Rattle.sweep.proofs.sweep_one.Statement.{statement}
 use Rattle.sweep.proofs.sweep_one.Tie as tie
 
-sampled-requires : tie.Need-sampled-requires
-sampled-requires c κs =
-    let a = c .before .before .before .before .before .args in
-    let u = c .before .before .before .undistort-judged in
-    let e = ap (λ (t : Told). t .settled .updates) (ap told (sym (c .before .settled .given .1)) ∙ u .ensures) in
-    (omega (arith, c .before .before .before .before .before .pre .1), omega (arith, e, c .before .before .before .before .before .pre .2, updates-limit-judged (a .camera) (c .before .before .before .before .border-pixel .result), limit-most (a .camera)))
-
 returns : tie.Need-returns
 returns c =
-    let a = c .before .before .before .before .before .before .before .before .args in
-    let e = sym (c .before .before .before .before .settled .given .1) ∙ told-one-to-one _ _ (c .before .before .before .before .before .before .undistort-judged .ensures) ∙ ap (undistort-judged (a .camera)) (c .before .before .before .before .before .before .before .border-pixel .ensures) in
-    let d = ap (λ (at : Progress). at .done) (c .before .before .sampled .ensures) in
-    rw (c .before .before .sampled .ensures) (sample-done (sweep-of (a .camera) (a .width) (a .height)) (a .at) (c .before .before .before .before .settled .given .0 .0) e refl (omega (arith, d, c .before .before .before .before .before .before .before .before .pre .0, c .if1 .taken)))
+    let a = c .before .before .before .before .before .before .before .args in
+    let e = sym (c .before .before .before .settled .given .1) ∙ told-one-to-one _ _ (c .before .before .before .before .before .undistort-judged .ensures) ∙ ap (undistort-judged (a .camera)) (c .before .before .before .before .before .before .border-pixel .ensures) in
+    sample-strict (sweep-of (a .camera) (a .width) (a .height) (a .strict)) (a .at) (c .before .before .before .settled .given .0 .0) e (sym (c .before .too-strict .ensures) ∙ c .if1 .taken)
+
+sampled-requires : tie.Need-sampled-requires
+sampled-requires c κs =
+    let a = c .before .before .before .before .before .before .before .args in
+    let u = c .before .before .before .before .before .undistort-judged in
+    let e = ap (λ (t : Told). t .settled .updates) (ap told (sym (c .before .before .before .settled .given .1)) ∙ u .ensures) in
+    (omega (arith, c .before .before .before .before .before .before .before .pre .1), omega (arith, e, c .before .before .before .before .before .before .before .pre .2, updates-limit-judged (a .camera) (c .before .before .before .before .before .before .border-pixel .result), limit-most (a .camera)), c .before .before .before .before .before .before .before .pre .3)
 
 returns-2 : tie.Need-returns-2
 returns-2 c =
-    let a = c .before .before .before .before .before .args in
-    sample-refused (sweep-of (a .camera) (a .width) (a .height)) (a .at) _ (sym (c .before .refusal .given .1) ∙ told-one-to-one _ _ (c .before .before .before .undistort-judged .ensures) ∙ ap (undistort-judged (a .camera)) (c .before .before .before .before .border-pixel .ensures))
+    let a = c .before .before .before .before .before .before .before .before .before .before .args in
+    let e = sym (c .before .before .before .before .before .before .settled .given .1) ∙ told-one-to-one _ _ (c .before .before .before .before .before .before .before .before .undistort-judged .ensures) ∙ ap (undistort-judged (a .camera)) (c .before .before .before .before .before .before .before .before .before .border-pixel .ensures) in
+    let f = sym (c .before .before .before .before .too-strict .ensures) ∙ c .before .before .before .if1 .left in
+    let d = ap (λ (at : Progress). at .done) (c .before .before .sampled .ensures) in
+    rw (c .before .before .sampled .ensures)
+    (sample-done (sweep-of (a .camera) (a .width) (a .height) (a .strict)) (a .at) (c .before .before .before .before .before .before .settled .given .0 .0) e f (omega (arith, d, c .before .before .before .before .before .before .before .before .before .before .pre .0, c .if2 .taken)))
 
 returns-3 : tie.Need-returns-3
 returns-3 c =
-    let a = c .before .before .before .before .before .before .before .before .before .args in
-    let e = sym (c .before .before .before .before .before .settled .given .1) ∙ told-one-to-one _ _ (c .before .before .before .before .before .before .before .undistort-judged .ensures) ∙ ap (undistort-judged (a .camera)) (c .before .before .before .before .before .before .before .before .border-pixel .ensures) in
+    let a = c .before .before .before .before .before .args in
+    sample-refused (sweep-of (a .camera) (a .width) (a .height) (a .strict)) (a .at) _
+    (sym (c .before .refusal .given .1) ∙ told-one-to-one _ _ (c .before .before .before .undistort-judged .ensures) ∙ ap (undistort-judged (a .camera)) (c .before .before .before .before .border-pixel .ensures))
+
+returns-4 : tie.Need-returns-4
+returns-4 c =
+    let a = c .before .before .before .before .before .before .before .before .before .before .before .args in
+    let e = sym (c .before .before .before .before .before .before .before .settled .given .1) ∙ told-one-to-one _ _ (c .before .before .before .before .before .before .before .before .before .undistort-judged .ensures) ∙ ap (undistort-judged (a .camera)) (c .before .before .before .before .before .before .before .before .before .before .border-pixel .ensures) in
+    let f = sym (c .before .before .before .before .before .too-strict .ensures) ∙ c .before .before .before .before .if1 .left in
     let d = ap (λ (at : Progress). at .done) (c .before .before .before .sampled .ensures) in
     c .closed .ensures ∙ ap (closed (a .width) (a .height)) (c .before .before .before .sampled .ensures)
-    ∙ sample-last (sweep-of (a .camera) (a .width) (a .height)) (a .at) (c .before .before .before .before .before .settled .given .0 .0) e refl (omega (arith, d, c .before .before .before .before .before .before .before .before .before .pre .0, c .before .if1 .left))
+    ∙ sample-last (sweep-of (a .camera) (a .width) (a .height) (a .strict)) (a .at) (c .before .before .before .before .before .before .before .settled .given .0 .0) e f (omega (arith, d, c .before .before .before .before .before .before .before .before .before .before .before .pre .0, c .before .if2 .left))
 
 pub sweep-one-spec : {M : Type 1} → statement M
 sweep-one-spec =
@@ -48,8 +58,10 @@ sweep-one-spec =
     (λ c κs. search needs)
     (λ c. search needs)
     (λ c. search needs)
-    sampled-requires
-    returns
     (λ c κs. search needs)
+    returns
+    sampled-requires
     returns-2
-    returns-3)
+    (λ c κs. search needs)
+    returns-3
+    returns-4)

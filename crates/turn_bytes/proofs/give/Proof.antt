@@ -4,7 +4,7 @@ use Prim.Native.Nat.{ℕ}
 use denote.Ref.{now}
 use Rattle.little_endian.proofs.Laws.{put-whole}
 use Rattle.job_bytes.specs.Bytes.{record-bytes}
-use Rattle.turn_bytes.specs.Turn.{four-words}
+use Rattle.turn_bytes.specs.Turn.{report}
 use Rattle.job_bytes.proofs.Laws.{length-record}
 use borrow.Author.Needs.{needs}
 use Rattle.turn_bytes.proofs.give.Statement.{statement}
@@ -12,21 +12,13 @@ use Rattle.turn_bytes.proofs.give.Tie as tie
 
 returns : tie.Need-returns
 returns c =
-    let a = c .before .before .before .before .before .before .before .before .before .before .before .before .before .before .before .args in (
+    let a = c .before .before .before .before .before .before .before .before .before .before .before .before .before .before .args in (
       c .unit-number .ensures,
-      c .before .before .before .before .before .before .before .before .before .write .ensures ∙ put-whole (record-bytes (a .turned .job)) (now (a .job)) (length-record (a .turned .job) ∙ sym (c .before .before .before .before .before .before .before .before .before .before .before .before .before .before .before .pre .0)),
-      c .before .before .before .put-four .ensures ∙ ap (λ (n : ℕ). four-words n (a .turned .job .at .done) (a .all) (a .turned .job .at .updates)) (c .before .before .before .before .before .status-number .ensures),
+      c .before .before .before .before .before .before .before .before .write .ensures ∙ put-whole (record-bytes (a .turned .job)) (now (a .job)) (length-record (a .turned .job) ∙ sym (c .before .before .before .before .before .before .before .before .before .before .before .before .before .before .pre .0)),
+      c .before .before .before .put-report .ensures ∙ ap (λ (n : ℕ). report n (a .all) (a .turned .job .at)) (c .before .before .before .before .before .status-number .ensures),
     )
 
 pub give-spec : {M : Type 1} → statement M
 give-spec =
     tie.close
-    (tie.spec
-    (λ c κs. search needs)
-    (λ c κs. search needs)
-    (λ c. search needs)
-    (λ c κs. search needs)
-    (λ c κs. search needs)
-    (λ c. search needs)
-    (λ c. search needs)
-    returns)
+    (tie.spec (λ c κs. search needs) (λ c κs. search needs) (λ c κs. search needs) (λ c κs. search needs) (λ c. search needs) (λ c. search needs) returns)

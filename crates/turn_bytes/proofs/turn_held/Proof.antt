@@ -4,7 +4,7 @@ use denote.Ref.{now}
 use lib.ListN.{length}
 use Rattle.distortion_table.proofs.Taking.{taking}
 use Rattle.given.specs.Given.{code}
-use Rattle.job_bytes.specs.Check.{intact}
+use Rattle.job_bytes.specs.Check.{whole}
 use Rattle.job_bytes.specs.declared.Found.the-variants.{Of}
 use Rattle.turn_bytes.proofs.Turning.{none-before, is-taken, as-judged, held-refused, held-taken}
 use borrow.Author.Needs.{needs}
@@ -19,12 +19,12 @@ returns c =
 all-units-requires : tie.Need-all-units-requires
 all-units-requires c κs =
     let a = c .before .before .before .before .before .before .before .args in
-    taking (a .held) (length (now (a .table))) (is-taken (a .held) (intact (now (a .job))) (now (a .table)) (now (a .answer)) (sym (as-judged (a .held) (now (a .job)) (now (a .table)) (now (a .answer)) (c .before .code .ensures) (c .before .before .own .ensures)) ∙ c .if1 .left)) .size
+    taking (a .held) (length (now (a .table))) (is-taken (a .held) (whole (now (a .job))) (now (a .table)) (now (a .answer)) (sym (as-judged (a .held) (now (a .job)) (now (a .table)) (now (a .answer)) (c .before .code .ensures) (c .before .before .own .ensures)) ∙ c .if1 .left)) .size
 
 give-requires : tie.Need-give-requires
 give-requires c κs =
     let a = c .before .before .before .before .before .before .before .before .before .before .before .before .before .before .args in
-    (c .before .before .before .before .before .before .before .before .before .before .before .before .before .before .pre, none-before (Of (a .held)) (intact (now (a .job))) (now (a .table)) (now (a .answer)) (sym (as-judged (a .held) (now (a .job)) (now (a .table)) (now (a .answer)) (c .before .before .before .before .before .before .before .before .code .ensures) (c .before .before .before .before .before .before .before .before .before .own .ensures)) ∙ c .before .before .before .before .before .before .before .if1 .left) .1)
+    (c .before .before .before .before .before .before .before .before .before .before .before .before .before .before .pre, none-before (Of (a .held)) (whole (now (a .job))) (now (a .table)) (now (a .answer)) (sym (as-judged (a .held) (now (a .job)) (now (a .table)) (now (a .answer)) (c .before .before .before .before .before .before .before .before .code .ensures) (c .before .before .before .before .before .before .before .before .before .own .ensures)) ∙ c .before .before .before .before .before .before .before .if1 .left) .1)
 
 returns-2 : tie.Need-returns-2
 returns-2 c =
