@@ -248,6 +248,10 @@ uint8_t lens_turn(uint8_t *job, size_t job_length, float *table, size_t table_le
 /* The pixel at the point (x, y), between the four cells around it. region: the LENS_REGION_BYTES bytes at
  * LENS_JOB_REGION of the finished job; width and height are that job's; table_length: LENS_TABLE_FLOATS of them.
  * answer_length: LENS_PIXEL_BYTES. That the table is finished, and table and region of one job, isn't seen here.
+ * Each number of a pixel that is answered lies from the least to the greatest of that number in four cells, both among
+ * them: (u, v), (u1, v), (u, v1) and (u1, v1), where in doubles, in this order, i = (x - left) / ((right - left) /
+ * (width - 1)), u is i without its fraction, u1 the lesser of u + 1 and width - 1; v and v1 so by y, top, bottom and
+ * height. Four equal numbers come back as they are, but for the sign of a zero.
  * Returns 0, 4, 6, 7, 8, 9 or 11; the order is 4, 6, 7; 8 and 11 of the increments; 9; 11 of the pixel. */
 uint8_t lens_lookup(const float *table, size_t table_length, const uint8_t *region, size_t region_length,
                     uint32_t width, uint32_t height, double x, double y, uint8_t *answer, size_t answer_length);

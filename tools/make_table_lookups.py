@@ -20,6 +20,10 @@ number is compared with what Python's own f64 gives, and a difference stops the 
 How the questions are made. First those made by hand: the table of the rules' example, at its edges and with every
 refusal, each with words that say what it is about. Then by splitmix64 from fixed seeds, of every kind and with every
 ending that `ENDINGS` names. So every run writes the same bytes.
+
+No number of an answer may lie outside the four cells that it is made of: the script stops if one does, and its last
+line on stderr says how near to the least or the greatest of them the nearest came. Some questions, of `near_the_ends`,
+are made to come near: fractions next to 0 and to 1, subnormal ones, cells of either sign and any exponent.
 """
 import math
 import pathlib
@@ -149,8 +153,8 @@ def increment_refused(steps):
     return 0 if all(is_finite(z) for z in steps) else 11
 
 
-def lookup(table, region, w, h, x, y):
-    """A refusal's number and None, or 0 and the pixel. All numbers are bit patterns, the table's of f64s too."""
+def spots(table, region, w, h, x, y):
+    """A refusal's number and None, or 0 and where the point lies across and down, each as `place` says."""
     if not all(is_finite(z) for z in (*region, x, y)):
         return 4, None
     if not (LEAST <= w <= MOST and LEAST <= h <= MOST):
@@ -164,13 +168,39 @@ def lookup(table, region, w, h, x, y):
         return number, None
     across = place(over(less(x, left), steps[0]), w)
     down = place(over(less(y, top), steps[1]), h)
-    if across is None or down is None:
-        return 9, None
+    return (9, None) if across is None or down is None else (0, (across, down))
+
+
+def used(table, w, across, down, k):
+    """The numbers k of the four cells: those of the upper row, then of the lower one."""
+    return [table[2 * (v * w + u) + k] for v in down[:2] for u in across[:2]]
+
+
+def lookup(table, region, w, h, x, y):
+    """A refusal's number and None, or 0 and the pixel. All numbers are bit patterns, the table's of f64s too."""
+    number, both = spots(table, region, w, h, x, y)
+    if number:
+        return number, None
+    across, down = both
     pixel = []
     for k in (0, 1):
-        c00, c10, c01, c11 = (table[2 * (v * w + u) + k] for v in down[:2] for u in across[:2])
+        c00, c10, c01, c11 = used(table, w, across, down, k)
         pixel.append(between(between(c00, c10, across[2]), between(c01, c11, across[2]), down[2]))
     return (0, pixel) if all(is_finite(z) for z in pixel) else (11, None)
+
+
+def margins(question):
+    """For each number of an answer how far it lies from the nearer end of its window, which reaches from the least of
+    its four cells to the greatest: as a part of their largest magnitude, 0 at an end and below 0 outside."""
+    number, pixel = lookup(*question)
+    if number:
+        return []
+    told = []
+    for k, z in enumerate(pixel):
+        cells = [exact(c) for c in used(question[0], question[2], *spots(*question)[1], k)]
+        margin = min(exact(z) - min(cells), max(cells) - exact(z))
+        told.append(margin / (max(abs(c) for c in cells) or 1))
+    return told
 
 
 # ---- the questions made by hand: each is its words and what is asked, with a heading before a section's first
@@ -349,7 +379,27 @@ def signs():
     ]
 
 
-SECTIONS = (by_hand, sides, rounded_sides, no_numbers, not_finite, sizes, lengths, flat_boxes, order, signs)
+def ends():
+    """Two by two cells one apart: the index is the point's own coordinate."""
+    most, least = 3.4028234663852886e38, 2.0**-149  # of f32s
+    below_one = bits(1.0) - 1
+    numbers = lambda u, v: [z for pair in zip(u, v) for z in pair]
+    square = lambda words, u, v, x, y: line(words, numbers(u, v), (0.0, 0.0, 1.0, 1.0), 2, 2, x, y)
+    wide, tiny, tenth = (-most, least, most, -1.0), (0.0, 1.0, -1.0, least), widened(0x3DCCCCCD)
+    return [
+        "Next to an end of the window, which reaches from the least of the four cells to the greatest; then four equal cells, and four zeros.",
+        square("none\tfractions next to 1", wide, tiny, below_one, below_one),
+        square("none\tfractions next to 0", wide, tiny, bits(0.0) + 1, bits(0.0) + 1),
+        square("none\tnext to 1, next to 0", wide, tiny, below_one, 2.0**-53),
+        square("none\tnext to 0, next to 1", wide, tiny, 2.0**-53, below_one),
+        square("none\tthe largest subnormal fraction", wide, tiny, 2**52 - 1, 2**52 - 1),
+        square("none\tthe difference rounds up", (-1.0, 2.0**-53 + 2.0**-70, -1.0, -1.0), tiny, below_one, 0.0),
+        square("none\tfour equal cells", [tenth] * 4, [-most] * 4, 0.1, 0.7),
+        square("none\tfour zeros", (SIGN, 0, 0, SIGN), (0, SIGN, SIGN, SIGN), 0.1, 0.7),
+    ]
+
+
+SECTIONS = (by_hand, sides, rounded_sides, no_numbers, not_finite, sizes, lengths, flat_boxes, order, signs, ends)
 
 
 def listing():
@@ -485,6 +535,32 @@ def zeros(rng):
     return [pick() for _ in range(2 * w * h)], region, w, h, at(w), at(h)
 
 
+def far_apart(rng):
+    """An f32 of any exponent, a subnormal one or a zero, with few digits or all."""
+    field = (0, 1 + rng.below(254), 120 + rng.below(14), 254)[rng.below(4)]
+    return widened(rng.bits(1) << 31 | field << 23 | (rng.bits(23), 0, 2**23 - 1, 1)[rng.below(4)])
+
+
+def beside(rng, cells):
+    """A coordinate in a row of cells one apart: next to a cell, before it or behind it, or behind the first of them by
+    a subnormal number, or anywhere."""
+    u = rng.below(cells - 1)
+    near = (of(u + 1) - 1 - rng.below(3), of(u) + rng.below(3), rng.below(2**52), rounded(u + unit(rng), 0))
+    return near[rng.below(4)]
+
+
+def one_near(rng):
+    w, h = size(rng)
+    region = [0, 0, of(w - 1), of(h - 1)]
+    return [far_apart(rng) for _ in range(2 * w * h)], region, w, h, beside(rng, w), beside(rng, h)
+
+
+def near_the_ends(rng):
+    """Of some questions the one whose answer comes nearest to an end of its window and isn't at it."""
+    asked = [one_near(rng) for _ in range(8)]
+    return min(asked, key=lambda q: min((m for m in margins(q) if m > 0), default=9))
+
+
 def misfits(rng):
     """Something of 4, 6 or 7 in an ordinary question, and often two."""
     table, region, w, h, x, y = ordinary(rng)
@@ -512,6 +588,7 @@ KINDS = (
     (tiny_boxes, 40),
     (zeros, 50),
     (misfits, 40),
+    (near_the_ends, 60),
 )
 
 ENDINGS = (0, 4, 6, 7, 8, 9, 11)
@@ -568,7 +645,19 @@ def make():
     assert set(ENDINGS) == {int(n) for _, n in endings}, endings
     assert answers[len(asked) :] == ["bad"] * len(bad)
     said = [*answers, f"lines\t{len(lines)}"]
-    return "".join(lines), "\n".join(said) + "\n", endings
+    apart = [m for text in lines[: len(asked)] for m in margins(read(text))]
+    return "".join(lines), "\n".join(said) + "\n", endings, apart
+
+
+def how_near(apart):
+    """Of all numbers answered: none lies outside its window; how many are an end of it, and how near another came."""
+    assert min(apart) >= 0, min(apart)
+    least = min(m for m in apart if m > 0)
+    power = least.numerator.bit_length() - least.denominator.bit_length()
+    power -= Fraction(2) ** power > least
+    at = sum(m == 0 for m in apart)
+    told = f"{len(apart)} numbers: none outside its four cells, {at} at an end, the nearest other less than "
+    return f"{told}2^{power + 1} of the largest magnitude away"
 
 
 # ---- tests
@@ -592,9 +681,18 @@ def test_by_hand():
     assert ask(4.5, 0.0) == (9, None)
 
 
+def test_margins():
+    ask = lambda x, y: margins(([bits(z) for z in LISTED], [bits(z) for z in BOX], 3, 2, bits(x), bits(y)))
+    assert ask(4.5, 0.0) == [] and ask(4.0, 2.5) == [0, 0]
+    assert ask(1.75, 0.5) == [Fraction(3, 16), Fraction(4, 5)]  # (1.75, 0.5) of cells from 1 to 4 and from -1.5 to 2.5
+    near = how_near([Fraction(0), Fraction(3, 16), Fraction(4, 5)])
+    assert near.startswith("3 numbers: ") and "1 at an end" in near and "less than 2^-2 " in near, near
+
+
 def self_test():
     test_arithmetic()
     test_by_hand()
+    test_margins()
     assert listing() and make() == make()
     print("self-test: ok", file=sys.stderr)
 
@@ -604,12 +702,13 @@ def main():
         return self_test()
     if sys.argv[1:] == ["--listing"]:
         return print("\n".join(listing()))
-    asked, said, endings = make()
+    asked, said, endings, apart = make()
     (FOLDER / "stdin").write_text(asked)
     (FOLDER / "stdout").write_text(said)
     for name in ("by hand", *(kind.__name__ for kind, _ in KINDS)):
         told = ", ".join(f"{n}: {c}" for (k, n), c in sorted(endings.items(), key=lambda t: int(t[0][1])) if k == name)
         print(f"{name:16} {told}", file=sys.stderr)
+    print(how_near(apart), file=sys.stderr)
 
 
 if __name__ == "__main__":

@@ -12,7 +12,6 @@ use lib.Ieee.{Float, nan, inf, fin, binary32, binary64, up, down, round, lt, eq,
 use lib.Ieee.Fits.{up-pos, down-pos, round-fits, fits-widens}
 use lib.Ieee.Back.{round-whole, unsigned-back, whole-unique}
 use lib.Ieee.Scale.{finite}
-use lib.ListN.{getD}
 use Rattle.exact.specs.F64.{_⊖_, _⊗_, isZero}
 use Rattle.exact.specs.Fraction.{_≼_, _≈_, over, whole, opposite, exactly}
 use Rattle.exact.proofs.Zeros.{zero-added, zero-times, zero-less-zero, self-less}
@@ -22,7 +21,7 @@ use Rattle.lens.specs.Constants.{zeros}
 use Rattle.lens.specs.Finite.{all-finite}
 use Rattle.region.specs.Size.{float}
 use Rattle.lookup.specs.Lookup.{outside, whole-part, fraction, neighbour, spot, between, blended, cell, number-at}
-use Rattle.lookup.specs.Owed.{around, Same}
+use Rattle.lookup.specs.Owed.{Singles, around, Same}
 use Rattle.lookup.proofs.Among.{float-finite, float-exactly}
 use Rattle.lookup.proofs.Steps.{first-finite, rest-finite}
 
@@ -157,7 +156,7 @@ module _ (c00 c10 c01 c11 a b : Float) where
 
 -- ---- of finite numbers each is finite
 
-sure : (b : Bool) → b ≡ true → T b
+pub sure : (b : Bool) → b ≡ true → T b
 sure true e = tt
 sure false e = false≢true e
 
@@ -181,11 +180,11 @@ first-of-all c00 c10 c01 c11 a b f00 f10 f01 f11 h za zb =
     let h3 = rest-finite c01 (c11 ∷ []) h2 in
     first-of-four c00 c10 c01 c11 a b f00 f10 f01 f11 (first-of c00 (c10 ∷ c01 ∷ c11 ∷ []) h) (first-of c10 (c01 ∷ c11 ∷ []) h1) (first-of c01 (c11 ∷ []) h2) (first-of c11 [] h3) za zb
 
-module _ (table : List Float) (held : (n : ℕ) → T (fits binary32 (getD table n nan))) (width height u v : ℕ) {i j : Float} (across : On i u width) (down : On j v height) (k : ℕ) where
-  cell-fits : (p q : ℕ) → T (fits binary32 (cell table width k p q))
-  unfolding cell
-  cell-fits p q = held (2 * (q * width + p) + k)
+pub cell-fits : (table : List Float) → Singles table → (width k p q : ℕ) → T (fits binary32 (cell table width k p q))
+unfolding cell
+cell-fits table held width k p q = held (2 * (q * width + p) + k)
 
+module _ (table : List Float) (held : Singles table) (width height u v : ℕ) {i j : Float} (across : On i u width) (down : On j v height) (k : ℕ) where
   from : (p q : ℕ) → Float
   from p q = blended (cell table width k p q) (cell table width k (neighbour p width) q) (cell table width k p (neighbour q height)) (cell table width k (neighbour p width) (neighbour q height)) (fraction i) (fraction j)
 
@@ -193,6 +192,7 @@ module _ (table : List Float) (held : (n : ℕ) → T (fits binary32 (getD table
   unfolding number-at spot from
   kept h =
       let c = cell table width k in
-      let there = first-of-all (c u v) (c (neighbour u width) v) (c u (neighbour v height)) (c (neighbour u width) (neighbour v height)) (fraction i) (fraction j) (cell-fits u v) (cell-fits (neighbour u width) v) (cell-fits u (neighbour v height)) (cell-fits (neighbour u width) (neighbour v height)) h (across .rest) (down .rest) in
+      let fit = cell-fits table held width k in
+      let there = first-of-all (c u v) (c (neighbour u width) v) (c u (neighbour v height)) (c (neighbour u width) (neighbour v height)) (fraction i) (fraction j) (fit u v) (fit (neighbour u width) v) (fit u (neighbour v height)) (fit (neighbour u width) (neighbour v height)) h (across .rest) (down .rest) in
       let along : Same (c u v) (from (whole-part i) v) = subst (λ (p : ℕ). Same (c u v) (from p v)) (sym (across .part)) there in
       subst (λ (q : ℕ). Same (c u v) (from (whole-part i) q)) (sym (down .part)) along

@@ -53,7 +53,7 @@ taken places region width height point =
 
 -- ---- of finite numbers each is finite
 
-both : (a b : Bool) → (a && b) ≡ true → (a ≡ true) × (b ≡ true)
+pub both : (a b : Bool) → (a && b) ≡ true → (a ≡ true) × (b ≡ true)
 both true true h = (refl, refl)
 both true false h = absurd (false≢true h)
 both false b h = absurd (false≢true h)

@@ -3,7 +3,9 @@ use mathlib.Core.Path.{_≡_}
 use mathlib.Core.Logic.{_⊎_}
 use mathlib.Core.List.{List, [], _∷_}
 use Prim.Native.Nat.{ℕ, _+_, _<_}
-use lib.Ieee.{Float}
+use lib.Dec.{T}
+use lib.Ieee.{Float, nan, binary32, fits}
+use lib.ListN.{getD}
 use Rattle.exact.specs.F64.{f64}
 use Rattle.exact.specs.Fraction.{_≼_, _≺_, whole, exactly}
 use Rattle.lens.specs.Constants.{zeros}
@@ -19,6 +21,10 @@ pub record Apart (i : Float) (cells : ℕ) : Type 0 where
   pub second : neighbour (whole-part i) cells < cells
   pub not-above : whole (whole-part i) ≼ exactly i
   pub not-below : exactly i ≺ whole (whole-part i + 1)
+
+-- each place of the table holds an f32; past the last one stands a NaN, which is one too
+abbrev pub Singles : List Float → Type 0
+Singles table = (n : ℕ) → T (fits binary32 (getD table n nan))
 
 -- the numbers k of the four cells that are used at cell (u, v)
 abbrev pub around : List Float → ℕ → ℕ → ℕ → ℕ → ℕ → List Float
