@@ -80,7 +80,10 @@ fn write_cases(model: &str, operation: &str, updates: &str) {
     while found < 64 {
         let c = draw(&mut r, m, o, stretched);
         UPDATES.with(|u| u.set(0));
-        black_box(ask::<Counting>(m, o, &std::array::from_fn(|i| c[i]), [c[12], c[13]]).numbers);
+        // of bc by its parameters the Rust can't be asked: it stops at a todo!()
+        if (m, o) != (3, 3) {
+            black_box(ask::<Counting>(m, o, &std::array::from_fn(|i| c[i]), [c[12], c[13]]).numbers);
+        }
         let done = UPDATES.with(|u| u.get());
         if wanted.map_or(true, |n| n == done) && !apply(camera, &c).is_nan() {
             line(&c);

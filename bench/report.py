@@ -6,6 +6,7 @@ import datetime, subprocess
 from counting import MODELS, each, folder, machine, page, runner
 
 OPERATIONS = ["distort", "undistort", "dx_distort_x", "dx_distort_params"]
+NO_RUST, INSTEAD = "bc dx_distort_params", "bc dx_distort_x"  # a todo!() there; and what of ours it is held to
 UPDATES = {"kb": [2, 3, 4, 5, 20], "bc": [1, 2, 3, 4, 50]}
 
 
@@ -21,7 +22,8 @@ def row(title, model, operation, updates="-"):
     file = cases(model, operation, updates)
     name = operation if model == "one" else f"{model}_{operation}"
     empty = each(3200, "count", "count", "none", None, file)
-    took = {side: each(3200, "count", "count", f"{side}_{name}", None, file) - empty + 2 for side in ("rust", "ours")}
+    sides = ["ours"] if title == NO_RUST else ["rust", "ours"]
+    took = {side: each(3200, "count", "count", f"{side}_{name}", None, file) - empty + 2 for side in sides}
     if model != "one":
         took["camera"] = each(3200, "count", "count", f"camera_{name}", None, file) - empty + 2
         took["c"] = each(3200, "count_c", model, operation, None, file)
@@ -62,7 +64,7 @@ def line(title, took, rows):
         return f"{took[side]:.0f}" if side in took else ""
 
     def ratio(side):
-        return f"{took[side] / took['rust']:.2f}" if side in took else ""
+        return f"{took[side] / took['rust']:.2f}" if side in took and "rust" in took else ""
 
     apart = f"{rest(title, took, rows):.2f}" if any(inside(title)) else ""
     return f"| {title} | {cell('rust')} | {cell('ours')} | {ratio('ours')} | {apart} | {cell('camera')} | {ratio('camera')} | {cell('c')} |"
@@ -74,13 +76,14 @@ def operations():
             if o == "undistort" and m in UPDATES:
                 for n in UPDATES[m]:
                     yield row(f"{m} {o}, {n} updates", m, o, n)
-            elif (m, o) != ("bc", "dx_distort_params"):
+            else:
                 yield row(f"{m} {o}", m, o)
 
 
 GOALS = [  # what the order asks, the most, and the rows that are meant
     ("affine", 1.1, lambda title: title.startswith("affine d") or title.startswith("affine u")),
-    ("bc", 1.1, lambda title: title.startswith("bc d") or title.startswith("bc u")),
+    ("bc", 1.1, lambda title: title != NO_RUST and (title.startswith("bc d") or title.startswith("bc u"))),
+    (f"{NO_RUST}, which the Rust hasn't, over our {INSTEAD}", 1.6, lambda title: title == NO_RUST),
     ("the table's own work, which is nearly all of affine's cell and border sample", 1.1,
      lambda title: title in ("affine cell", "affine border sample")),
     ("kb undistort", 2, lambda title: title.startswith("kb undistort")),
@@ -91,7 +94,7 @@ def goal(what, most, meant, rows):
     met, missed = [], []
     for title, took in rows:
         if meant(title):
-            ratio = took["ours"] / took["rust"]
+            ratio = took["ours"] / (took["rust"] if "rust" in took else dict(rows)[INSTEAD]["ours"])
             (met if ratio <= most else missed).append(f"{title} {ratio:.2f}")
     return f"| {what} | {most} | {'; '.join(met) or 'none'} | {'; '.join(missed) or 'none'} |"
 

@@ -28,7 +28,7 @@ The loops that the compiler has left in the archive. It has laid out the others 
 EACH = """
 ## Each C function at most
 
-Reckoned in the same way, in instructions, for every input; `lens_lookup` and the functions of one number have no model. For `lens_dx_distort_params` all models' ways are followed, bc's too, which is refused at once. A function from outside can only be memcpy, whose own instructions and stack are not in it; how often it can be called stands beside.
+Reckoned in the same way, in instructions, for every input; `lens_lookup` and the functions of one number have no model. For `lens_dx_distort_params` all models' ways are followed whatever the model is. A function from outside can only be memcpy, whose own instructions and stack are not in it; how often it can be called stands beside.
 
 The stack is in bytes, over all paths, with the 8 of the return address and without what the caller passes on the stack. *Met* is what a call took on a stack that was painted before, of one camera a model (bench/stack.c).
 

@@ -52,7 +52,7 @@ extern "C" {
 #define LENS_OK 0
 
 #define LENS_REFUSED_UNKNOWN_MODEL 1          /* the model is none of 0 to 3 */
-#define LENS_REFUSED_NO_PARAMETER_JACOBIAN 2  /* lens_dx_distort_params of LENS_BC, whatever else is handed in */
+#define LENS_REFUSED_NO_PARAMETER_JACOBIAN 2  /* reserved: no function returns it any more */
 #define LENS_REFUSED_WRONG_COUNT 3            /* params_length is not 8 times the model's count of parameters */
 #define LENS_REFUSED_NOT_FINITE 4             /* a parameter, a coordinate or an edge of a region is NaN or infinite */
 #define LENS_REFUSED_ZERO_FOCAL_LENGTH 5      /* fx or fy is zero, of either sign */
@@ -147,8 +147,8 @@ uint8_t lens_undistort(uint8_t model, const uint8_t *params, size_t params_lengt
 uint8_t lens_dx_distort_x(uint8_t model, const uint8_t *params, size_t params_length, double x, double y,
                           uint8_t *answer, size_t answer_length);
 
-/* The derivative of the pixel by the parameters; n is the model's count of them. answer_length: LENS_JACOBIAN_BYTES.
- * Returns 0, 1, 3, 4, 5, 7 or 11; of LENS_BC always 2. */
+/* The derivative of the pixel by the parameters; n is the model's count of them, and the columns stand in their order.
+ * answer_length: LENS_JACOBIAN_BYTES. Returns 0, 1, 3, 4, 5, 7 or 11. */
 uint8_t lens_dx_distort_params(uint8_t model, const uint8_t *params, size_t params_length, double x, double y,
                                uint8_t *answer, size_t answer_length);
 

@@ -7,7 +7,7 @@ has it. No code of the crates takes part.
 import math
 import struct
 
-from lens_models import BC, BY_PARAMS, COUNTS, DISTORT, ENTRIES, UNDISTORT, answer, tangent
+from lens_models import BC, COUNTS, DISTORT, ENTRIES, UNDISTORT, answer, tangent
 
 FIELDS, LINE = 18, 306
 HANDED, LENT = 304, 4000  # the most bytes
@@ -85,8 +85,6 @@ def call(operation, model, params, room, x, y):
     if model > BC:
         refusals.add(1)
     else:
-        if model == BC and operation == BY_PARAMS:
-            refusals.add(2)
         if len(params) != 8 * COUNTS[model]:
             refusals.add(3)
         else:

@@ -144,7 +144,7 @@ def made():
     said = part.said
     for name in OPERATIONS:
         assert all(said[name, number] for number in (0, 1, 3, 4, 5, 7, 11))
-    assert said["undistort", 10] and said["dx_distort_params", 2]
+    assert said["undistort", 10] and not any(said[name, 2] for name in OPERATIONS)
     assert said["tangent", 0] and said["tangent", 7] and said["tangent", 10]
     return part
 
@@ -156,7 +156,7 @@ def self_test():
     assert call(UNDISTORT, 0, lens, 24, 301.0, -149.5) == (0, struct.pack("<2d", 0.5, -0.25) + bytes([0, 0, 0, 0, 1, 0, 0, 0]))
     assert call(BY_POINT, 0, lens, 200, 0.5, -0.25)[1][192:] == bytes([2, 0, 0, 0, 0, 0, 0, 0])
     assert call(DISTORT, 4, b"", 0, math.nan, 0.0) == (1, None)
-    assert call(BY_PARAMS, 3, b"", 0, math.nan, 0.0) == (2, None)
+    assert call(BY_PARAMS, 3, b"", 0, math.nan, 0.0) == (3, None)
     assert call(DISTORT, 3, lens, 0, math.nan, 0.0) == (3, None)
     assert call(DISTORT, 0, lens, 15, math.nan, 0.0) == (4, None)
     assert call(DISTORT, 0, lens, 15, 0.0, 0.0) == (7, None)

@@ -2,10 +2,10 @@
 
 From the text of the Rust, each operation by itself and under its names, so that the two can be read
 side by side: nothing is shared that the Rust doesn't share. What it leaves open (refusals, updates,
-flag, EPS, how a norm is formed) is as docs/RULES.md has it. No code of the crates takes part, with one
-exception that has its own section: arctangent and tangent are ours by agreement, so their whole-number
-text is copied here. A Python float is an f64, and + - * round once and never stop; `div` and `root` say
-what / and sqrt are where Python would stop instead.
+flag, EPS, how a norm is formed, bc's derivative by its parameters) is as docs/RULES.md has it. No code
+of the crates takes part, with one exception that has its own section: arctangent and tangent are ours
+by agreement, so their whole-number text is copied here. A Python float is an f64, and + - * round once
+and never stop; `div` and `root` say what / and sqrt are where Python would stop instead.
 """
 import math
 import struct
@@ -469,6 +469,27 @@ def bc_dx_distort_x(params, a, b):
     return [dfx_dfx, dfx_dfy], [dfy_dfx, dfy_dfy]
 
 
+def bc_dx_distort_params(params, x, y):
+    """The Rust has none: docs/RULES.md, 10.6."""
+    fx, fy = params[:2]
+    k1, k2, _, _, k3, k4, k5, k6 = params[4:]
+    r2 = x * x + y * y
+    r4 = r2 * r2
+    r6 = r4 * r2
+    a1 = 2.0 * x * y
+    cdist = 1.0 + k1 * r2 + k2 * r4 + k3 * r6
+    icdist2 = div(1.0, 1.0 + k4 * r2 + k5 * r4 + k6 * r6)
+    distorted = bc_distortion_impl(params[4:], x, y)
+    rows = []
+    for at, f, own, (p1, p2) in ((x, fx, 0, (a1, r2 + 2.0 * x * x)), (y, fy, 1, (r2 + 2.0 * y * y, a1))):
+        by_cdist = at * (icdist2 * f)
+        by_cdist2 = -(at * cdist * icdist2 * (icdist2 * f))
+        row = [0.0, 0.0, 0.0, 0.0, by_cdist * r2, by_cdist * r4, p1 * f, p2 * f, by_cdist * r6]
+        row[own], row[2 + own] = distorted[own], 1.0
+        rows.append(row + [by_cdist2 * r2, by_cdist2 * r4, by_cdist2 * r6])
+    return tuple(rows)
+
+
 def direct(undistort):
     """A model that finds the point without a search: 0 updates, and the flag says yes."""
     return lambda params, u, v: undistort(params, u, v) + (0, True)
@@ -478,7 +499,7 @@ FUNCTIONS = (
     (affine_distort, direct(affine_undistort), affine_dx_distort_x, affine_dx_distort_params),
     (eucm_distort, eucm_undistort, eucm_dx_distort_x, eucm_dx_distort_params),
     (kb_distort, kb_undistort, kb_dx_distort_x, kb_dx_distort_params),
-    (bc_distort, bc_undistort, bc_dx_distort_x, None),
+    (bc_distort, bc_undistort, bc_dx_distort_x, bc_dx_distort_params),
 )
 
 
@@ -488,8 +509,6 @@ FUNCTIONS = (
 def answer(model, operation, params, x, y):
     """The refusal's number, 0 for none, and what is answered: a tuple, for a Jacobian its two rows."""
     assert len(params) == COUNTS[model]
-    if model == BC and operation == BY_PARAMS:
-        return 2, None
     if not all(math.isfinite(z) for z in (*params, x, y)):
         return 4, None
     if params[0] == 0 or params[1] == 0:

@@ -5,9 +5,9 @@
     python3 tools/make_camera_calls.py --sample QUESTIONS ANSWERS   the same, with another sample of the oracle's
     python3 tools/make_camera_calls.py --self-test             tests the scripts that make the parts, and writes nothing
 
-The parts: questions to the models (tools/model_questions.py), a hostile caller (hostile_calls.py), a sample of the
-oracle's questions, lists of observations (list_calls.py), and lines that are no calls. The program's first lines tell the
-form of a line.
+The parts: questions to the models (tools/model_questions.py, some by difference_quotients.py), a hostile caller
+(hostile_calls.py), a sample of the oracle's questions, lists of observations (list_calls.py), and lines that are no
+calls. The program's first lines tell the form of a line.
 
 The oracle's part is not made here: `oracle/run sample` draws it, with what the Rust's own text answers. It stands only
 in the two files, and is taken from them, unless another is given.
@@ -15,6 +15,7 @@ in the two files, and is taken from them, unless another is given.
 import pathlib
 import sys
 
+import difference_quotients
 import hostile_calls
 import list_calls
 import model_questions
@@ -104,6 +105,7 @@ def main(words):
 
 def self_test():
     model_questions.self_test()
+    difference_quotients.self_test()
     hostile_calls.self_test()
     list_calls.self_test()
 

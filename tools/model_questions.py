@@ -46,6 +46,7 @@ from lens_models import (
 )
 from make_leaf_vectors import INF, LARGEST, NANS, NORMAL, SIGN, Splitmix, value
 from camera_lines import answer_bytes, operation_question, reply
+import difference_quotients
 import refusal_edges
 
 CRATES = pathlib.Path(__file__).resolve().parent.parent / "crates"
@@ -230,6 +231,7 @@ def by_hand():
         (BC, DISTORT, unit(BC, 0.0, 0.0, 1.0), 1.0, 1.0),
         (BC, DISTORT, unit(BC, 0.0, 0.0, 0.0, 1.0), 1.0, 1.0),
         (BC, UNDISTORT, unit(BC), 3.0, 4.0),
+        (BC, BY_PARAMS, unit(BC), 1.0, 2.0),
         (AFFINE, UNDISTORT, [-0.0, 1.0, 0.0, 0.0], 1.0, 1.0),
     ]
 
@@ -245,7 +247,7 @@ def zeros(rng):
         params = lens(rng, model)
         found.append((model, UNDISTORT, params, params[2], params[3]))
         found += everywhere(model, params, [(0.25, -0.0), (0.0, -0.75)], (DISTORT, BY_POINT, BY_PARAMS))
-    return [q for q in found if q[:2] != (BC, BY_PARAMS)]
+    return found
 
 
 def eps_edge():
@@ -326,7 +328,8 @@ def passing_overflow():
     found += everywhere(EUCM, [3.0, -2.0, 7.0, 8.0, 0.5, 1.0], far, [DISTORT])
     found += everywhere(EUCM, unit(EUCM, 1e5, 1.0), [(1e150, 0.0), (-1e149, 1e150)], forth)
     # the denominator is infinite, so only the tangential part is left
-    found += [(BC, DISTORT, unit(BC, 0.5, 0.0, 0.25, 0.125, 0.0, 1e300), x, y) for x, y in ((1e5, 2.0), (-3e7, 1e6))]
+    bc = unit(BC, 0.5, 0.0, 0.25, 0.125, 0.0, 1e300)
+    found += everywhere(BC, bc, [(1e5, 2.0), (-3e7, 1e6)], (DISTORT, BY_PARAMS))
     return found
 
 
@@ -334,7 +337,7 @@ def divided_by_zero():
     """Denominators that are exactly zero: bc's own and its determinant, eucm's norm and its rho, kb's slope. All
     give 11."""
     pole = unit(BC, 0.0, 0.0, 0.0, 0.0, 0.0, -1.0)
-    found = everywhere(BC, pole, [(1.0, 0.0), (0.0, -1.0), (0.6, 0.8)], range(3))
+    found = everywhere(BC, pole, [(1.0, 0.0), (0.0, -1.0), (0.6, 0.8)])
     found += [(BC, UNDISTORT, unit(BC, -7.0, 4.0), 1.0, 0.0), (BC, UNDISTORT, unit(BC, 0.0, 0.0, 0.5), 0.0, -1 / 3)]
     found += everywhere(EUCM, unit(EUCM, 2.0, -3.0), [(0.5, 0.0), (0.0, -0.5)], (DISTORT, BY_POINT, BY_PARAMS))
     found += everywhere(EUCM, unit(EUCM, 2.0, -1.0), [(1.0, 0.0), (0.0, -1.0)], (BY_POINT, BY_PARAMS))
@@ -356,7 +359,7 @@ def extremes():
     found += everywhere(EUCM, unit(EUCM, 0.5, beta), [(far, 1.3273), (1.3273, -far)], [BY_POINT])
     found += everywhere(BC, unit(BC, 0.0, 0.0, 1e300, -3e300), [(1.1e-161, 1.3e-161), (-1.7e-161, 1e-161)], [DISTORT])
     found += everywhere(BC, unit(BC, 0.0, 0.0, 1.3e-161, 1e-162), [(1.7e-161, 1.9e-161), (3e-162, 1e-161)], [BY_POINT])
-    return [q for q in found if q[:2] != (BC, BY_PARAMS)]
+    return found
 
 
 def not_finite(rng):
@@ -365,7 +368,7 @@ def not_finite(rng):
     patterns = NANS + [INF, SIGN + INF]
     found = []
     for model in range(4):
-        for operation in range(4 if model != BC else 3):
+        for operation in range(4):
             for place in range(COUNTS[model] + 2):
                 numbers = [bits(z) for z in (*lens(rng, model), 0.5, -0.25)]
                 if rng.below(6) == 0:
@@ -379,22 +382,10 @@ def zero_focal(rng):
     """fx or fy or both zero, of either sign."""
     found = []
     for model in range(4):
-        for operation in range(4 if model != BC else 3):
+        for operation in range(4):
             for fx, fy in ((0.0, 1.0), (1.0, 0.0), (-0.0, 600.0), (-600.0, -0.0), (0.0, -0.0)):
                 params = lens(rng, model)
                 found.append((model, operation, [fx, fy] + params[2:], 0.5, -0.25))
-    return found
-
-
-def no_parameter_jacobian(rng):
-    """bc's parameter Jacobian: 2, before 4 and 5."""
-    good = lens(rng, BC)
-    found = [(BC, BY_PARAMS, lens(rng, BC), 0.5, 0.25), (BC, BY_PARAMS, unit(BC), 0.0, -0.0)]
-    found += [(BC, BY_PARAMS, [0.0, -0.0] + good[2:], 0.5, 0.25), (BC, BY_PARAMS, good, math.inf, 0.0)]
-    for place in (0, 3, 11):
-        numbers = [bits(z) for z in good]
-        numbers[place] = NANS[place % len(NANS)]
-        found.append((BC, BY_PARAMS, numbers, bits(0.5), NANS[1] if place == 3 else bits(0.25)))
     return found
 
 
@@ -410,13 +401,12 @@ def kinds():
     yield "infinite on the way", passing_overflow()
     yield "divided by zero", divided_by_zero()
     yield "extreme", extremes()
-    yield "refused 2", no_parameter_jacobian(Splitmix(11))
     yield "refused 4", not_finite(Splitmix(12))
     yield "refused 5", zero_focal(Splitmix(13))
     yield "refusals at their edges", refusal_edges.questions()
     for model, name in enumerate(MODELS):
         rng = Splitmix(20 + model)
-        operations = range(4 if model != BC else 3)
+        operations = range(4)
         count = 12 if model == AFFINE else 20
         yield f"{name}, regular", [regular(rng, model, o) for o in operations for _ in range(count)]
         if model != AFFINE:
@@ -436,6 +426,7 @@ def kinds():
     yield "bc, mild", by_ending(Splitmix(43), mild_bc, 4, 1000)
     yield "bc, stiff", by_ending(Splitmix(44), stiff_bc, 1, 1000)
     yield "bc, touching", by_ending(Splitmix(45), touching_bc, 3, 60)
+    yield "bc by its parameters, held to difference quotients", difference_quotients.questions()
 
 
 def misspelled(fields, one):
@@ -489,7 +480,7 @@ def summary(said, count):
     for key, n in said.items():
         if key[0] == "kind":
             say(f"{n:5} {key[1]}")
-    numbers = (0, 2, 4, 5, 10, 16, 11)
+    numbers = (0, 4, 5, 10, 16, 11)
     say(f"\n{'refusal':24}" + "".join(f"{n:6}" for n in numbers))
     for name in MODELS:
         for operation in OPERATIONS:
@@ -505,11 +496,9 @@ def summary(said, count):
     # every number that a call can give is given
     for model, name in enumerate(MODELS):
         for o, operation in enumerate(OPERATIONS):
-            if (model, o) == (BC, BY_PARAMS):
-                assert said[name, operation, 2]
-                continue
             assert said[name, operation, 0] and said[name, operation, 4] and said[name, operation, 5]
             assert said[name, operation, 11] or model == AFFINE and o >= BY_POINT
+            assert all(n in numbers for *call, n in said if call == [name, operation])
     assert said["kb", "undistort", 10] and said["eucm", "undistort", 16] and count >= 1000
 
 
@@ -561,6 +550,7 @@ def test_by_hand():
         (0, (3.0, 5.0)),
         (0, (5.0, 3.0)),
         (0, (3.0, 4.0, 0, True)),
+        (0, ([1, 0, 1, 0, 5, 25, 4, 7, 125, -5, -25, -125], [0, 2, 0, 1, 10, 50, 13, 4, 250, -10, -50, -250])),
         (5, None),
     ]
     for q, owed in zip(by_hand(), expected, strict=True):
@@ -613,9 +603,8 @@ def test_derivatives():
         for _ in range(200):
             params, x, y = lens(rng, model), uniform(rng, -0.9, 0.9), uniform(rng, -0.9, 0.9)
             assert_near(by_point(params, x, y), quotients(lambda at: distort(params, *at), [x, y]), 1e-5, model)
-            if by_params:
-                assert_near(by_params(params, x, y), quotients(lambda at: distort(at, x, y), params), 1e-5, model)
-            else:
+            assert_near(by_params(params, x, y), quotients(lambda at: distort(at, x, y), params), 1e-5, model)
+            if model == BC:
                 a, b, c, d = bc_newton_jacobian(params[4:], x, y)
                 fx, fy = params[:2]
                 assert_near(by_point(params, x, y), ([fx * a, fx * b], [fy * c, fy * d]), 1e-12, model)

@@ -9,16 +9,14 @@ owed, 0 for none. `questions` holds what tools/lens_models.py answers to that, s
 from lens_models import BY_PARAMS, BY_POINT, DISTORT, MODELS, OPERATIONS, UNDISTORT, answer, bits
 from make_leaf_vectors import INF, LARGEST, NAN, SIGN, value
 
-THREE = (DISTORT, UNDISTORT, BY_POINT)
-FOUR = (*THREE, BY_PARAMS)
+FOUR = (DISTORT, UNDISTORT, BY_POINT, BY_PARAMS)
 NOT_4 = (0, 11)  # where it doesn't matter whether the answer is finite
 
 
-def refusal_2():
-    """bc has no Jacobian by its parameters. Tried first: neither NaN nor a zero focal length is told instead."""
-    yield BY_PARAMS, "kb 1 1 0 0 0 0 0 0 at (X, 0)", {1.0: 0}
-    yield BY_PARAMS, "bc 1 1 0 0 0 0 0 0 0 0 0 0 at (X, 0)", {1.0: 2, NAN: 2}
-    yield BY_PARAMS, "bc X 1 0 0 0 0 0 0 0 0 0 0 at (1, 0)", {NAN: 2, 0: 2}
+def no_refusal_2():
+    """bc by its parameters, which 2 refused before request P3, ahead of 4 and 5: now these are told."""
+    yield BY_PARAMS, "bc 1 1 0 0 0 0 0 0 0 0 0 0 at (X, 0)", {1.0: 0, NAN: 4}
+    yield BY_PARAMS, "bc X 1 0 0 0 0 0 0 0 0 0 0 at (1, 0)", {NAN: 4, 0: 5, SIGN: 5, 1: 0}
 
 
 def refusal_4():
@@ -38,7 +36,7 @@ def refusal_4():
         "affine 1 1 0 0 at (X, 0.5625)",
         "affine 1 1 0 0 at (0.75, X)",
     ):
-        for operation in THREE if words.startswith("bc") else FOUR:
+        for operation in FOUR:
             yield operation, words, {LARGEST: NOT_4, INF: 4, SIGN + LARGEST: NOT_4, SIGN + INF: 4, NAN: 4}
 
 
@@ -132,12 +130,16 @@ def refusal_11_undistort():
 
 def refusal_11_jacobians():
     """An entry is NaN or infinite. Those of affine hold what was handed in, and are finite whenever that is. kb by the
-    point: theta times the radius to the seventh overflows."""
+    point: theta times the radius to the seventh overflows. bc by the parameters: k3's column is x times the radius to the
+    sixth; and with k4 at -1 the denominator is 0 at (1, 0), and on both sides it is not."""
     yield BY_POINT, *LEVEL
     yield BY_POINT, "kb 1 1 0 0 0 0 0 0 at (X, 0)", {0x491249232F9EE093: 0, 0x491249232F9EE094: 11}
     yield BY_POINT, *OVERFLOWN
     yield BY_PARAMS, *LEVEL
     yield BY_PARAMS, *BENT
+    yield BY_PARAMS, "bc 1 1 0 0 0 0 0 0 0 0 0 0 at (X, 0)", {0x491381147622F886: 0, 0x491381147622F887: 11}
+    pole = bits(-1.0)
+    yield BY_PARAMS, "bc 1 1 0 0 0 0 0 0 0 X 0 0 at (1, 0)", {pole - 1: 0, pole: 11, pole + 1: 0}
 
 
 def none_refused():
@@ -150,7 +152,7 @@ def none_refused():
 
 
 def by_hand():
-    """Document 01's numbers to check by hand, those of one point."""
+    """The numbers to check by hand (docs/RULES.md, 17), those of one point."""
     yield DISTORT, "affine X 600 1 0.5 at (0.5, -0.25)", {-0.0: 5}
     yield DISTORT, "affine 600 600 1 0.5 at (X, -0.25)", {0.5: 0}
     yield UNDISTORT, "affine 600 600 1 0.5 at (X, -149.5)", {301.0: 0}
@@ -163,10 +165,11 @@ def by_hand():
     yield DISTORT, "bc 1 1 0 0 0 0 1 0 0 0 0 0 at (X, 1)", {1.0: 0}
     yield DISTORT, "bc 1 1 0 0 0 0 0 1 0 0 0 0 at (X, 1)", {1.0: 0}
     yield UNDISTORT, "bc 1 1 0 0 0 0 0 0 0 0 0 0 at (X, 4)", {3.0: 0}
+    yield BY_PARAMS, "bc 1 1 0 0 0 0 0 0 0 0 0 0 at (X, 2)", {1.0: 0}
 
 
 SECTIONS = (
-    refusal_2,
+    no_refusal_2,
     refusal_4,
     refusal_5,
     refusal_5_among_others,

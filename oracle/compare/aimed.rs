@@ -187,6 +187,10 @@ impl Oracle {
                 for operation in 0..4 {
                     let at = if operation == 1 { place.pixel } else { place.point };
                     let q = Question::right(model, operation, place.params, at);
+                    if q.without_rust() {
+                        self.hold_number(&q, q.ask_ours());
+                        continue;
+                    }
                     let (owed, trace) = q.traced();
                     self.hold(&q, q.ask_ours(), owed);
                     if operation == 1 {

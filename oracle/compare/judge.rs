@@ -142,11 +142,14 @@ impl Question {
 
     /// The refusals that need no answer of the Rust, the lowest first.
     fn refused_at_once(&self) -> Option<u8> {
-        if self.operation == 3 && self.model == 3 {
-            return Some(2);
-        }
         let wrong_length = self.answer_length != lens::LENGTHS[self.operation];
         camera_refused(self.model, &self.params, self.params_length, &self.at).or(if wrong_length { Some(7) } else { None })
+    }
+
+    /// Whether the Rust has no answer to hold ours to: of bc its dx_distort_params is a todo!(), which would stop us too. What
+    /// refuses such a call before the model is asked can be compared, and is.
+    pub fn without_rust(&self) -> bool {
+        self.operation == 3 && self.model == 3 && self.refused_at_once().is_none()
     }
 
     pub fn owed(&self) -> Given {

@@ -122,6 +122,13 @@ impl Oracle {
         }
     }
 
+    /// A question that the Rust has no answer to is answered, or refused with 11.
+    fn hold_number(&mut self, q: &Question, ours: Given) {
+        if ours.number != 0 && ours.number != 11 {
+            self.differs(format!("{}: ours {}, owed an answer or 11", input(q), ours.number));
+        }
+    }
+
     fn second_run(&mut self, q: &Question, ours: &Given, class: Class) -> bool {
         let apart = apart(q, ours);
         if apart.pixels <= TOLERANCE {
@@ -152,13 +159,18 @@ impl Oracle {
                 damage::damage(&mut self.random, &mut q);
             }
             let ours = q.ask_ours();
+            tally.numbers[operation][ours.number as usize % NUMBERS] += 1;
+            if q.without_rust() {
+                tally.uncompared[(ours.number != 0) as usize] += 1;
+                self.hold_number(&q, ours);
+                continue;
+            }
             let (owed, trace) = q.traced();
             self.hold(&q, ours, owed);
             if trace.theta.is_finite() && trace.theta.abs() > LIMIT_BEFORE {
                 tally.past_before[(ours.number != 0) as usize] += 1;
             }
             tally.mirrored += (ours.number == 0 && trace.flag && !trace.settled()) as u64;
-            tally.numbers[operation][ours.number as usize % NUMBERS] += 1;
             if ours.number == 0 && class != Class::Damaged && self.second_run(&q, &ours, class) {
                 tally.outliers[operation][class as usize] += 1;
             }
@@ -190,6 +202,11 @@ impl Oracle {
             self.met("kb last theta past 3/2", &tally.past_before, &[0, 1]);
             println!("kb flag yes before request P2, no now: {}", tally.mirrored);
             self.met("kb flag changed by request P2", &[tally.mirrored], &[0]);
+        }
+        if model == 3 {
+            let [answered, refused] = tally.uncompared;
+            println!("bc dx_distort_params, a todo!() in the Rust: not compared are {} answers and {} refusals by 11", answered, refused);
+            self.met("bc dx_distort_params", &tally.uncompared, &[0, 1]);
         }
     }
 
@@ -277,6 +294,8 @@ struct Tally {
     past_before: [u64; 2],
     /// Pixels answered whose flag said yes before request P2 and says no now.
     mirrored: u64,
+    /// Calls that the Rust has no answer to: answered, and refused.
+    uncompared: [u64; 2],
 }
 
 /// Parts of a comparison, which standard error tells as they begin.

@@ -50,6 +50,9 @@ pub fn sample(seed: u64) -> (String, String) {
     for turn in 0..400_000 {
         let (model, operation) = (turn % 4, turn / 4 % 4);
         let q = draw(&mut r, model, operation);
+        if q.without_rust() {
+            continue;
+        }
         let owed = q.owed();
         let count = have.entry((model, operation, owed.number)).or_insert(0);
         *count += 1;

@@ -31,7 +31,6 @@ use Rattle.camera_bytes.specs.declared.Asked.the-variants.{Of}
 use Rattle.camera_bytes.proofs.Counted.{read-camera}
 use Rattle.answer_bytes.specs.Answer.{pixel-bytes, point-bytes, jacobian-bytes, give-jacobian, given-pixel, given-point, distorted, undistorted, slopes, parameter-slopes, distort-bytes, undistort-bytes, dx-distort-x-bytes, dx-distort-params-bytes}
 use Rattle.answer_bytes.specs.declared.ToldPixel.{ToldPixel}
-use Rattle.answer_bytes.proofs.Counted.{other-for-params}
 use Rattle.answer_bytes.proofs.told_pixel.Reads as told-pixel-contract
 use Rattle.answer_bytes.proofs.give_pixel.Reads as give-pixel-contract
 use Rattle.answer_bytes.proofs.distort.Reads as distort-contract
@@ -114,15 +113,11 @@ module _ (model : ℕ) (params lent : List ℕ) (x y : Float) (known : model ≤
   dx-distort-x-answered e f = is-read (λ (a : Asked). give-jacobian (slopes a record { 0 = x; 1 = y }) lent) ∙ filled 200 _ _ lent e f
 
   pub dx-distort-params-answered :
-      (model ≡ 3 → ⊥) →
       dx-distort-params camera record { 0 = x; 1 = y } .number ≡ 0 →
       length lent ≡ 200 →
       dx-distort-params-bytes model params x y lent ≡ given 0 (jacobian-bytes (dx-distort-params camera record { 0 = x; 1 = y } .jacobian))
   unfolding dx-distort-params-bytes
-  dx-distort-params-answered n e f =
-      ap (λ (a : Asked). give-jacobian (parameter-slopes a record { 0 = x; 1 = y }) lent)
-      (other-for-params model params n ∙ read-camera model params known counted)
-      ∙ filled 200 _ _ lent e f
+  dx-distort-params-answered e f = is-read (λ (a : Asked). give-jacobian (parameter-slopes a record { 0 = x; 1 = y }) lent) ∙ filled 200 _ _ lent e f
 
 -- ---- what a caller reads out of an answer's bytes
 

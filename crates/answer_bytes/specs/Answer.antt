@@ -17,7 +17,6 @@ use Rattle.lens.specs.declared.Undistorted.the-variants as points
 use Rattle.camera.specs.Camera.{distort, undistort, refused, dx-distort-x, dx-distort-params}
 use Rattle.camera.specs.declared.Differentiated.{Differentiated}
 use Rattle.camera_bytes.specs.Reading.{read}
-use Rattle.answer_bytes.specs.Reading.{read-for-params}
 use Rattle.given.specs.Given.{Given, flag-number, answered}
 use Rattle.camera_bytes.specs.declared.Asked.{Asked}
 use Rattle.camera_bytes.specs.declared.Asked.the-variants.{Of, Refused}
@@ -89,4 +88,4 @@ dx-distort-x-bytes model params x y lent = give-jacobian (slopes (read model par
 
 unfoldable pub dx-distort-params-bytes : ℕ → List ℕ → Float → Float → List ℕ → Given
 dx-distort-params-bytes model params x y lent =
-    give-jacobian (parameter-slopes (read-for-params model params) record { 0 = x; 1 = y }) lent
+    give-jacobian (parameter-slopes (read model params) record { 0 = x; 1 = y }) lent

@@ -8,11 +8,10 @@ ghost use Rattle.little_endian.specs.Bytes.{floats, put};
 ghost use Rattle.lens.specs.Distorted.{told-pixel};
 ghost use Rattle.lens.specs.Undistorted.{told};
 ghost use Rattle.lens.specs.Finite.{all-finite};
-ghost use Rattle.camera.specs.Camera.{parameters, judged, distort, undistort, dx-distort-x, judged-params, dx-distort-params};
+ghost use Rattle.camera.specs.Camera.{parameters, judged, distort, undistort, dx-distort-x, dx-distort-params};
 ghost use Rattle.camera_bytes.specs.Reading.{read};
 ghost use Rattle.given.specs.Given.{given};
 ghost use Rattle.answer_bytes.specs.Answer.{give-pixel, give-point, give-jacobian, distorted, undistorted, slopes, parameter-slopes, distort-bytes, undistort-bytes, dx-distort-x-bytes, dx-distort-params-bytes};
-ghost use Rattle.answer_bytes.specs.Reading.{read-for-params};
 use camera::Camera;
 use camera::Differentiated;
 use camera_bytes::Tested;
@@ -188,35 +187,21 @@ fn slopes(model: u8, params: &[u8], point: Point) -> Differentiated
     }
 }
 
-// and by its parameters: 2 for bc before all else.
-fn judged_params(finite: bool, camera: Camera, x: f64, y: f64) -> Judgement
-    requires { ⌜ finite ≡ all-finite (parameters camera) ⌝ }
-    ensures { λ r. ⌜ r ≡ judged-params camera x y ⌝ }
-{
-    if let Camera::BrownConrady(_) = camera {
-        return Judgement::Refused(Refusal::NoParameterJacobian);
-    }
-    judged(finite, camera, x, y)
-}
-
+// and by its parameters.
 fn parameter_slopes_by(tested: Tested, point: Point) -> Differentiated
     requires { ⌜ tested .finite ≡ all-finite (parameters (tested .camera)) ⌝ }
     ensures { λ r. ⌜ r ≡ dx-distort-params (tested .camera) point ⌝ }
 {
     let camera = tested.camera;
-    match judged_params(tested.finite, camera, point.0, point.1) {
+    match judged(tested.finite, camera, point.0, point.1) {
         Judgement::Refused(refusal) => camera::refused(refusal),
         Judgement::Taken => camera::dx_distort_params_judged(camera, point),
     }
 }
 
-// Model 3 is refused with 2 whatever its parameters are, since 2 comes before 3.
 fn parameter_slopes(model: u8, params: &[u8], point: Point) -> Differentiated
-    ensures { λ r. ⌜ r ≡ parameter-slopes (read-for-params model (now (params .entry))) point ⌝ }
+    ensures { λ r. ⌜ r ≡ parameter-slopes (read model (now (params .entry))) point ⌝ }
 {
-    if model == 3 {
-        return camera::refused(Refusal::NoParameterJacobian);
-    }
     match camera_bytes::judged(model, params) {
         Judgement::Refused(refusal) => camera::refused(refusal),
         Judgement::Taken => parameter_slopes_by(camera_bytes::known(model, params), point),

@@ -1,2 +1,3 @@
 pub mod BrownConrady
+pub mod Formula
 pub mod AsWritten

@@ -1,9 +1,10 @@
 // brown_conrady.rs: OpenCV's radial and tangential distortion. Its operations, in the Rust's order and by its names.
-// None refuses: what isn't finite is for the camera to judge. What the Rust leaves undone, dx_distort_params, is not
-// here: the camera refuses it.
+// None refuses: what isn't finite is for the camera to judge. What the Rust leaves undone, dx_distort_params, is ours:
+// specs/Formula.antt has its order of operations, and proofs/Laws.antt that it is the derivative of distort.
 ghost use mathlib.Core.Path.{_≡_};
 ghost use Prim.Native.Nat.{_<_};
 ghost use Rattle.brown_conrady.specs.BrownConrady.{affine-params, distortion, distort, shared-at, slopes-at, dx-distort-x, f-xy, small, solve, step-from, limit, pass, newton, undistort};
+ghost use Rattle.brown_conrady.specs.Formula.{parts-at, dx-distort-params};
 use affine::AffineParams;
 use lens::Jacobian;
 use lens::Pixel;
@@ -39,22 +40,47 @@ fn affine_params(params: BrownConradyParams) -> AffineParams
     }
 }
 
-// Where the lens sends a point, on the z=1 plane too: the Rust's distortion_impl.
-fn distortion(params: BrownConradyParams, point: Point) -> Point
-    ensures { λ r. ⌜ r ≡ distortion params point ⌝ }
+// What distortion and dx_distort_params share, by the names of the Rust's distortion_impl: powers of the radius, what
+// p1 and p2 multiply, the quotient's numerator, and 1 over its denominator.
+struct Parts {
+    r2: f64,
+    r4: f64,
+    r6: f64,
+    a1: f64,
+    a2: f64,
+    a3: f64,
+    cdist: f64,
+    icdist2: f64,
+}
+
+// The same at a point.
+fn parts_at(params: BrownConradyParams, point: Point) -> Parts
+    ensures { λ r. ⌜ r ≡ parts-at params point ⌝ }
 {
     let x = point.0;
     let y = point.1;
     let r2 = lens::squared_radius(x, y);
     let r4 = r2 * r2;
     let r6 = r4 * r2;
-    let a1 = 2.0 * x * y;
-    let a2 = r2 + 2.0 * x * x;
-    let a3 = r2 + 2.0 * y * y;
-    let cdist = 1.0 + params.k1 * r2 + params.k2 * r4 + params.k3 * r6;
-    let icdist2 = 1.0 / (1.0 + params.k4 * r2 + params.k5 * r4 + params.k6 * r6);
-    let xd0 = x * cdist * icdist2 + params.p1 * a1 + params.p2 * a2;
-    let yd0 = y * cdist * icdist2 + params.p1 * a3 + params.p2 * a1;
+    Parts {
+        r2,
+        r4,
+        r6,
+        a1: 2.0 * x * y,
+        a2: r2 + 2.0 * x * x,
+        a3: r2 + 2.0 * y * y,
+        cdist: 1.0 + params.k1 * r2 + params.k2 * r4 + params.k3 * r6,
+        icdist2: 1.0 / (1.0 + params.k4 * r2 + params.k5 * r4 + params.k6 * r6),
+    }
+}
+
+// Where the lens sends a point, on the z=1 plane too: the Rust's distortion_impl.
+fn distortion(params: BrownConradyParams, point: Point) -> Point
+    ensures { λ r. ⌜ r ≡ distortion params point ⌝ }
+{
+    let s = parts_at(params, point);
+    let xd0 = point.0 * s.cdist * s.icdist2 + params.p1 * s.a1 + params.p2 * s.a2;
+    let yd0 = point.1 * s.cdist * s.icdist2 + params.p1 * s.a3 + params.p2 * s.a1;
     Point(xd0, yd0)
 }
 
@@ -140,6 +166,48 @@ pub fn dx_distort_x(params: BrownConradyParams, point: Point) -> Jacobian
     let c18 = s.c7 * params.fx;
     let c22 = s.c7 * params.fy;
     lens::two_columns(c18 * s.ux, c18 * s.uy, c22 * s.vx, c22 * s.vy)
+}
+
+// The derivative of distort by fx, fy, cx, cy, k1, k2, p1, p2, k3, k4, k5 and k6, which fills the record. Spelled out:
+// the loop of `lens::two_rows` costs more than all that is worked out here.
+pub fn dx_distort_params(params: BrownConradyParams, point: Point) -> Jacobian
+    ensures { λ r. ⌜ r ≡ dx-distort-params params point ⌝ }
+{
+    let s = parts_at(params, point);
+    let d = distortion(params, point);
+    let u_cdist = point.0 * (s.icdist2 * params.fx);
+    let v_cdist = point.1 * (s.icdist2 * params.fy);
+    let u_cdist2 = -(point.0 * s.cdist * s.icdist2 * (s.icdist2 * params.fx));
+    let v_cdist2 = -(point.1 * s.cdist * s.icdist2 * (s.icdist2 * params.fy));
+    Jacobian {
+        entries: [
+            d.0,
+            0.0,
+            1.0,
+            0.0,
+            u_cdist * s.r2,
+            u_cdist * s.r4,
+            s.a1 * params.fx,
+            s.a2 * params.fx,
+            u_cdist * s.r6,
+            u_cdist2 * s.r2,
+            u_cdist2 * s.r4,
+            u_cdist2 * s.r6,
+            0.0,
+            d.1,
+            0.0,
+            1.0,
+            v_cdist * s.r2,
+            v_cdist * s.r4,
+            s.a3 * params.fy,
+            s.a1 * params.fy,
+            v_cdist * s.r6,
+            v_cdist2 * s.r2,
+            v_cdist2 * s.r4,
+            v_cdist2 * s.r6,
+        ],
+        columns: 12,
+    }
 }
 
 // From one point to another: the Rust's f_xy and its step.

@@ -1,7 +1,8 @@
 -- The numbers to check by hand, by model. A camera answers them as its model does: camera and place are taken, and the answer is finite. Assumes nothing.
 use mathlib.Core.Path.{_≡_, refl, ap, _∙_}
+use mathlib.Core.List.{List, [], _∷_}
 use Prim.Native.Nat.{ℕ}
-use lib.Ieee.{div, neg, ofInt}
+use lib.Ieee.{Float, div, neg, ofInt}
 use Rattle.exact.specs.F64.{minus, isZero}
 use Rattle.arctan.specs.Arctangent.{arctangent}
 use Rattle.arctan.specs.Tangent.{tangent}
@@ -9,9 +10,11 @@ use Rattle.lens.specs.ByHand.{halves, quarters, xy, uv}
 use Rattle.lens.specs.Constants.{int}
 use Rattle.lens.specs.Distorted.{finite-pixel}
 use Rattle.lens.specs.Finite.{all-finite}
+use Rattle.lens.specs.Jacobian.{twoRows}
 use Rattle.lens.specs.Judgement.{decided}
 use Rattle.lens.specs.Undistorted.{direct}
 use Rattle.lens.specs.declared.Distorted.the-variants as pixels
+use Rattle.lens.specs.declared.Jacobian.{Jacobian}
 use Rattle.lens.specs.declared.Judgement.{Judgement}
 use Rattle.lens.specs.declared.Judgement.the-variants.{Taken}
 use Rattle.lens.specs.declared.Pixel.{Pixel}
@@ -27,9 +30,10 @@ use Rattle.kannala_brandt.specs.KannalaBrandt as kb
 use Rattle.kannala_brandt.proofs.Laws as kb-laws
 use Rattle.brown_conrady.specs.BrownConrady as bc
 use Rattle.brown_conrady.proofs.Laws as bc-laws
-use Rattle.camera.specs.Camera.{judged, pixel-of, distort, point-of, finite-point, undistort}
+use Rattle.camera.specs.Camera.{judged, pixel-of, distort, point-of, finite-point, undistort, refused, finite-jacobian, parameter-slopes, dx-distort-params}
 use Rattle.camera.specs.declared.Camera.{Camera}
 use Rattle.camera.specs.declared.Camera.the-variants.{Affine, EnhancedUnified, KannalaBrandt, BrownConrady}
+use Rattle.camera.specs.declared.Differentiated.{Differentiated}
 
 sends :
     (camera : Camera) (point : Point) (pixel : Pixel) → judged camera (point .0) (point .1) ≡ Taken → pixel-of camera point ≡ pixel → finite-pixel pixel ≡ pixels.At pixel
@@ -42,6 +46,12 @@ finds :
     → undistort camera pixel ≡ w
 finds camera pixel u w j e f =
     ap (λ (v : Judgement). decided v found.Refused (finite-point (point-of camera pixel))) j ∙ ap finite-point e ∙ f
+
+derives :
+    (camera : Camera) (point : Point) (j : Jacobian) (d : Differentiated) → judged camera (point .0) (point .1) ≡ Taken → parameter-slopes camera point ≡ j → finite-jacobian j ≡ d
+    → dx-distort-params camera point ≡ d
+derives camera point j d t e f =
+    ap (λ (v : Judgement). decided v refused (finite-jacobian (parameter-slopes camera point))) t ∙ ap finite-jacobian e ∙ f
 
 -- an undistort with no update
 abbrev pub at-once : Point → Undistorted
@@ -88,6 +98,10 @@ kbs = (
   finds kb-camera (uv (int 320) (int 280)) _ _ refl (kb-laws.by-hand arctangent tangent .1) refl,
 )
 
+-- a derivative that is answered, by its rows
+abbrev pub answer : List Float → List Float → Differentiated
+answer top bottom = record { number = 0; jacobian = twoRows top bottom }
+
 abbrev bc-camera : ℕ → ℕ → Camera
 bc-camera p1 p2 =
     BrownConrady (bc.camera (int 1) (int 1) (int 0) (int 0) (int 0) (int 0) (int p1) (int p2) (int 0) (int 0) (int 0) (int 0))
@@ -96,9 +110,13 @@ pub bcs :
     (distort (bc-camera 1 0) (xy (int 1) (int 1)) ≡ pixels.At (uv (int 3) (int 5)))
     × (distort (bc-camera 0 1) (xy (int 1) (int 1)) ≡ pixels.At (uv (int 5) (int 3)))
     × (undistort (bc-camera 0 0) (uv (int 3) (int 4)) ≡ at-once (xy (int 3) (int 4)))
-unfolding judged all-finite isZero ofInt
+    × (dx-distort-params (bc-camera 0 0) (xy (int 1) (int 2)) ≡ answer
+    (int 1 ∷ int 0 ∷ int 1 ∷ int 0 ∷ int 5 ∷ int 25 ∷ int 4 ∷ int 7 ∷ int 125 ∷ minus (int 5) ∷ minus (int 25) ∷ minus (int 125) ∷ [])
+    (int 0 ∷ int 2 ∷ int 0 ∷ int 1 ∷ int 10 ∷ int 50 ∷ int 13 ∷ int 4 ∷ int 250 ∷ minus (int 10) ∷ minus (int 50) ∷ minus (int 250) ∷ []))
+unfolding judged all-finite isZero neg ofInt
 bcs = (
   sends (bc-camera 1 0) (xy (int 1) (int 1)) _ refl (bc-laws.by-hand .0) refl,
   sends (bc-camera 0 1) (xy (int 1) (int 1)) _ refl (bc-laws.by-hand .1) refl,
   finds (bc-camera 0 0) (uv (int 3) (int 4)) _ _ refl (ap found.At (bc-laws.by-hand .2)) refl,
+  derives (bc-camera 0 0) (xy (int 1) (int 2)) _ _ refl (bc-laws.by-hand .3) refl,
 )

@@ -2,13 +2,15 @@
 use mathlib.Core.Path.{_≡_, refl, sym, ap, _∙_}
 use mathlib.Core.Bool.{Bool, true, false, cond, _&&_}
 use mathlib.Core.Logic.{_↔_}
+use mathlib.Core.List.{[], _∷_}
 use Prim.Native.Nat.{ℕ, _≤_}
 use lib.Dec.{T, lit≤, eqb}
-use lib.Ieee.{Float, nan, le, add, sub, mul, div, ofBits, ofInt, lt, isNan}
+use lib.Ieee.{Float, nan, le, add, sub, mul, div, neg, ofBits, ofInt, lt, isNan}
 use lib.Ieee.Scale.{finite}
 use Rattle.exact.specs.Determined.{Determined}
 use Rattle.exact.specs.F64.{f64, minus, magnitude, isZero}
 use Rattle.exact.specs.Fraction.{exactly, _≺_}
+use Rattle.formula.specs.Term.{rounded}
 use Rattle.root.specs.Root.{root}
 use Rattle.root.proofs.Laws as root-laws
 use Rattle.arctan.specs.Series as series
@@ -38,7 +40,8 @@ use Rattle.kannala_brandt.specs.declared.KannalaBrandtParams.{KannalaBrandtPara
 use Rattle.kannala_brandt.proofs.Fits.{angle-fits}
 use Rattle.kannala_brandt.proofs.Laws as kb-laws
 use Rattle.brown_conrady.specs.BrownConrady as bc
-use Rattle.camera.specs.Camera.{parameters, zero-focal, judged, pixel-of, distort, point-of, finite-point, undistort-judged, undistort, limit, slopes, dx-distort-x, judged-params, parameter-slopes, dx-distort-params, point-before, undistort-before}
+use Rattle.brown_conrady.specs.Formula as bc-formula
+use Rattle.camera.specs.Camera.{parameters, zero-focal, judged, pixel-of, distort, point-of, finite-point, undistort-judged, undistort, limit, slopes, dx-distort-x, parameter-slopes, dx-distort-params, point-before, undistort-before}
 use Rattle.camera.specs.Numbers as numbers
 use Rattle.camera.specs.Rows.{not-finite, steep, too-steep, point-not-finite, distort-rows, undistort-rows, dx-distort-x-rows, dx-distort-params-rows, mirrored}
 use Rattle.lens.specs.Distorted.{told-pixel, finite-pixel}
@@ -46,7 +49,7 @@ use Rattle.camera.specs.declared.Camera.{Camera}
 use Rattle.camera.specs.declared.Camera.the-variants.{Affine, EnhancedUnified, KannalaBrandt, BrownConrady}
 use Rattle.lens.specs.declared.Judgement.the-variants as Judged
 use Rattle.lens.specs.declared.Distorted.the-variants.{At, Refused}
-use Rattle.camera.proofs.ByHand.{at-once, affines, eucms, kbs, bcs}
+use Rattle.camera.proofs.ByHand.{at-once, answer, affines, eucms, kbs, bcs}
 use Rattle.camera.proofs.Past.{steep-past, first-is-10, first-is-16}
 use Rattle.camera.proofs.Steep as far-out
 use Rattle.camera.proofs.Told.{before, behind, given, pixel-number, point-number, answer-number, agree, jacobian-number, distort-own, undistort-own, jacobian-own, jacobian-finite, kept, most, found-own, as-before, undistort-as-before}
@@ -235,12 +238,9 @@ same-side p pixel s h = eucm-laws.same-side p pixel s (found-own s (judged (Enha
 pub dx-distort-x-number : (camera : Camera) (point : Point) → dx-distort-x camera point .number ≡ first (dx-distort-x-rows camera point)
 dx-distort-x-number camera point = jacobian-number camera point (slopes camera point)
 
--- The derivative by the parameters gives 2, 4, 5 or 11 exactly when the table says so, the lowest first.
+-- The derivative by the parameters gives 4, 5 or 11 exactly when the table says so, the lowest first: 2 of no camera.
 pub dx-distort-params-number : (camera : Camera) (point : Point) → dx-distort-params camera point .number ≡ first (dx-distort-params-rows camera point)
-dx-distort-params-number (Affine p) point = jacobian-number (Affine p) point (parameter-slopes (Affine p) point)
-dx-distort-params-number (EnhancedUnified p) point = jacobian-number (EnhancedUnified p) point (parameter-slopes (EnhancedUnified p) point)
-dx-distort-params-number (KannalaBrandt p) point = jacobian-number (KannalaBrandt p) point (parameter-slopes (KannalaBrandt p) point)
-dx-distort-params-number (BrownConrady p) point = refl
+dx-distort-params-number camera point = jacobian-number camera point (parameter-slopes camera point)
 
 -- ---- an answered call has the number 0, and its answer is the model's own
 
@@ -261,7 +261,7 @@ pub dx-answered :
     × (dx-distort-params camera point .number ≡ 0 → dx-distort-params camera point .jacobian ≡ parameter-slopes camera point)
 dx-answered camera point = (
   jacobian-own (judged camera (point .0) (point .1)) (all-finite (slopes camera point .entries)) (slopes camera point),
-  jacobian-own (judged-params camera (point .0) (point .1)) (all-finite (parameter-slopes camera point .entries)) (parameter-slopes camera point),
+  jacobian-own (judged camera (point .0) (point .1)) (all-finite (parameter-slopes camera point .entries)) (parameter-slopes camera point),
 )
 
 -- A derivative that tells 0 has finite numbers only.
@@ -271,7 +271,7 @@ pub jacobians-finite :
     × (dx-distort-params camera point .number ≡ 0 → all-finite (dx-distort-params camera point .jacobian .entries) ≡ true)
 jacobians-finite camera point = (
   jacobian-finite (judged camera (point .0) (point .1)) (slopes camera point),
-  jacobian-finite (judged-params camera (point .0) (point .1)) (parameter-slopes camera point),
+  jacobian-finite (judged camera (point .0) (point .1)) (parameter-slopes camera point),
 )
 
 -- ---- updates and flag
@@ -346,14 +346,15 @@ pub dx-distort-x-reached : (dx-distort-x flat nowhere .number ≡ 4) × (dx-dist
 unfolding judged all-finite isZero bc.slopes-at bc.shared-at add mul div ofBits
 dx-distort-x-reached = (refl, refl, refl)
 
--- The derivative by the parameters with 2, 4, 5 and 11.
+-- The derivative by the parameters with 4, 5 and 11, bc's too.
 pub dx-distort-params-reached :
-    (dx-distort-params plain nowhere .number ≡ 2)
-    × (dx-distort-params flat nowhere .number ≡ 4)
+    (dx-distort-params flat nowhere .number ≡ 4)
     × (dx-distort-params flat far .number ≡ 5)
     × (dx-distort-params (EnhancedUnified (eucm.camera ones ones zeros zeros (halves 1) ones)) far .number ≡ 11)
-unfolding judged all-finite isZero root add sub mul div ofBits ofInt
-dx-distort-params-reached = (refl, refl, refl, refl)
+    × (dx-distort-params plain nowhere .number ≡ 4)
+    × (dx-distort-params plain far .number ≡ 11)
+unfolding judged all-finite isZero bc-formula.dx-distort-params rounded root add sub mul div neg ofBits ofInt
+dx-distort-params-reached = (refl, refl, refl, refl, refl)
 
 -- ---- the numbers to check by hand
 
@@ -383,6 +384,10 @@ pub by-hand :
     ≡ At (uv (int 5) (int 3)))
     × (undistort (BrownConrady (bc.camera (int 1) (int 1) (int 0) (int 0) (int 0) (int 0) (int 0) (int 0) (int 0) (int 0) (int 0) (int 0))) (uv (int 3) (int 4))
     ≡ at-once (xy (int 3) (int 4)))
+    × (dx-distort-params (BrownConrady (bc.camera (int 1) (int 1) (int 0) (int 0) (int 0) (int 0) (int 0) (int 0) (int 0) (int 0) (int 0) (int 0))) (xy (int 1) (int 2))
+    ≡ answer
+    (int 1 ∷ int 0 ∷ int 1 ∷ int 0 ∷ int 5 ∷ int 25 ∷ int 4 ∷ int 7 ∷ int 125 ∷ minus (int 5) ∷ minus (int 25) ∷ minus (int 125) ∷ [])
+    (int 0 ∷ int 2 ∷ int 0 ∷ int 1 ∷ int 10 ∷ int 50 ∷ int 13 ∷ int 4 ∷ int 250 ∷ minus (int 10) ∷ minus (int 50) ∷ minus (int 250) ∷ []))
     × (root (quarters 9) ≡ halves 3)
 unfolding div ofBits ofInt
 by-hand = (
@@ -399,5 +404,6 @@ by-hand = (
   bcs .0,
   bcs .1,
   bcs .2,
+  bcs .3,
   root-laws.by-hand,
 )

@@ -1,6 +1,5 @@
 pub mod ByHand
 pub mod Fits
-pub mod Formula
 pub mod Known
 pub mod Laws
 pub mod Steep

@@ -17,13 +17,14 @@ use Rattle.lens.specs.declared.Jacobian.{Jacobian}
 use Rattle.lens.specs.declared.Pixel.{Pixel}
 use Rattle.lens.specs.declared.Point.{Point}
 use Rattle.lens.specs.declared.Refusal.{Refusal}
-use Rattle.lens.specs.declared.Refusal.the-variants.{NoParameterJacobian, NotFinite, ZeroFocalLength, AnswerNotFinite}
+use Rattle.lens.specs.declared.Refusal.the-variants.{NotFinite, ZeroFocalLength, AnswerNotFinite}
 use Rattle.lens.specs.declared.Undistorted.{Undistorted}
 use Rattle.lens.specs.declared.Undistorted.the-variants as found
 use Rattle.affine.specs.Affine as affine
 use Rattle.enhanced_unified.specs.EnhancedUnified as eucm
 use Rattle.kannala_brandt.specs.KannalaBrandt as kb
 use Rattle.brown_conrady.specs.BrownConrady as bc
+use Rattle.brown_conrady.specs.Formula as bc-formula
 use Rattle.camera.specs.declared.Camera.{Camera}
 use Rattle.camera.specs.declared.Camera.the-variants.{Affine, EnhancedUnified, KannalaBrandt, BrownConrady}
 use Rattle.camera.specs.declared.Differentiated.{Differentiated}
@@ -135,22 +136,15 @@ abbrev pub dx-distort-x : Camera → Point → Differentiated
 dx-distort-x camera point =
     decided (judged camera (point .0) (point .1)) refused (dx-distort-x-judged camera point)
 
--- bc's parameter Jacobian is refused before all else
-abbrev pub judged-params : Camera → Float → Float → Judgement
-judged-params (Affine p) x y = judged (Affine p) x y
-judged-params (EnhancedUnified p) x y = judged (EnhancedUnified p) x y
-judged-params (KannalaBrandt p) x y = judged (KannalaBrandt p) x y
-judged-params (BrownConrady p) x y = Refused NoParameterJacobian
-
 abbrev pub parameter-slopes : Camera → Point → Jacobian
 parameter-slopes (Affine p) point = affine.dx-distort-params p point
 parameter-slopes (EnhancedUnified p) point = eucm.dx-distort-params p point
 parameter-slopes (KannalaBrandt p) point = kb.dx-distort-params arctangent p point
-parameter-slopes (BrownConrady p) point = twoRows [] []
+parameter-slopes (BrownConrady p) point = bc-formula.dx-distort-params p point
 
 abbrev pub dx-distort-params-judged : Camera → Point → Differentiated
 dx-distort-params-judged camera point = finite-jacobian (parameter-slopes camera point)
 
 abbrev pub dx-distort-params : Camera → Point → Differentiated
 dx-distort-params camera point =
-    decided (judged-params camera (point .0) (point .1)) refused (dx-distort-params-judged camera point)
+    decided (judged camera (point .0) (point .1)) refused (dx-distort-params-judged camera point)

@@ -25,13 +25,6 @@ use Rattle.camera.specs.declared.Camera.the-variants.{Affine, EnhancedUn
 abbrev pub not-finite : Camera → Float → Float → Bool
 not-finite camera x y = not (all-finite (parameters camera) && (finite x && finite y))
 
--- 2: the model has no parameter Jacobian
-abbrev pub no-formula : Camera → Bool
-no-formula (Affine p) = false
-no-formula (EnhancedUnified p) = false
-no-formula (KannalaBrandt p) = false
-no-formula (BrownConrady p) = true
-
 -- 10: kb's squared radius isn't ≤ EPS, and the angle where Newton ends is past the tangent's limit
 abbrev pub steep : Slope → Bool
 steep TooSteep = true
@@ -81,7 +74,6 @@ dx-distort-x-rows camera point =
 
 abbrev pub dx-distort-params-rows : Camera → Point → List Row
 dx-distort-params-rows camera point =
-    (2 when no-formula camera)
-    ∷ (4 when not-finite camera (point .0) (point .1))
+    (4 when not-finite camera (point .0) (point .1))
     ∷ (5 when zero-focal camera)
     ∷ (11 when not (all-finite (parameter-slopes camera point .entries))) ∷ []

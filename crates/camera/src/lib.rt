@@ -5,7 +5,7 @@ ghost use mathlib.Core.Path.{_≡_};
 ghost use Rattle.lens.specs.Distorted.{told-pixel};
 ghost use Rattle.lens.specs.Finite.{all-finite};
 ghost use Rattle.lens.specs.Undistorted.{told};
-ghost use Rattle.camera.specs.Camera.{parameters, either-zero, zero-focal, placed, judged, pixel-of, distort-judged, distort, point-of, finite-point, undistort-judged, undistort, limit, refused, finite-jacobian, slopes, dx-distort-x-judged, dx-distort-x, judged-params, parameter-slopes, dx-distort-params-judged, dx-distort-params};
+ghost use Rattle.camera.specs.Camera.{parameters, either-zero, zero-focal, placed, judged, pixel-of, distort-judged, distort, point-of, finite-point, undistort-judged, undistort, limit, refused, finite-jacobian, slopes, dx-distort-x-judged, dx-distort-x, parameter-slopes, dx-distort-params-judged, dx-distort-params};
 use affine::AffineParams;
 use brown_conrady::BrownConradyParams;
 use enhanced_unified::EnhancedUnifiedParams;
@@ -246,17 +246,7 @@ pub fn dx_distort_x(camera: Camera, point: Point) -> Differentiated
     }
 }
 
-// 2 for bc before all else, since the Rust has no formula to port; then 4 and 5.
-fn judged_params(camera: Camera, x: f64, y: f64) -> Judgement
-    ensures { λ r. ⌜ r ≡ judged-params camera x y ⌝ }
-{
-    if let Camera::BrownConrady(_) = camera {
-        return Judgement::Refused(Refusal::NoParameterJacobian);
-    }
-    judged(camera, x, y)
-}
-
-// The model's derivative of distort by its parameters, finite or not. Nobody asks for bc's: it is refused before.
+// The model's derivative of distort by its parameters, finite or not.
 fn parameter_slopes(camera: Camera, point: Point) -> Jacobian
     ensures { λ r. ⌜ r ≡ parameter-slopes camera point ⌝ }
 {
@@ -264,11 +254,11 @@ fn parameter_slopes(camera: Camera, point: Point) -> Jacobian
         Camera::Affine(p) => affine::dx_distort_params(p, point),
         Camera::EnhancedUnified(p) => enhanced_unified::dx_distort_params(p, point),
         Camera::KannalaBrandt(p) => kannala_brandt::dx_distort_params(p, point),
-        Camera::BrownConrady(_) => lens::two_rows(&[], &[]),
+        Camera::BrownConrady(p) => brown_conrady::dx_distort_params(p, point),
     }
 }
 
-// The derivative of distort by the camera's parameters, where 2, 4 and 5 do not refuse.
+// The derivative of distort by the camera's parameters, for a camera and a point that 4 and 5 do not refuse.
 pub fn dx_distort_params_judged(camera: Camera, point: Point) -> Differentiated
     ensures { λ r. ⌜ r ≡ dx-distort-params-judged camera point ⌝ }
 {
@@ -279,7 +269,7 @@ pub fn dx_distort_params_judged(camera: Camera, point: Point) -> Differentiated
 pub fn dx_distort_params(camera: Camera, point: Point) -> Differentiated
     ensures { λ r. ⌜ r ≡ dx-distort-params camera point ⌝ }
 {
-    match judged_params(camera, point.0, point.1) {
+    match judged(camera, point.0, point.1) {
         Judgement::Refused(refusal) => refused(refusal),
         Judgement::Taken => finite_jacobian(parameter_slopes(camera, point)),
     }

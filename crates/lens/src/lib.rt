@@ -62,7 +62,7 @@ pub enum Undistorted {
 pub enum Refusal {
     // no model goes by it
     UnknownModel,
-    // bc's derivative by its parameters: the Rust has no formula to port
+    // bc's derivative by its parameters, while it had no formula: no call gives it any more, and the number stays taken
     NoParameterJacobian,
     // too many parameters, or too few
     WrongCount,

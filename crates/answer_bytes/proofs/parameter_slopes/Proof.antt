@@ -2,7 +2,7 @@
 use mathlib.Core.Path.{sym, ap, _∙_}
 use denote.Ref.{now}
 use Rattle.answer_bytes.specs.Answer.{parameter-slopes}
-use Rattle.answer_bytes.proofs.Counted.{bc-for-params, other-for-params, read-refused, read-taken, tested-sure}
+use Rattle.answer_bytes.proofs.Counted.{read-refused, read-taken, tested-sure}
 use Rattle.camera.specs.Camera.{dx-distort-params}
 use Rattle.camera_bytes.specs.declared.Asked.{Asked}
 use Rattle.camera_bytes.specs.declared.Tested.{Tested}
@@ -10,24 +10,19 @@ use borrow.Author.Needs.{needs}
 use Rattle.answer_bytes.proofs.parameter_slopes.Statement.{statement}
 use Rattle.answer_bytes.proofs.parameter_slopes.Tie as tie
 
+parameter-slopes-by-requires : tie.Need-parameter-slopes-by-requires
+parameter-slopes-by-requires c κs = tested-sure (c .before .before .before .before .before .args .model) (now (c .before .before .before .before .before .args .params)) (c .known .ensures)
+
 returns : tie.Need-returns
 returns c =
     c .refused .ensures
-    ∙ sym (ap (λ (a : Asked). parameter-slopes a (c .before .before .before .args .point)) (bc-for-params (c .before .before .before .args .model) (now (c .before .before .before .args .params)) (c .before .if1 .taken)))
-
-parameter-slopes-by-requires : tie.Need-parameter-slopes-by-requires
-parameter-slopes-by-requires c κs = tested-sure (c .before .before .before .before .before .before .args .model) (now (c .before .before .before .before .before .before .args .params)) (c .known .ensures)
+    ∙ sym (ap (λ (a : Asked). parameter-slopes a (c .before .before .before .before .before .before .args .point)) (read-refused (c .before .before .before .before .before .before .args .model) (now (c .before .before .before .before .before .before .args .params)) (sym (c .before .before .before .before .judged .ensures) ∙ c .before .before .refusal .given .1)))
 
 returns-2 : tie.Need-returns-2
 returns-2 c =
-    c .refused2 .ensures
-    ∙ sym (ap (λ (a : Asked). parameter-slopes a (c .before .before .before .before .before .before .before .args .point)) (other-for-params (c .before .before .before .before .before .before .before .args .model) (now (c .before .before .before .before .before .before .before .args .params)) (c .before .before .before .before .before .if1 .left) ∙ read-refused (c .before .before .before .before .before .before .before .args .model) (now (c .before .before .before .before .before .before .before .args .params)) (sym (c .before .before .before .before .judged .ensures) ∙ c .before .before .refusal .given .1)))
-
-returns-3 : tie.Need-returns-3
-returns-3 c =
     c .parameter-slopes-by .ensures
-    ∙ ap (λ (t : Tested). dx-distort-params (t .camera) (c .before .before .before .before .before .before .before .args .point)) (c .before .known .ensures)
-    ∙ sym (ap (λ (a : Asked). parameter-slopes a (c .before .before .before .before .before .before .before .args .point)) (other-for-params (c .before .before .before .before .before .before .before .args .model) (now (c .before .before .before .before .before .before .before .args .params)) (c .before .before .before .before .before .if1 .left) ∙ read-taken (c .before .before .before .before .before .before .before .args .model) (now (c .before .before .before .before .before .before .before .args .params)) (sym (c .before .before .before .before .judged .ensures) ∙ c .before .before .enum-told .given .1)))
+    ∙ ap (λ (t : Tested). dx-distort-params (t .camera) (c .before .before .before .before .before .before .args .point)) (c .before .known .ensures)
+    ∙ sym (ap (λ (a : Asked). parameter-slopes a (c .before .before .before .before .before .before .args .point)) (read-taken (c .before .before .before .before .before .before .args .model) (now (c .before .before .before .before .before .before .args .params)) (sym (c .before .before .before .before .judged .ensures) ∙ c .before .before .enum-told .given .1)))
 
 pub parameter-slopes-spec : {M : Type 1} → statement M
-parameter-slopes-spec = tie.close (tie.spec (λ c κs. search needs) returns (λ c κs. search needs) (λ c. search needs) (λ c κs. search needs) (λ c. search needs) (λ c κs. search needs) parameter-slopes-by-requires returns-2 returns-3)
+parameter-slopes-spec = tie.close (tie.spec (λ c κs. search needs) (λ c. search needs) (λ c κs. search needs) (λ c. search needs) (λ c κs. search needs) parameter-slopes-by-requires returns returns-2)
