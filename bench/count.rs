@@ -151,7 +151,7 @@ fn tables(side: &str, model: usize, width: usize, height: usize, n: usize) {
             black_box(distort_table(black_box(&camera)));
         } else {
             let done = apply_table(black_box(TABLES[model]), &case, width, height, &mut cells);
-            assert_eq!(done, 2 * width + 2 * height + 4 + width * height);
+            assert_eq!(done, 2 * width + 2 * height + width * height);
         }
     }
     black_box(cells);

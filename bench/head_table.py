@@ -41,7 +41,7 @@ def main(archive, page):
     print("\nA turn of s samples and c cells takes at most\n\n    a turn's own + s × a border sample + c × a cell\n\n"
           "instructions. So the units that fit a frame are\n\n    units = (free time × rate - a turn's own) / a unit\n\n"
           "rounded down, where the rate is how many of these instructions the processor does in a unit of time, and a unit is a border "
-          "sample until the border is done and a cell from then on (units done, at 8 of the answer, is then 2w + 2h + 4 or more). For a "
+          "sample until the border is done and a cell from then on (`LENS_TURN_DONE` of the answer is then `LENS_SAMPLES` or more). For a "
           f"turn that may do both, take the dearer. In {MILLISECONDS} ms, samples / cells:\n")
 
     def fits(model, kind, rate):
@@ -50,7 +50,7 @@ def main(archive, page):
 
     both = [[" / ".join(n(fits(m, kind, rate)) for kind in ("sample", "cell")) for m in range(len(MODELS))] for rate in RATES]
     print(lines(["millions of instructions a second", *MODELS], [[str(rate), *row] for rate, row in zip(RATES, both)]))
-    samples, cells, rows = 2 * WIDTH + 2 * HEIGHT + 4, WIDTH * HEIGHT, []
+    samples, cells, rows = 2 * WIDTH + 2 * HEIGHT, WIDTH * HEIGHT, []
     for model, (own, prices) in enumerate(most):
         border, rest = (math.ceil(count / fits(model, kind, 100)) for count, kind in ((samples, "sample"), (cells, "cell")))
         total = samples * prices["sample"] + cells * prices["cell"] + (border + rest) * own

@@ -32,12 +32,12 @@ def row(title, model, operation, updates="-"):
 
 def table_rows(model):
     """A cell and a border sample. Two sizes with as many border samples give the cells' difference; what is left of one of
-    them is its border."""
+    them is its border, which has each corner twice in the Rust."""
     took = {}
-    for side in ("rust", "ours"):
+    for side, samples in (("rust", 2 * 32 + 2 * 32 + 4), ("ours", 2 * 32 + 2 * 32)):
         wide, square = (each(20, "count", "table", side, model, w, h, None) for w, h in ((48, 16), (32, 32)))
         cell = (square - wide) / (32 * 32 - 48 * 16)
-        took[side] = cell, (square - 32 * 32 * cell) / (2 * 32 + 2 * 32 + 4)
+        took[side] = cell, (square - 32 * 32 * cell) / samples
     return [(f"{model} {what}", {side: t[i] for side, t in took.items()}) for i, what in enumerate(("cell", "border sample"))]
 
 

@@ -156,15 +156,15 @@ uint8_t lens_dx_distort_params(uint8_t model, const uint8_t *params, size_t para
  *
  * lens_job_new writes a fresh job into bytes that the caller keeps; each lens_turn reads the job, does units of work
  * and writes it back. Hand the same job and the same table to the next turn, unaltered; both may be moved meanwhile.
- * A unit is a border sample or a cell: all samples come first, then the cells, row by row. However the units are
- * split over turns, cells and job come out the same.
+ * A unit is a border sample or a cell: all samples come first, each corner once, then the cells, row by row. However
+ * the units are split over turns, cells and job come out the same.
  *
  * A sample has not settled where lens_undistort of its pixel would say so (LENS_POINT_SETTLED is 0). A job counts these
  * samples, and says which was the first. A strict job refuses at the first one, and so counts none. */
 #define LENS_SIZE_LEAST 2
 #define LENS_SIZE_MOST 4096
 
-#define LENS_SAMPLES(width, height) (2 * ((uint64_t)(width) + (uint64_t)(height)) + 4)
+#define LENS_SAMPLES(width, height) (2 * ((uint64_t)(width) + (uint64_t)(height)))
 #define LENS_CELLS(width, height) ((uint64_t)(width) * (uint64_t)(height))
 #define LENS_UNITS(width, height) (LENS_SAMPLES(width, height) + LENS_CELLS(width, height))
 
@@ -194,11 +194,11 @@ uint8_t lens_dx_distort_params(uint8_t model, const uint8_t *params, size_t para
 #define LENS_JOB_STRICT 192    /* uint64_t: 1 for a strict job, else 0: as lens_job_new was told, for good */
 #define LENS_JOB_CHECK 200     /* uint64_t: LENS_JOB_CHECK_START + the 25 words of 8 bytes before it, modulo 2^64 */
 #define LENS_JOB_BYTES 208
-#define LENS_JOB_CHECK_START UINT64_C(0x31424f4a534e454c)
+#define LENS_JOB_CHECK_START UINT64_C(0x32424f4a534e454c)
 
 /* Which jobs are refused. 1, 4, 5 and 6 are for a job's model, parameters, region (whatever is done) and size. 13 is
  * returned if none of these nor 7 is, and one of the following holds:
- *   - the check word is wrong;
+ *   - the check word is wrong, as is that of every job of the archive before, whose LENS_JOB_CHECK_START was another;
  *   - more units are done than there are;
  *   - there are more updates than the samples done can have (none, none, 20 or 50 each, by the model);
  *   - one of the four edges so far is NaN or infinite;

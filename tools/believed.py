@@ -17,7 +17,7 @@ TABLE = [
     ("a call, by the contract", "distortion_table", "proofs/Calls", ["Called"]),
     ("a call, by the contract of `lens_turn`", "lens_c", "proofs/Laws", ["Turned"]),
     ("what firmware holds", "turn_bytes", "specs/Calls", ["HeldBytes", "bytes-plan", "bytes-state", "bytes-said"]),
-    ("our table's plan", "table_plans", "specs/Tables", ["Engine", "engine-of", "Border", "corners-twice", "opens-for", "sweep-by",
+    ("our table's plan", "table_plans", "specs/Tables", ["Engine", "engine-of", "Border", "corners-once", "opens-for", "sweep-by",
                                                   "table-by", "sweep-of", "f32-table"]),
     ("a cell", "cell", "specs/Cell", ["cell-point", "f32", "of-pixel", "cell-by"]),
     ("the border", "border", "specs/Border", ["before", "outside", "pixel", "pairs", "top-and-bottom", "left-and-right", "border",

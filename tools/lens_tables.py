@@ -8,8 +8,8 @@ A camera is a pair (model's number, parameters). A table is a list of 2 * width 
 each the bit pattern of an f32; the pixel of cell (u, v) takes two places from 2 * (v * width + u) on.
 Four numbers of a box stand as lower x, lower y, upper x, upper y.
 
-`distort_table` is the Rust's function once more, in one go and without units. The turns don't use it;
-the self-test of make_table_vectors.py holds the two against each other.
+`distort_table` is the Rust's function once more, in one go, without units and with each corner twice. The
+turns don't use it; the self-test of make_table_vectors.py holds the two against each other.
 """
 import functools
 import math
@@ -29,8 +29,9 @@ FINISHED, RUNNING, REFUSED = "finished", "running", "refused"
 
 @functools.cache
 def samples(w, h):
-    """The border's pixels in the order of the Rust's two loops. Nothing else here or in the scripts that make vectors
-    says which they are or how many."""
+    """The border's pixels in the order of the Rust's two loops, of which the second leaves out its first and last pass: the
+    corners, which the first has met. Nothing else here or in the scripts that make vectors says which they are or how
+    many."""
     v_top = -0.5
     v_bottom = float(h) - 0.5
     u_left = -0.5
@@ -40,7 +41,7 @@ def samples(w, h):
         u = float(i) - 0.5
         found.append((u, v_top))
         found.append((u, v_bottom))
-    for i in range(h + 1):
+    for i in range(1, h):
         v = float(i) - 0.5
         found.append((u_left, v))
         found.append((u_right, v))
@@ -281,17 +282,22 @@ def turn(job, table, allowance):
 # ---- the Rust's function in one go
 
 
+def rust_samples(w, h):
+    """Its border, which has each corner twice."""
+    found = []
+    for i in range(0, w + 1):
+        found += [(i - 0.5, -0.5), (i - 0.5, h - 0.5)]
+    for i in range(0, h + 1):
+        found += [(-0.5, i - 0.5), (w - 0.5, i - 0.5)]
+    return found
+
+
 def distort_table(camera, w, h):
     """region and table as distortion_table.rs has them, top to bottom, or the number of whatever comes first that is
     refused. Written apart from the units above."""
     model, params = camera
     region = None
-    pixels = []
-    for i in range(0, w + 1):
-        pixels += [(i - 0.5, -0.5), (i - 0.5, h - 0.5)]
-    for i in range(0, h + 1):
-        pixels += [(-0.5, i - 0.5), (w - 0.5, i - 0.5)]
-    for u, v in pixels:
+    for u, v in rust_samples(w, h):
         number, given = answer(model, UNDISTORT, params, u, v)
         if number:
             return number, None, None

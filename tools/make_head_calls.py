@@ -24,8 +24,8 @@ from lens_tables import border, call_refused, camera_refused, fresh, samples, si
 from make_leaf_vectors import Splitmix
 from make_table_lookups import BOX, lookup
 from make_table_lookups import LISTED as LISTED_CELLS
-from make_table_vectors import BRINK, HALF_EUCM, LISTED, LISTING, OWN_REFUSALS, UNSETTLED, UNSETTLED_THEN_REFUSED
-from make_table_vectors import first_unsettled, sample_at, unsettled_last
+from make_table_vectors import BRINK, FLAT_UNSETTLED_LAST, HALF_EUCM, LISTED, LISTING, OWN_REFUSALS, UNSETTLED
+from make_table_vectors import UNSETTLED_THEN_REFUSED, first_unsettled, sample_at, unsettled_last
 
 FOLDER = pathlib.Path(__file__).resolve().parent.parent / "crates" / "test_head_calls"
 FIELDS, LINE = 12, 204
@@ -57,9 +57,13 @@ def widened(bits32):
     return struct.unpack("<f", struct.pack("<I", bits32))[0]
 
 
-def check_word(data):
-    """Of the words before it, the sum from LENSJOB1 on, modulo 2^64 (docs/RULES.md 21.3)."""
-    return (int.from_bytes(b"LENSJOB1", "little") + sum(struct.unpack_from("<25Q", data))) % 2**64
+def summed(text, words):
+    return (int.from_bytes(text, "little") + sum(words)) % 2**64
+
+
+def check_word(data, text=b"LENSJOB2"):
+    """Of the words before it, the sum from the text on, modulo 2^64 (docs/RULES.md 21.3)."""
+    return summed(text, struct.unpack_from("<25Q", data))
 
 
 def mended(data):
@@ -646,8 +650,7 @@ def hostile_turns(head):
             assert head.turn(1, 12, n)[0] == (7 if n != JOB else 1 if words else 0)
     head.heading("turn: a record of before, which had 192 bytes, its own check word at 184; the first 207 bytes of one; 209")
     body = record_bytes(good)[:TALLIES]
-    check = int.from_bytes(b"LENSJOB1", "little") + sum(struct.unpack("<23Q", body))
-    head.lends(body + struct.pack("<Q", check % 2**64))
+    head.lends(body + struct.pack("<Q", summed(b"LENSJOB1", struct.unpack("<23Q", body))))
     assert head.turn(1, 12, 192) == head.turn(0, 12, 192, 32) == (7, ["kept"] * 3)
     head.lends(record_bytes(good))
     assert head.turn(1, 12, JOB - 1) == head.turn(1, 12, JOB + 1) == (7, ["kept"] * 3)
@@ -758,6 +761,33 @@ def damaged_jobs(head):
         head.heading(f"a job at {units} units with each of its {8 * JOB} bits flipped in turn; then the job itself")
         assert set(head.flips(ALL, 12)) == {1, 4, 6, 7, 13}
         assert head.turn(ALL, 12)[0] == 0
+
+
+# The rules' table as the release before built it: fourteen samples, each corner twice, of twenty units. Units done, the
+# edges, the region.
+BEFORE_P11 = (
+    (0, (0.0,) * 4, (0.0,) * 4),
+    (5, (-0.5, -0.5, 1.5, 1.5), (0.0,) * 4),
+    (10, EDGES, (0.0,) * 4),
+    (14, EDGES, REGION),
+    (17, EDGES, REGION),
+    (20, EDGES, REGION),
+)
+
+
+def jobs_of_before(head):
+    """Jobs whose sweep was another, and whose check word starts from another text: none is gone on with. With the check
+    word of now, those of 0, 5 and 14 units would be taken: their units are some of ours, by number."""
+    for done, edges, region in BEFORE_P11:
+        head.refill()
+        head.heading(f"turn: the rules' table after {done} units of the release before, check word LENSJOB1; then LENSJOB2")
+        for strict in (False, True):
+            data = record_bytes(record(done=done, edges=edges, region=region, strict=strict))
+            head.lends(data[:CHECK] + struct.pack("<Q", check_word(data, b"LENSJOB1")))
+            for allowance in (0, 1, ALL, MAX64):
+                assert head.turn(allowance, 12) == (13, ["kept"] * 3)
+            head.lends(data)
+            assert head.turn(1, 12)[0] == (0 if done in (0, 5, 14) else 13)
 
 
 def wrong_check_words(head):
@@ -975,6 +1005,12 @@ def builds(head):
         first = in_turns(head, camera, 5, 4, [MAX64])
         for allowances in ([1], [9], [0, 3, 20, 1]):
             assert in_turns(head, camera, 5, 4, allowances) == first
+    for w, h in ((2, 2), (2, 7), (7, 2)):
+        head.heading(f"each model, {w} by {h}: all at once, unit by unit, in turns of {border(w, h)}, which do the border first")
+        for camera in CAMERAS:
+            first = in_turns(head, camera, w, h, [MAX64])
+            for allowances in ([1], [border(w, h)]):
+                assert in_turns(head, camera, w, h, allowances) == first
 
 
 # ---- samples that don't settle, and strict jobs
@@ -1029,6 +1065,16 @@ def beside_18(head):
             told, kept = head.turn(ALL, 2 * w * h)
             said = said_by(kept[2])
             assert (told, said[1], said[4], said[5]) == owed
+    for model, w, h, params in FLAT_UNSETTLED_LAST:
+        words = f"sample {border(w, h)}, the last, is the first that doesn't settle, and the increment across is 0; then strict"
+        head.heading(f"{NAMES[model]}, {w} by {h}: {words}")
+        for mark, owed in ((0, 8), (1, 18)):
+            for allowances in ((ALL,), (1,) * border(w, h)):
+                started(head, (model, tuple(params)), w, h, mark)
+                for allowance in allowances:
+                    told, kept = head.turn(allowance, 2 * w * h, stay=1)
+                said = said_by(kept[2])
+                assert (told, said[0], said[1], *said[4:]) == (owed, 2, border(w, h) - 1, 0, 0)
     for model in (KB, BC):
         before_the_region(head, *unsettled_last(model))
 
@@ -1111,6 +1157,7 @@ def written():
         impossible_records,
         several_faults_of_a_turn,
         damaged_jobs,
+        jobs_of_before,
         wrong_check_words,
         random_records,
         hostile_jobs,
@@ -1151,13 +1198,13 @@ def self_test():
     number, made = job_new_owed(AFFINE, lens, 3, 2, 0, bytes(JOB))
     body = bytes(8) + lens + bytes(64) + bytes([3, 0, 0, 0, 2, 0, 0, 0]) + bytes(88)
     # 2 is 4000000000000000, 4 is 4010000000000000, 1 is 3ff0000000000000; the size is 200000003
-    check = 0x31424F4A534E454C + 0x4000000000000000 + 0x4010000000000000 + 0x3FF0000000000000 + 0x200000003
+    check = 0x32424F4A534E454C + 0x4000000000000000 + 0x4010000000000000 + 0x3FF0000000000000 + 0x200000003
     assert number == 0 and made == body + check.to_bytes(8, "little")
     number, strict = job_new_owed(AFFINE, lens, 3, 2, 1, bytes(JOB))
     assert number == 0 and strict == body[:192] + b"\1" + bytes(7) + (check + 1).to_bytes(8, "little")
     assert job_new_owed(AFFINE, lens, 3, 2, 2, b"1" * JOB) == (13, b"1" * JOB)
     assert job_new_owed(AFFINE, lens, 3, 2, 2, b"")[0] == 7
-    assert check_word(bytes(200)) == 0x31424F4A534E454C and check_word(b"\xff" * 200) == 0x31424F4A534E454C - 25
+    assert check_word(bytes(200)) == 0x32424F4A534E454C and check_word(b"\xff" * 200) == 0x32424F4A534E454C - 25
     number, after, cells, said = turn_owed(made, [BEFORE] * 12, 1, bytes(ANSWER))
     assert (number, cells, said) == (0, [BEFORE] * 12, struct.pack("<6Q", 0, 1, T, 0, 0, 0))
     assert after[120:152] == doubles(-0.75, -0.125, -0.75, -0.125) and after[152:200] == bytes(48)

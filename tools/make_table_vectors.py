@@ -58,6 +58,7 @@ from lens_tables import (
     increments,
     narrow,
     region_of,
+    rust_samples,
     samples,
     tallies,
     total,
@@ -212,13 +213,15 @@ def by_sevens():
 
 
 def narrow_and_flat():
-    """The least width and the least height. 257 doesn't fit in a byte."""
+    """The least width and the least height, alone and both: sides of one sample between the corners. 257 doesn't fit in a
+    byte."""
     found = []
     for model, params in ORDINARY:
+        found += by((model, 2, 2, [9.0, 8.0, 0.25, 0.75] + params[4:]), 1, border(2, 2), LARGE)
         found += by((model, 2, 7, [9.0, 8.0, 0.25, 3.5] + params[4:]), 1)
         found += by((model, 7, 2, [9.0, -8.0, 3.5, 0.25] + params[4:]), 4)
     found += by((AFFINE, 257, 2, [200.0, 201.0, 127.0, 0.5]), 300)
-    return found + by((KB, 2, 257, [200.0, 201.0, 0.5, 127.0] + KB_EXAMPLE), 521)
+    return found + by((KB, 2, 257, [200.0, 201.0, 0.5, 127.0] + KB_EXAMPLE), border(2, 257) - 1)
 
 
 # kb lenses whose corners lie at 87.0, 87.4 and 86.7 degrees off the axis: between 3/2 and 99/64
@@ -302,7 +305,14 @@ REFUSED_SAMPLES = [
     (11, 2, (BC, 3, 3, [1e-51, 1e-51, -1.0, -1.0] + [0.0] * 8)),  # the sixth power of a radius overflows
 ]
 
-# That a last sample is refused can't be asked here: it is a corner, and unit 2w + 2 has tried that pixel.
+# All points have one x, so the region is refused with 8; and of all samples only the last hasn't settled, which a strict job
+# tells first. An f64 as large as these u has its neighbour 2^-20 away: the last sample is off by two such steps, the others
+# by one at most. Found by a search.
+FLAT_UNSETTLED_LAST = [
+    (BC, 3, 2, [4500000.0, 0.0103, -2.711e16, 0.5, 3.68e-12] + [0.0] * 7),
+    (BC, 3, 2, [4700000.0, 0.00949, -2.748e16, 0.5, 1.36e-15] + [0.0] * 7),
+]
+
 REFUSED_REGIONS = [
     (8, border(3, 2), (AFFINE, 3, 2, [1.0, 1.0, 1e300, 0.0])),  # no width
     (8, border(3, 2), (AFFINE, 3, 2, [1.0, 1.0, 0.0, -1e300])),  # no height
@@ -315,7 +325,11 @@ REFUSED_REGIONS = [
     (8, border(3, 2), (EUCM, 3, 2, [1.0, 1.0, 1e17, 0.0, 0.0, 1.0])),
     (8, border(3, 2), (KB, 3, 2, [1e21, 1e21, 1e17, 0.0] + KB_EXAMPLE)),
     (8, border(3, 2), (BC, 3, 2, [1e21, 1e21, 0.0, 1e17] + BC_EXAMPLE)),
+    *((8, border(3, 2), case) for case in FLAT_UNSETTLED_LAST),
 ]
+
+# Those of kb and bc whose samples have all settled: a strict job is refused there as any other.
+STRICT_REGIONS = [ending for ending in REFUSED_REGIONS if ending[2][0] in (KB, BC) and ending[2] not in FLAT_UNSETTLED_LAST]
 
 # (upper - lower)/6 rounds up, and six times that overflows: an infinite point between finite edges
 BRINK = float.fromhex("0x1.c000000000001p-1021")
@@ -429,6 +443,7 @@ def unsettled_last(model):
 def strict_endings():
     """Where strict jobs end that meet a sample whose flag says no, and those that don't come to it."""
     found = [(18, first_unsettled(pixels, case), case) for pixels, case in UNSETTLED]
+    found += [(18, border(*case[1:3]), case) for case in FLAT_UNSETTLED_LAST]
     return found + OWN_REFUSALS + [(18, first, case) for _, _, first, case in UNSETTLED_THEN_REFUSED]
 
 
@@ -512,7 +527,7 @@ def kinds():
     yield "zeros as edges", each_way(ZERO_EDGES)
     yield "halfway between two f32s", [q for case in TIES for q in by(case, 4)]
     yield "small f32s", [q for case in SMALL_CELLS for q in by(case, LARGE)]
-    yield "as many updates as can be", [q for case in MOST_UPDATES for q in by(case, 1, 12, LARGE)]
+    yield "as many updates as can be", [q for case in MOST_UPDATES for q in by(case, 1, border(2, 2), LARGE)]
     yield "unsettled samples", unsettled()
     for model, name in enumerate(MODELS):
         yield f"{name}, wild", by_ending(Splitmix(70 + model), model, 3, 6, 3000)
@@ -522,7 +537,7 @@ def strict_kinds():
     """The same of strict jobs. Without an unsettled sample they are like the others."""
     yield "strict, settled", [(model, 5, 4, 7, [9.0, 8.0, 2.0, 1.5] + params[4:]) for model, params in ORDINARY]
     yield "strict, refused at a sample", each_way(strict_endings())
-    yield "strict, refused at unit B", each_way(REFUSED_REGIONS[-2:])
+    yield "strict, refused at unit B", each_way(STRICT_REGIONS)
     for model in (KB, BC):
         yield f"{MODELS[model]}, wild, strict", by_ending(Splitmix(74 + model), model, 3, 6, 2000, True)
 
@@ -652,7 +667,8 @@ def summary(said, count, bad):
     wanted = [(name, *ending) for name in MODELS for ending in everywhere]
     wanted += [("kb", 10, "unit 1"), ("kb", 10, "a sample"), ("affine", 11, "unit B")]
     wanted += [("eucm", 16, "unit 1"), ("eucm", 16, "a sample")]
-    wanted += [(name, 18, place) for name in ("kb", "bc") for place in ("unit 1", "a sample")]
+    wanted += [("eucm", 16, "unit B")]
+    wanted += [(name, 18, place) for name in ("kb", "bc") for place in ("unit 1", "a sample", "unit B")]
     wanted += [(name, *ending) for name in MODELS[1:] for ending in ((11, "cell 1"), (12, "cell 1"), (12, "a cell"))]
     for ending in wanted:
         assert said[("ending", *ending)], ending
@@ -674,10 +690,15 @@ cell 0 1 c0000000 40200000
 cell 1 1 3f800000 40200000
 cell 2 1 40800000 40200000"""
 
-# its fourteen border samples, written out from the rule
+# its ten border samples, written out from the rule, and those of the two sizes that are smallest beside it
 LISTED_BORDER = [
     (-0.5, -0.5), (-0.5, 1.5), (0.5, -0.5), (0.5, 1.5), (1.5, -0.5), (1.5, 1.5), (2.5, -0.5), (2.5, 1.5),
-    (-0.5, -0.5), (2.5, -0.5), (-0.5, 0.5), (2.5, 0.5), (-0.5, 1.5), (2.5, 1.5),
+    (-0.5, 0.5), (2.5, 0.5),
+]  # fmt: skip
+BORDER_2_2 = [(-0.5, -0.5), (-0.5, 1.5), (0.5, -0.5), (0.5, 1.5), (1.5, -0.5), (1.5, 1.5), (-0.5, 0.5), (1.5, 0.5)]
+BORDER_2_3 = [
+    (-0.5, -0.5), (-0.5, 2.5), (0.5, -0.5), (0.5, 2.5), (1.5, -0.5), (1.5, 2.5),
+    (-0.5, 0.5), (1.5, 0.5), (-0.5, 1.5), (1.5, 1.5),
 ]  # fmt: skip
 
 ENDINGS = REFUSED_SAMPLES + REFUSED_REGIONS + REFUSED_CELLS + ZERO_EDGES
@@ -704,7 +725,7 @@ def started(case, strict=False):
 
 def test_listing():
     job, table = started(LISTED)
-    assert (border(3, 2), total(3, 2)) == (14, 20) and samples(3, 2) == LISTED_BORDER
+    assert (border(3, 2), total(3, 2)) == (10, 16) and samples(3, 2) == LISTED_BORDER
     end = Job(job.camera, 3, 2, total(3, 2), (-0.5, -0.5, 2.5, 1.5), (-2.0, -1.5, 4.0, 2.5), 0)
     assert turn(job, table, 100) == (FINISHED, 0, end)
     assert increments((-2.0, -1.5, 4.0, 2.5), 3, 2) == (3.0, 4.0)
@@ -713,6 +734,17 @@ def test_listing():
     lines += [f"cell {i % 3} {i // 3} {table[2 * i]:08x} {table[2 * i + 1]:08x}" for i in range(6)]
     assert lines == LISTING.split("\n")
     print("docs/RULES.md's table: as printed there")
+
+
+def test_border():
+    """The Rust's border has each corner twice: ours is that one, each pixel where it is met first."""
+    assert samples(2, 2) == BORDER_2_2 and samples(2, 3) == BORDER_2_3
+    sizes = [(w, h) for w in range(2, 9) for h in range(2, 9)] + [(2, MOST), (MOST, 2), (MOST, MOST)]
+    for w, h in sizes:
+        assert samples(w, h) == list(dict.fromkeys(rust_samples(w, h))) and border(w, h) == 2 * w + 2 * h
+        corners = [(u, v) for u in (-0.5, w - 0.5) for v in (-0.5, h - 0.5)]
+        assert Counter(rust_samples(w, h)) - Counter(samples(w, h)) == Counter(corners)
+    print("borders:", len(sizes))
 
 
 def test_allowances():
@@ -774,7 +806,7 @@ def test_endings():
     often it is tried; and an allowance that ends ahead of it doesn't meet it."""
     tried = [(*ending, False) for ending in ENDINGS + OWN_REFUSALS]
     tried += [(number, refused, case, False) for number, refused, _, case in UNSETTLED_THEN_REFUSED]
-    tried += [(*ending, True) for ending in strict_endings() + REFUSED_REGIONS[-2:]]
+    tried += [(*ending, True) for ending in strict_endings() + STRICT_REGIONS]
     for number, refused, case, strict in tried:
         job, table = started(case, strict)
         assert turn(job, table, refused - 1)[:2] == (RUNNING, 0), case
@@ -802,6 +834,8 @@ def test_unsettled():
     for number, refused, first, case in UNSETTLED_THEN_REFUSED:
         _, _, end = turn(*started(case), LARGE)
         assert (end.done, end.unsettled, end.first) == (refused - 1, 1, first), case
+    for model, w, h, params in FLAT_UNSETTLED_LAST:
+        assert flags((model, tuple(params)), w, h) == [True] * (border(w, h) - 1) + [False]
     # by hand: three flags that say no of five
     assert tallies([True, False, True, False, False]) == (3, 2) and tallies([True]) == tallies([]) == (0, 0)
     print("unsettled samples:", len(UNSETTLED) + len(UNSETTLED_THEN_REFUSED))
@@ -978,14 +1012,14 @@ def test_carried():
     # No record brings a negative increment to unit B, as its sample always ends up between the edges.
     inside_out = replace(job, done=before_last, edges=(20.0, 20.0, -20.0, -20.0))
     assert turn(inside_out, table, 1) == (REFUSED, 8, inside_out)
-    assert extended((20.0, 20.0, 10.0, 10.0), 2.5, 1.5) == (2.5, 1.5, 10.0, 10.0)
-    assert region_of((2.5, 1.5, 10.0, 10.0)) == (-1.25, -2.75, 13.75, 14.25)
+    assert extended((20.0, 20.0, 10.0, 10.0), 2.5, 0.5) == (2.5, 0.5, 10.0, 10.0)
+    assert region_of((2.5, 0.5, 10.0, 10.0)) == (-1.25, -4.25, 13.75, 14.75)
     # the last sample of a strict job: its flag says no, and the edges alone would give 8
     strict, cells = started(unsettled_last(KB), True)
     here = replace(strict, done=before_last, edges=(9.0, 9.0, -9.0, -9.0))
     assert turn(here, cells, 1) == (REFUSED, 18, here)
     assert turn(replace(here, strict=False), cells, 1)[1] == 8
-    # the corner is refused 10, and the edges alone would give 8 or 11
+    # the last sample is refused 10, and the edges alone would give 8 or 11
     for edges in (ZEROS, (-1e308, -1e308, 1e308, 1e308)):
         steep = Job((KB, tuple(plain(KB))), 3, 2, before_last, edges)
         assert turn(steep, table, 1) == (REFUSED, 10, steep)
@@ -1015,10 +1049,10 @@ def test_lines():
     """Bad lines are bad, and the last of them wouldn't be with its end. And one answer in full."""
     bad = bad_lines()
     assert all(read(line + "\n") is None for line in bad[:-1]) and read(bad[-1]) is None and read(bad[-1] + "\n")
-    line = question_line(AFFINE, 3, 2, 19, patterns(LISTED[3])) + "\n"
+    line = question_line(AFFINE, 3, 2, 15, patterns(LISTED[3])) + "\n"
     assert len(line) == LINE
     lines = reply(line)
-    assert lines[:3] == ["fresh", "running\t19\t0\t0\t0", "finished\t20\t0\t0\t0"] and len(lines) == 6
+    assert lines[:3] == ["fresh", "running\t15\t0\t0\t0", "finished\t16\t0\t0\t0"] and len(lines) == 6
     assert lines[3] == "edges\tbfe0000000000000\tbfe0000000000000\t4004000000000000\t3ff8000000000000"
     listed = LISTING.split("\n")
     assert lines[4].replace("\t", " ") == listed[1]
@@ -1027,7 +1061,7 @@ def test_lines():
     zeros, untouched = "\t0000000000000000" * 4, "table" + "\t3f000000" * 12
     assert reply(line) == ["fresh", "running\t0\t0\t0\t0", "edges" + zeros, "region" + zeros, untouched]
     line = question_line(AFFINE, 3, 2, 1000, patterns([1.0, 1.0, 1e300, 0.0])) + "\n"
-    assert reply(line)[1] == "refused\t8\t13\t0\t0\t0" and reply(line)[-1] == untouched
+    assert reply(line)[1] == "refused\t8\t9\t0\t0\t0" and reply(line)[-1] == untouched
     line = question_line(AFFINE, 1, 2, 0, patterns(LISTED[3])) + "\n"
     assert reply(line) == ["refused\t6"]
     print("lines: as said")
@@ -1035,6 +1069,7 @@ def test_lines():
 
 def self_test():
     test_listing()
+    test_border()
     test_allowances()
     test_by_hand()
     test_endings()

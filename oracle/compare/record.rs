@@ -7,9 +7,11 @@ pub const BYTES: usize = 208;
 /// Where count and first of the samples that haven't settled stand, and the strict mark.
 pub const TALLIES: usize = 184;
 pub const MARK: usize = 192;
-/// Where the check word stands, and what it is for words that are all 0: "LENSJOB1".
+/// Where the check word stands, and what it is for words that are all 0: "LENSJOB2". Before the corners were done once it was
+/// "LENSJOB1".
 const CHECK: usize = 200;
-const CHECK_OF_ZEROS: u64 = 0x31424f4a534e454c;
+const CHECK_OF_ZEROS: u64 = 0x32424f4a534e454c;
+const CHECK_BEFORE: u64 = 0x31424f4a534e454c;
 /// Where the region stands, and its length.
 pub const REGION: usize = 152;
 pub const REGION_BYTES: usize = 32;
@@ -51,6 +53,12 @@ pub fn bytes_of(numbers: &[f64]) -> Vec<u8> {
 /// Puts the right check word behind the others.
 pub fn seal(bytes: &mut [u8]) {
     let check = check_of(bytes);
+    bytes[CHECK..].copy_from_slice(&check.to_le_bytes());
+}
+
+/// Makes of a right check word the one that the release before would have put.
+pub fn seal_as_before(bytes: &mut [u8]) {
+    let check = word(bytes, CHECK).wrapping_sub(CHECK_OF_ZEROS).wrapping_add(CHECK_BEFORE);
     bytes[CHECK..].copy_from_slice(&check.to_le_bytes());
 }
 
@@ -102,7 +110,7 @@ impl Record {
     }
 
     pub fn border(&self) -> u64 {
-        2 * (self.width as u64 + self.height as u64) + 4
+        2 * (self.width as u64 + self.height as u64)
     }
 
     pub fn samples_done(&self) -> u64 {

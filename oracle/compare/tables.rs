@@ -6,6 +6,7 @@ use rust_text::distortion_table::distort_table;
 use rust_text::dyn_camera::{DynCameraF64, Lens};
 use rust_text::{ask, ImageSize, COUNTS};
 use std::cell::RefCell;
+use std::collections::HashSet;
 use std::fmt::Write as _;
 use std::io::Write as _;
 use std::process::{Command, Stdio};
@@ -25,6 +26,7 @@ pub struct Asked {
 /// What the Rust's camera gave for a border sample, and the number of its refusal or 0.
 #[derive(Clone, Copy)]
 pub struct Sample {
+    pixel: [f64; 2],
     pub point: [f64; 2],
     pub updates: u32,
     pub settled: bool,
@@ -85,14 +87,18 @@ impl Lens for Noting {
             _ if !finite(point) => 11,
             _ => 0,
         };
-        self.notes.borrow_mut().samples.push(Sample { point, updates: trace.updates, settled: trace.settled(), number });
+        let sample = Sample { pixel, point, updates: trace.updates, settled: trace.settled(), number };
+        self.notes.borrow_mut().samples.push(sample);
         point
     }
 }
 
 /// A table by the Rust's text, unit by unit. Behind the first unit that is refused it holds whatever the Rust works out there.
 pub struct Built {
+    /// Each pixel once, where the Rust first asks for it.
     pub samples: Vec<Sample>,
+    /// The updates of all that the Rust asks for: it does the corners twice.
+    pub updates_of_rust: u32,
     /// Two a cell, by rows.
     pub cells: Vec<u32>,
     pub region: [f64; 4],
@@ -166,11 +172,15 @@ impl Asked {
         let lens = Noting { model: self.model, params: self.twelve(), notes: notes.clone() };
         let size = ImageSize { width: self.width, height: self.height };
         let table = distort_table(&DynCameraF64 { lens: Box::new(lens), size });
-        let Notes { samples, cell_numbers } = notes.take();
+        let Notes { samples: all, cell_numbers } = notes.take();
+        let updates_of_rust = all.iter().map(|s| s.updates).sum();
+        let mut met = HashSet::new();
+        let samples = all.into_iter().filter(|s| met.insert(s.pixel.map(f64::to_bits))).collect();
         let (lower, upper) = (table.region.try_lower().unwrap(), table.region.try_upper().unwrap());
         let places = (0..self.height).flat_map(|v| (0..self.width).map(move |u| (u, v)));
         let cells = places.flat_map(|(u, v)| table.table.pixel(u, v).0.map(f32::to_bits)).collect();
-        Built { samples, cells, region: [lower.x, lower.y, upper.x, upper.y], increments: table.incr().0, cell_numbers }
+        let region = [lower.x, lower.y, upper.x, upper.y];
+        Built { samples, updates_of_rust, cells, region, increments: table.incr().0, cell_numbers }
     }
 
     /// The whole listing by the Rust's table.

@@ -1,7 +1,7 @@
 // Tables built in turns through C, against the Rust's table: after every turn the job, the whole table and the answer, with
 // the memory beside them, have to be what the units done so far make of them.
 use crate::cases::{valid_camera, Random};
-use crate::judge::handed;
+use crate::judge::{handed, Question};
 use crate::lens;
 use crate::memory::{Lent, STRIP};
 use crate::record::{self, Record};
@@ -45,17 +45,34 @@ pub struct Tally {
     turns_refused: [u64; NUMBERS],
     calls_refused: [u64; NUMBERS],
     taken: u64,
+    /// Sound jobs but for the check word, which is that of the release before.
+    of_before: u64,
     unsettled: Unsettled,
+    corners: Corners,
 }
 
 /// Of the tables that aren't strict, those whose borders are done: where the first sample stands that hasn't settled (none, the
-/// first of all, a later one), in how many the last one hasn't, and all such samples. And strict builds: all, and those finished.
+/// first of all, a later one, the last of all), in how many the last one hasn't, and all such samples. And strict builds: others,
+/// those finished, those that tell 18 where another is refused with 8, and those that tell such a sample's own number.
 #[derive(Default)]
 struct Unsettled {
-    first: [u64; 3],
+    first: [u64; 4],
     last: u64,
     samples: u64,
     strict: [u64; 2],
+    before_8: u64,
+    own_number: u64,
+}
+
+/// Of the same tables: how many there are, and how many of them took updates at a corner. The updates of the Rust's sweeps, of
+/// ours, and those that the four corners take.
+#[derive(Default)]
+struct Corners {
+    borders: u64,
+    taking: u64,
+    rust: u64,
+    ours: u64,
+    corners: u64,
 }
 
 /// What samples found: the edges of their points, zeros before the first, the updates, and of those that haven't settled the
@@ -183,6 +200,21 @@ impl Build {
         self.owed = self.owed.moved(&mut Random(seed));
     }
 
+    /// The job as it is but for the check word, which is the one of the release before: refused with 13, and nothing written.
+    fn of_before(&mut self, allowance: u64) -> Result<(), String> {
+        let right = self.record().bytes();
+        let mut job = right.clone();
+        record::seal_as_before(&mut job);
+        self.ours.job.put(&job);
+        self.owed.job.put(&job);
+        let kept = &mut self.ours;
+        let given = lens::turn(kept.job.lend(), kept.table.lend(), allowance, kept.answer.lend());
+        let judged = self.judged(given, 13, "a job of the release before");
+        self.ours.job.put(&right);
+        self.owed.job.put(&right);
+        judged
+    }
+
     /// A call with wrong lengths, a damaged record or both. Refused, it must write nothing; taken, with an allowance of 0, it
     /// must say what the record does.
     fn hostile(&mut self, r: &mut Random) -> Result<u8, String> {
@@ -298,7 +330,7 @@ fn refused_tables() -> Vec<(usize, Vec<f64>, usize, usize)> {
     ]
 }
 
-/// Tables whose borders have samples that haven't settled: the first, the last, one between, and all, of kb and of bc.
+/// Tables whose borders have samples that haven't settled: the first, one between, the last, and all, of kb and of bc.
 fn unsettled_tables() -> Vec<(usize, Vec<f64>, usize, usize)> {
     vec![
         (2, vec![3.69, 7.16, 1.65, 1.64, 0.02, -0.54, 0.0, 0.0], 3, 2),
@@ -309,21 +341,26 @@ fn unsettled_tables() -> Vec<(usize, Vec<f64>, usize, usize)> {
         (3, vec![2.21, 2.41, 0.69, -0.14, -0.74, -0.37, 0.0, 0.01, -0.23, 0.05, 0.0, 0.0], 3, 2),
         (3, vec![3.68, 6.69, 0.58, 1.13, 0.59, 0.52, 0.0, 0.0, -0.1, -0.49, -0.63, -0.16], 3, 2),
         (3, vec![1.19, 4.82, 0.65, 0.11, 0.66, -0.51, -0.02, -0.04, 0.16, -0.13, 1.0, 0.0], 3, 2),
+        (3, vec![4.81, 4.11, 0.44, -0.41, -0.95, -0.07, -0.04, 0.0, 0.06, 0.0, 0.0, -0.36], 3, 2),
         (3, vec![1.54, 1.54, 0.5, 0.5, -0.85, 0.16, 0.04, 0.07, -0.06, -0.26, 0.33, 0.9], 2, 2),
         (3, vec![12.0, 12.0, 16.0, 12.0, 0.4, -1.2, 0.0, 0.0, -0.2, 0.0, 2.1, 0.0], 32, 24),
     ]
 }
 
-/// The sizes that no printer takes; the first is the Rust's own test.
-fn large_tables(r: &mut Random) -> Vec<Asked> {
+/// The sizes that no printer takes, the first the Rust's own test; two borders whose last sample is the only one that hasn't
+/// settled, of which the second has one x in all its points; and one whose sample 3 hasn't settled and has no point.
+fn fixed_tables(r: &mut Random) -> Vec<Asked> {
     let of = |model: usize, params: &[f64], width: usize, height: usize| Asked { model, params: params.to_vec(), width, height };
     let kb = [1000.0, 1000.0, 320.0, 280.0, 0.1, 0.01, 0.001, 0.0001];
-    let mut large = vec![of(2, &kb, 640, 480), of(2, &kb, 640, 480)];
+    let mut fixed = vec![of(2, &kb, 640, 480), of(2, &kb, 640, 480)];
     for (model, width, height) in [(0, 640, 480), (1, 640, 480), (3, 640, 480), (0, 4096, 2), (3, 2, 4096)] {
         let params = valid_camera(r, model, width as f64, height as f64);
-        large.push(of(model, &params[..COUNTS[model]], width, height));
+        fixed.push(of(model, &params[..COUNTS[model]], width, height));
     }
-    large
+    fixed.push(of(2, &[7.7, 6.7, -0.2, 0.5, -0.2, -1.2, 0.0, 0.0], 3, 2));
+    fixed.push(of(3, &[4500000.0, 0.0103, -2.711e16, 0.5, 3.68e-12, 0.0, 0.0, 0.0, 0.0, 0.0, 0.0, 0.0], 3, 2));
+    fixed.push(of(2, &[2.31, 6.94, 1.19, -0.33, -1.7, 1.2, 0.0, 0.2], 3, 2));
+    fixed
 }
 
 fn asked(r: &mut Random) -> Asked {
@@ -377,6 +414,10 @@ fn in_turns(r: &mut Random, build: &mut Build, tally: &mut Tally) -> Result<(), 
                 number => tally.calls_refused[number as usize] += 1,
             }
         }
+        if r.one_in(16) {
+            build.of_before([0, 1, 20, u64::MAX][r.below(4)])?;
+            tally.of_before += 1;
+        }
         let ended = build.done == build.end.0;
         let allowance = if ended { [0, 1, 2, u64::MAX][r.below(4)] } else { allowance(r, style, build) };
         build.junk_answer(r);
@@ -410,26 +451,67 @@ fn build(oracle: &mut Oracle, asked: Asked, strict: bool, tally: &mut Tally) -> 
 }
 
 impl Unsettled {
-    /// Gives whether there is a sample that hasn't settled.
-    fn note(&mut self, build: &Build) -> bool {
+    fn note(&mut self, build: &Build) {
         let border = build.built.samples.len();
         let swept = build.swept[build.done.min(border)];
         if build.done >= border {
-            self.first[swept.first.min(2) as usize] += 1;
+            let last_of_all = swept.first as usize == border;
+            self.first[if last_of_all { 3 } else { swept.first.min(2) as usize }] += 1;
             self.last += !build.built.samples[border - 1].settled as u64;
             self.samples += swept.unsettled as u64;
         }
-        swept.unsettled > 0
+    }
+
+    /// Of a strict build, and of the same that isn't.
+    fn note_strict(&mut self, strict: &Build, other: &Build) {
+        let (done, number) = strict.end;
+        self.strict[(number == 0) as usize] += 1;
+        self.before_8 += ([other.end.1, number] == [8, 18]) as u64;
+        let refused = strict.built.samples.get(done);
+        self.own_number += refused.map_or(false, |s| !s.settled && s.number != 0) as u64;
     }
 }
 
-/// A table that isn't strict, and the same strict if a sample hasn't settled, or now and then. Gives the first if it is finished.
+/// The updates of undistort at the four corners, by the Rust asked anew.
+fn corner_updates(asked: &Asked) -> u64 {
+    let (right, bottom) = (asked.width as f64 - 0.5, asked.height as f64 - 0.5);
+    let corners = [[-0.5, -0.5], [-0.5, bottom], [right, -0.5], [right, bottom]];
+    corners.iter().map(|&pixel| Question::right(asked.model, 1, asked.twelve(), pixel).traced().1.updates as u64).sum()
+}
+
+impl Corners {
+    /// Tells a difference: the Rust's sweep takes exactly the corners' updates more than ours, of which the job tells.
+    fn note(&mut self, build: &Build) -> Result<(), String> {
+        if build.done < build.built.samples.len() {
+            return Ok(());
+        }
+        let ours = Record::read(build.ours.job.held()).updates as u64;
+        let (rust, corners) = (build.built.updates_of_rust as u64, corner_updates(&build.asked));
+        self.borders += 1;
+        self.taking += (corners > 0) as u64;
+        self.rust += rust;
+        self.ours += ours;
+        self.corners += corners;
+        match rust == ours + corners {
+            true => Ok(()),
+            false => Err(format!("{:?}: the Rust's sweep takes {}, ours {}, corners {}", build.asked.text(), rust, ours, corners)),
+        }
+    }
+}
+
+/// A table that isn't strict, and the same strict if a sample hasn't settled, a refused one among them, or now and then. Gives the
+/// first if it is finished.
 fn both(oracle: &mut Oracle, asked: Asked, tally: &mut Tally) -> Option<Table> {
     let size = [asked.width as u32, asked.height as u32];
     let first = build(oracle, asked.clone(), false, tally)?;
-    if tally.unsettled.note(&first) || oracle.random.one_in(4) {
+    if let Err(what) = tally.corners.note(&first) {
+        oracle.differs(what);
+    }
+    tally.unsettled.note(&first);
+    let unsettled = first.built.samples.iter().take(first.end.0 + 1).any(|s| !s.settled);
+    if unsettled || oracle.random.one_in(4) {
         if let Some(strict) = build(oracle, asked, true, tally) {
-            tally.unsettled.strict[(strict.end.1 == 0) as usize] += 1;
+            tally.unsettled.note_strict(&strict, &first);
         }
     }
     if first.end.1 != 0 {
@@ -442,7 +524,7 @@ impl Oracle {
     /// Builds tables, and hands each that is finished to `then`.
     pub fn turns(&mut self, tables: u64, mut then: impl FnMut(&mut Oracle, Table)) {
         let mut tally = Tally::default();
-        for asked in large_tables(&mut self.random) {
+        for asked in fixed_tables(&mut self.random) {
             if let Some(table) = both(self, asked, &mut tally) {
                 then(self, table);
             }
@@ -464,14 +546,24 @@ impl Oracle {
             listed(&tally.units_refused)
         );
         println!("turns before any unit: refused {}; damaged records taken {}", listed(&tally.calls_refused), tally.taken);
-        let Unsettled { first, last, samples, strict } = &tally.unsettled;
+        let Unsettled { first, last, samples, strict, before_8, own_number } = &tally.unsettled;
         println!(
-            "borders done, not strict: all settled {}, first unsettled sample 1: {}, a later one: {}; the last one unsettled {}; such \
-             samples {}; strict builds: finished {}, others {}",
-            first[0], first[1], first[2], last, samples, strict[1], strict[0]
+            "borders done, not strict: all settled {}, first unsettled sample 1: {}, a later one: {}, the last: {}; the last one \
+             unsettled {}; such samples {}; strict builds: finished {}, others {}; 18 where others are refused 8: {}, an unsettled \
+             sample's own number: {}",
+            first[0], first[1], first[2], first[3], last, samples, strict[1], strict[0], before_8, own_number
         );
-        self.met("first unsettled sample: none, 1, a later one", first, &[0, 1, 2]);
+        let Corners { borders, taking, rust, ours, corners } = &tally.corners;
+        println!(
+            "corners once: {} borders, {} with updates at a corner; updates of the Rust's sweeps {}, of ours {}, of the corners {}",
+            borders, taking, rust, ours, corners
+        );
+        println!("jobs of the release before, refused 13: {}", tally.of_before);
+        self.met("corners with updates, and without", &[*taking, borders - taking], &[0, 1]);
+        self.met("jobs of the release before", &[tally.of_before], &[0]);
+        self.met("first unsettled sample: none, 1, a later one, the last", first, &[0, 1, 2, 3]);
         self.met("the last sample unsettled", &[0, *last], &[1]);
+        self.met("18 before the region's 8, its own number before 18", &[*before_8, *own_number], &[0, 1]);
         self.met("strict builds", strict, &[0, 1]);
         self.met("turns refused at a unit", &tally.turns_refused, &[8, 10, 11, 12, 16, 18]);
         self.met("turns before any unit", &tally.calls_refused, &[1, 4, 5, 6, 7, 13]);

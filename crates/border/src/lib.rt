@@ -32,20 +32,21 @@ fn along(n: usize) -> f64
 pub fn samples(width: u32, height: u32) -> usize
     ensures { λ r. ⌜ r ≡ samples width height ⌝ }
 {
-    2 * (width as usize) + 2 * (height as usize) + 4
+    2 * (width as usize) + 2 * (height as usize)
 }
 
-// The pixel of the n-th border sample: of the top and the bottom first, and then of the left and the right. Behind the
-// last sample the corner stands for all, so that every number has a pixel, though only samples are asked about. Halves
-// are compared, as twice a width may be no usize.
+// The pixel of the n-th border sample: of the top and the bottom first, and then of the left and the right between
+// their corners. Behind the last sample the corner stands for all, so that every number has a pixel, though only
+// samples are asked about. Halves are compared, as twice a width may be no usize.
 pub fn border_pixel(width: usize, height: usize, n: usize) -> Pixel
     ensures { λ r. ⌜ r ≡ border-at width height n ⌝ }
 {
     if n / 2 <= width {
         return Pixel(along(n), across(n, height));
     }
-    let m = n - 2 * width - 2;
-    if m / 2 <= height {
+    // from the left's first corner on, which is left out
+    let m = n - 2 * width;
+    if m / 2 < height {
         return Pixel(across(m, width), along(m));
     }
     Pixel(-0.5, -0.5)

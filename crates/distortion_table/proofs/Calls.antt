@@ -99,7 +99,7 @@ module _ (camera : Camera) (width height : ℕ) (strict : Bool) where
     start-admitted = plans.fresh-admitted table (f32-sound camera width height strict) opens cells long
 
     pub answer-is : (a : ℕ) → turn-of (fresh-job camera width height strict) cells a ≡ answer (fresh-job camera width height strict) (turn (next table) a (fresh cells))
-    answer-is a = ap (answer (fresh-job camera width height strict)) (plans.answer-is table (f32-sound camera width height strict) opens a (fresh cells) (plans.start-good table (f32-sound camera width height strict) cells long))
+    answer-is a = ap (answer (fresh-job camera width height strict)) (plans.answer-is table (f32-sound camera width height strict) opens a (fresh cells) (plans.start-good table (f32-sound camera width height strict) opens cells long))
 
 -- ---- two things held
 

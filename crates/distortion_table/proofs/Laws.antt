@@ -1,8 +1,8 @@
 -- What a caller may rely on, of the definitions of specs/ and of the contracts of src/. Assumes nothing.
 use mathlib.Core.Path.{_≡_, refl, sym, ap, ap₂, _∙_, subst}
-use mathlib.Core.List.{List, _∷_}
+use mathlib.Core.List.{List, [], _∷_, _++_}
 use mathlib.Core.Bool.{Bool, true, false}
-use Prim.Native.Nat.{ℕ, _*_, _≤_, min}
+use Prim.Native.Nat.{ℕ, _+_, _*_, _≤_, _<_, min}
 use native.Mathlib.Omega.{arith}
 use denote.Ref.{now}
 use lib.Ieee.{Float}
@@ -13,17 +13,20 @@ use Rattle.lens.proofs.Laws.{number-one-to-one}
 use Rattle.camera.specs.Camera.{limit}
 use Rattle.camera.specs.declared.Camera.{Camera}
 use Rattle.camera.proofs.Laws.{updates-limit-judged}
-use Rattle.border.specs.Border.{samples, all-units, border-at}
-use Rattle.turns.specs.Turns.{Said, running, Turn, turn, total}
+use Rattle.border.specs.Border.{samples, all-units, border-at, samples-twice}
+use Rattle.turns.specs.Turns.{Said, refused, running, Turn, turn, total}
 use Rattle.plans.specs.Built.{sum-below, settled-at, doable, says-at, Built}
 use Rattle.plans.specs.Calls.{judged, said-number, allowed, Build}
 use Rattle.plans.specs.Plan.{Plan, State, one-no, fresh, next}
+use Rattle.plans.specs.Thinned.{SameTable}
 use Rattle.plans.proofs.Ends as ends
 use Rattle.plans.proofs.Laws as plans
+use Rattle.plans.proofs.Refusals.{doable-most, refused-told, told-refused}
 use Rattle.plans.proofs.Same.{built-same}
-use Rattle.table_plans.specs.Tables.{sweep-of, f32-table, one-of, unit-numbers}
+use Rattle.table_plans.specs.Tables.{sweep-of, f32-table, f32-table-before, one-of, unit-numbers}
 use Rattle.table_plans.proofs.Numbers.{said-known, turn-known}
-use Rattle.table_plans.proofs.Sound.{opened, f32-sound}
+use Rattle.table_plans.proofs.Laws as tables
+use Rattle.table_plans.proofs.Sound.{opened, f32-sound, before-sound}
 use Rattle.job.specs.Job.{fresh-job}
 use Rattle.job.specs.Job as job
 use Rattle.job.specs.declared.Job.{Job}
@@ -152,6 +155,58 @@ module _
             plans.built-says (Held Float) (λ h. Unit {0}) held-plan held-state Called turn-serves (first camera width height strict table) tt
             (f32-sound camera width height strict) table refl allowances last calls takes
 
+    mine :
+        (ls : List ℕ) (last : Held Float) → Build (Held Float) Called ls (first camera width height strict table) last
+        → Built (f32-table camera width height strict) table (total ls) (held-state last)
+    mine ls last calls =
+        subst (λ (A : ℕ). Built (f32-table camera width height strict) table A (held-state last)) (build-allowed ls last calls)
+        (built-in-turns camera width height strict table ls last calls .built)
+
+    -- ---- corners once
+
+    -- a turn of n units of the definition with each corner twice
+    abbrev pub before : ℕ → Turn (State Float)
+    before n = turn (next (f32-table-before camera width height strict)) n (fresh table)
+
+    before-built : (n : ℕ) → Built (f32-table-before camera width height strict) table n (before n .state)
+    before-built = plans.as-defined (f32-table-before camera width height strict) (before-sound camera width height strict) table long
+
+    same-as-before : SameTable (f32-table-before camera width height strict) (f32-table camera width height strict)
+    same-as-before = tables.corners-once camera width height strict (opened camera width height _ (fresh-opens camera width height strict start begin .0) .taken-size)
+
+    module _
+        (allowances : List ℕ) (last : Held Float) (calls : Build (Held Float) Called allowances (first camera width height strict table) last)
+      where
+        -- Where some n units of the definition with each corner twice finish its table, this build is finished once it is
+        -- allowed its own T units, with the same region and the same cells, bit for bit.
+        pub corners-once :
+            (n : ℕ) → before n .state .at .done ≡ samples-twice width height + width * height → all-units width height ≤ total allowances
+            → (last .job .at .done ≡ all-units width height) × (last .job .at .region ≡ before n .state .at .region)
+            × (last .cells ≡ before n .state .cells)
+        corners-once n =
+            same-as-before .finished table n (total allowances) (before n .state) (held-state last) (before-built n) (mine allowances last calls)
+
+        -- Where they are refused, so is this build's next call, with the same number, if with it the build is allowed its own T
+        -- units, one of them in this call.
+        pub corners-once-refused :
+            (n r : ℕ) → before n .said ≡ refused r
+            → (a : ℕ) (said : Said) (then : Held Float) → Called last a said then → 0 < a → all-units width height ≤ total allowances + a
+            → said ≡ refused r
+        corners-once-refused n r h a said then c some enough =
+            let old = f32-table-before camera width height strict in
+            let new = f32-table camera width height strict in
+            let d = plans.built-units old table n (before n .state) (before-built n) in
+            let q = refused-told old n (before n .state .at .done) r d (sym (plans.defined-says old (before-sound camera width height strict) table n) ∙ h) in
+            let more = plans.one-more-call allowances (first camera width height strict table) last calls a said then c in
+            let here = plans.built-units new table (total allowances) (held-state last) (mine allowances last calls) in
+            let there = plans.built-units new table _ (held-state then) (mine (allowances ++ a ∷ []) then more) in
+            let sum = plans.total-more allowances a in
+            let most = doable-most new in
+            build-says allowances last calls a said then c
+            ∙ told-refused new (last .job .at .done) a (then .job .at .done) r
+            (omega (arith, there, sum, most, enough)) (λ under. omega (arith, there, here, sum, under, enough, some))
+            (same-as-before .refusal ∙ q .0) (q .1)
+
 -- ---- the table at once, which isn't strict
 
 module _
@@ -180,10 +235,9 @@ module _
         let c = plans.as-defined p (f32-sound camera width height false) table long in
         let whole = subst (Built p table (total allowances)) (e ∙ sym f) (c (total allowances)) in
         let b = built-in-turns camera width height false table allowances last calls in
-        let mine = subst (λ (A : ℕ). Built p table A (held-state last)) (build-allowed camera width height false start begin table long allowances last calls) (b .built) in
         same-held last (handed-back (answer (fresh-job camera width height false) (turn (next p) enough (fresh table))))
         (b .same-camera) (b .same-width) (b .same-height) (b .same-strict)
-        (built-same p table (total allowances) (total allowances) (held-state last) once mine whole refl)
+        (built-same p table (total allowances) (total allowances) (held-state last) once (mine camera width height false start begin table long allowances last calls) whole refl)
         ∙ sym (ap handed-back at-once-is)
 
     -- and it is finished, or refused at a unit: it never says running.

@@ -27,5 +27,5 @@ taking job places h =
     let k = is-admitted (sweep-for job) (job .at) places h in
     let o = opened (job .camera) (job .width) (job .height) (job .at .region) (k .opens) in
     let size = o .size in
-    let most : min (job .at .done) (samples (job .width) (job .height)) ≤ 16388 = le-trans (min-le-right (job .at .done) (samples (job .width) (job .height))) (omega (arith, size .not-wider, size .not-higher)) in
-    record { taken-size = o .taken-size; size = size; long = k .long; not-past = k .record-of .not-past; few = omega (arith, le-trans (k .record-of .updates) (mul-le-mul {n₂ = 50} {m₂ = 16388} (limit-most (job .camera)) most)); few-unsettled = omega (arith, k .record-of .tallies .count, most) }
+    let most : min (job .at .done) (samples (job .width) (job .height)) ≤ 16384 = le-trans (min-le-right (job .at .done) (samples (job .width) (job .height))) (omega (arith, size .not-wider, size .not-higher)) in
+    record { taken-size = o .taken-size; size = size; long = k .long; not-past = k .record-of .not-past; few = omega (arith, le-trans (k .record-of .updates) (mul-le-mul {n₂ = 50} {m₂ = 16384} (limit-most (job .camera)) most)); few-unsettled = omega (arith, k .record-of .tallies .count, most) }

@@ -215,7 +215,7 @@ pub fn turn(job: Job, table: &mut [f32], allowance: usize) -> Turned
 }
 
 // Units enough for the largest table that is taken: 4,096 by 4,096.
-pub const ENOUGH: usize = 16_793_604;
+pub const ENOUGH: usize = 16_793_600;
 
 // The whole table at once: one turn of a fresh record that isn't strict, which no allowance cuts short. Its camera and
 // size are judged by the turn.

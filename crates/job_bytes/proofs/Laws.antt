@@ -5,6 +5,7 @@ use mathlib.Core.List.{List}
 use Prim.Native.Nat.{ℕ, _/_, _^_, _<_}
 use native.Mathlib.Omega.{arith}
 use denote.Ref.{now}
+use borrow.Author.Tests.{eqb-true}
 use lib.Dec.{eqb}
 use lib.Ieee.{binary64}
 use lib.Ieee.Bits.{ofBits-fits}
@@ -17,6 +18,7 @@ use Rattle.region.specs.Size.{Sized}
 use Rattle.camera.specs.Camera.{parameters}
 use Rattle.camera.specs.declared.Camera.{Camera}
 use Rattle.camera_bytes.specs.Reading.{camera-of}
+use Rattle.little_endian.specs.Bytes.{word}
 use Rattle.given.specs.Given.{Given}
 use Rattle.given.proofs.Laws.{both}
 use Rattle.plans.specs.Plan.{nowhere}
@@ -25,7 +27,7 @@ use Rattle.table_plans.proofs.Sound.{opened}
 use Rattle.job.specs.Job.{fresh-job}
 use Rattle.job.specs.declared.Job.{Job}
 use Rattle.job_bytes.specs.Bytes.{record-length, record-bytes, record-read, fresh-bytes}
-use Rattle.job_bytes.specs.Check.{intact, whole, RecordBytes, WordApart, ByteApart}
+use Rattle.job_bytes.specs.Check.{check-place, check-of, intact, intact-before, whole, RecordBytes, WordApart, ByteApart}
 use Rattle.job_bytes.specs.declared.Found.the-variants.{Of}
 use Rattle.job_bytes.proofs.Reading.{read-job}
 use Rattle.job_bytes.proofs.Placing as placing
@@ -99,6 +101,15 @@ byte-in-word = in-a-word
 pub one-byte-caught :
     (a b : List ℕ) → RecordBytes a → RecordBytes b → (place : ℕ) → ByteApart place a b → intact a ≡ true → intact b ≡ false
 one-byte-caught a b ra rb place apart = one-word-caught a b ra rb (place / 8) (byte-in-word place a b apart)
+
+-- A record of a release of before, whose border had each corner twice, is not intact.
+pub of-before-refused : (bs : List ℕ) → intact-before bs ≡ true → intact bs ≡ false
+unfolding check-of
+of-before-refused bs e = by-test (intact bs) refl
+  where
+    by-test : (t : Bool) → intact bs ≡ t → t ≡ false
+    by-test true f = absurd (omega (arith, eqb-true (word bs check-place) _ e, eqb-true (word bs check-place) _ f))
+    by-test false f = refl
 
 -- ---- a fresh record
 

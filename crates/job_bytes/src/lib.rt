@@ -19,8 +19,8 @@ use plans::Progress;
 // How many bytes a record has.
 pub const LENGTH: usize = 208;
 
-// What the check word's sum starts from: the bytes "LENSJOB1".
-const CHECK_START: u64 = 0x31424f4a534e454c;
+// What the check word's sum starts from: the bytes "LENSJOB2".
+const CHECK_START: u64 = 0x32424f4a534e454c;
 
 // The record that bytes hold, or why they hold none.
 pub enum Found {

@@ -1,13 +1,13 @@
 -- Demand 3 over any plan and any kind of cell, as one law about the contract of any function that serves it. Assumes nothing.
 use mathlib.Core.Path.{_≡_, refl, sym, ap, ap₂, _∙_, subst}
 use mathlib.Core.Bool.{Bool, true, false, cond}
-use mathlib.Core.List.{List, [], _∷_}
+use mathlib.Core.List.{List, [], _∷_, _++_}
 use Prim.Native.Nat.{ℕ, zero, suc, _+_, _-_, _*_, _≤_, _<_, min}
 use native.Mathlib.Nat.{zero-add, mul-suc}
 use native.Mathlib.Omega.{arith}
-use borrow.Author.Tests.{eqb-true, eqb-false, ltb-true, ltb-false, lt-ltb}
+use borrow.Author.Tests.{eqb-true, eqb-false, ltb-true, ltb-false}
 use lib.Dec.{eqb, ltb}
-use lib.Ieee.{ofBits}
+use lib.Ieee.{ofBits, add, sub, neg, sum, div, round}
 use lib.ListN.{length}
 use Rattle.lens.specs.Finite.{all-finite}
 use Rattle.lens.specs.Judgement.{decided}
@@ -23,6 +23,7 @@ use Rattle.region.specs.Region.{four}
 use Rattle.region.specs.declared.Region.{Region}
 use Rattle.turns.specs.Turns.{Said, refused, Turn, turn, turns, total}
 use Rattle.turns.proofs.Laws as any
+use Rattle.border.specs.Edges.{doubled}
 use Rattle.border.proofs.Finite.{Four, all-four}
 use Rattle.plans.specs.Plan.{numbers, Plan, State, nowhere, one-no, fresh, all-units, cells-done, found, next}
 use Rattle.plans.specs.declared.Progress.{Progress}
@@ -33,9 +34,13 @@ use Rattle.plans.proofs.Counted as counted
 use Rattle.plans.proofs.Reaching.{is-admitted, Good, turn-keeps, good-admitted}
 use Rattle.plans.proofs.Written as written
 
-nowhere-finite : Four nowhere
+pub nowhere-finite : Four nowhere
 unfolding ofBits
 nowhere-finite = record { left = refl; top = refl; right = refl; bottom = refl }
+
+nowhere-doubled : doubled nowhere ≡ nowhere
+unfolding doubled ofBits add sub neg sum div round
+nowhere-doubled = refl
 
 -- ---- the position of the first flag that says no is what it says
 
@@ -93,11 +98,19 @@ module _ {X : Type 0} (p : Plan X) where
 module _ {X : Type 0} (p : Plan X) (sound : Sound p) where
   -- ---- a state that is the definition's of the units done
   module _ (cells : List X) where
+    -- a border of no samples has the region of a fresh record
+    start-region : (b : Bool) → ltb 0 (p .sweep .samples) ≡ b → cond b nowhere (region-of (p .sweep)) ≡ nowhere
+    unfolding edges-below
+    start-region true e = refl
+    start-region false e =
+        let z : p .sweep .samples ≡ 0 = omega (arith, ltb-false 0 (p .sweep .samples) e) in
+        ap (λ (n : ℕ). doubled (edges-below (p .sweep) n)) z ∙ nowhere-doubled
+
     start-along : Along p (fresh cells .at)
     unfolding progress-of sum-below first-no edges-below
     start-along =
         let z : min 0 (p .sweep .samples) ≡ 0 = omega arith in
-        rw (z, lt-ltb 0 (p .sweep .samples) (sound .steady .bordered)) refl
+        rw (z, start-region (ltb 0 (p .sweep .samples)) refl) refl
 
     abbrev end : ℕ → State X
     end n = turn (next p) n (fresh cells) .state
@@ -129,6 +142,10 @@ module _ {X : Type 0} (p : Plan X) (sound : Sound p) where
           untouched = λ j d m. k .behind j d m;
         }
 
+    -- and what it says
+    pub defined-says : (n : ℕ) → turn (next p) n (fresh cells) .said ≡ says-at p 0 n (end n .at .done)
+    defined-says n = counted.says p (sound .refusals) n (fresh cells) (omega arith) start-along
+
   -- ---- calls
 
   refused-call : (s : State X) (a : ℕ) (r : Refusal) → judged p s ≡ Refused r → turn-of p a s .state ≡ s
@@ -145,13 +162,13 @@ module _ {X : Type 0} (p : Plan X) (sound : Sound p) where
   took : (s : State X) → judged p s ≡ Taken → (p .sweep .opens (s .at .region) ≡ Taken) × (length (s .cells) ≡ 2 * (p .sweep .width * p .sweep .height))
   took s h = let k = is-admitted (p .sweep) (s .at) (length (s .cells)) h in (k .opens, k .long)
 
-  pub start-good : (cells : List X) → length cells ≡ 2 * (p .sweep .width * p .sweep .height) → Good p (fresh cells)
-  start-good cells h = record {
+  pub start-good : p .sweep .opens nowhere ≡ Taken → (cells : List X) → length cells ≡ 2 * (p .sweep .width * p .sweep .height) → Good p (fresh cells)
+  start-good opens cells h = record {
     record-of = record {
       not-past = omega arith;
       updates = omega arith;
       edges = nowhere-finite;
-      behind = λ past. absurd (omega (arith, past, sound .steady .bordered));
+      behind = λ past. absurd (omega (arith, past, sound .steady .bordered nowhere opens));
       tallies = record { count = omega arith; position = omega arith; some-first = λ e. e; first-some = λ e. e; none-strict = λ e. refl };
     };
     region = nowhere-finite;
@@ -166,7 +183,7 @@ module _ {X : Type 0} (p : Plan X) (sound : Sound p) where
 
     -- so is a fresh record, with a table of its size
     pub fresh-admitted : (cells : List X) → length cells ≡ 2 * (p .sweep .width * p .sweep .height) → judged p (fresh cells) ≡ Taken
-    fresh-admitted cells long = stays-open (fresh cells) (start-good cells long)
+    fresh-admitted cells long = stays-open (fresh cells) (start-good opens cells long)
 
     -- a call of an admitted record is a turn
     pub answer-is : (a : ℕ) (s : State X) → Good p s → turn-of p a s ≡ turn (next p) a s
@@ -200,7 +217,7 @@ module _ {X : Type 0} (p : Plan X) (sound : Sound p) where
           subst (Built p cells (admits p ls (fresh cells))) (sym (k .0)) (subst (λ (n : ℕ). Built p cells n (fresh cells)) (sym (k .1)) (none-done cells))
       go Taken e =
           let t = took (fresh cells) e in
-          let k = all-allowed (t .0) ls (fresh cells) (start-good cells (t .1)) in
+          let k = all-allowed (t .0) ls (fresh cells) (start-good (t .0) cells (t .1)) in
           subst (Built p cells (admits p ls (fresh cells))) (sym (k .0 ∙ any.any-split (next p) ls (fresh cells)))
           (subst (λ (n : ℕ). Built p cells n (end cells (total ls))) (sym (k .1)) (as-defined cells (t .1) (total ls)))
 
@@ -209,10 +226,10 @@ module _ {X : Type 0} (p : Plan X) (sound : Sound p) where
     reached = calls p ls (fresh cells)
 
     pub all-count : admits p ls (fresh cells) ≡ total ls
-    all-count = let t = took (fresh cells) taken in all-allowed (t .0) ls (fresh cells) (start-good cells (t .1)) .1
+    all-count = let t = took (fresh cells) taken in all-allowed (t .0) ls (fresh cells) (start-good (t .0) cells (t .1)) .1
 
     reached-both : Good p reached × Along p (reached .at)
-    reached-both = let t = took (fresh cells) taken in reached-good (t .0) ls (fresh cells) (start-good cells (t .1)) (start-along cells)
+    reached-both = let t = took (fresh cells) taken in reached-good (t .0) ls (fresh cells) (start-good (t .0) cells (t .1)) (start-along cells)
 
     -- Where the first call is admitted, so is every later one;
     pub reached-admitted : judged p reached ≡ Taken
@@ -271,6 +288,20 @@ module _ {X : Type 0} (p : Plan X) (table : List X) (A : ℕ) (s : State X) (b :
   -- and the region is the definition's, once the border is behind.
   pub built-region : p .sweep .samples ≤ s .at .done → s .at .region ≡ region-of (p .sweep)
   built-region h = ap (λ (x : Progress). x .region) there ∙ region-is p (s .at .done) h
+
+-- ---- one more call
+
+pub one-more-call :
+    {H : Type 0} {Post : H → ℕ → Said → H → Type 0} (ls : List ℕ) (h k : H) → Build H Post ls h k
+    → (a : ℕ) (said : Said) (m : H) → Post k a said m → Build H Post (ls ++ a ∷ []) h m
+one-more-call [] h k (done same) a said m post = call k a said m post [] m (done m)
+one-more-call (x ∷ ls) h k (call from b told next first rest last more) a said m post =
+    call from b told next first (rest ++ a ∷ []) m (one-more-call rest next last more a said m post)
+
+pub total-more : (ls : List ℕ) (a : ℕ) → total (ls ++ a ∷ []) ≡ total ls + a
+unfolding total
+total-more [] a = omega arith
+total-more (x ∷ ls) a = omega (arith, total-more ls a)
 
 -- ---- Demand 3, of the contract of any function that serves a plan
 

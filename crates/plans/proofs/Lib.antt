@@ -4,11 +4,15 @@ pub mod Counted
 pub mod Done
 pub mod Ends
 pub mod Filler
+pub mod Firsts
 pub mod Fits
+pub mod Inside
 pub mod Laws
 pub mod Numbers
 pub mod Phases
 pub mod Reaching
+pub mod Refusals
 pub mod Same
 pub mod Tallies
+pub mod Thinned
 pub mod Written

@@ -80,11 +80,11 @@ said-number finished = 0
 said-number (refused n) = n
 said-number running = 0
 
--- ---- what a plan has to keep: a border, samples within the limit with finite points, no care which finite region a
--- record carries, and refusals of cells with a number
+-- ---- what a plan has to keep: a border where it opens, samples within the limit with finite points, no care which
+-- finite region a record carries, and refusals of cells with a number
 
 pub record Steady (sweep : Sweep) : Type 0 where
-  pub bordered : 0 < sweep .samples
+  pub bordered : (region : Region) → sweep .opens region ≡ Taken → 0 < sweep .samples
   pub limited :
       (pixel : Pixel) (settled : Settled) → sweep .sample pixel ≡ At settled → settled .updates ≤ sweep .limit
   pub points :

@@ -99,7 +99,7 @@ module _ (camera : Camera) (width height : ℕ) (s : Sized width height) where
       let long = blank-long (width * height) h in
       let p = f32-table camera width height false in
       let sound = f32-sound camera width height false in
-      let after = turn-keeps p sound enough (plan.fresh cells) (start-good p sound cells long) in
+      let after = turn-keeps p sound enough (plan.fresh cells) (start-good p sound (fresh-opens camera width height false job e .0) cells long) in
       let t = turn (next p) enough (plan.fresh cells) in
       subst (λ (a : Answer Float). Short (shown a)) (sym (answer-is camera width height false (fresh-opens camera width height false job e .0) cells long enough))
       (shown-short (answer (fresh-job camera width height false) t) refl refl (few _ (t .state .at .done) (after .record-of .updates)) (omega (arith, after .long)) (table-told camera width height enough (plan.fresh cells)))

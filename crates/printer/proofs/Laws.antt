@@ -126,7 +126,7 @@ module _ (input : List ℕ) (camera : Camera) (width height : ℕ) (asks : parse
       let s = opened camera width height nowhere opens .size in
       let sound = f32-sound camera width height false in
       let start = plan.fresh (blank (width * height)) in
-      let after = turn-keeps table sound enough start (start-good table sound (blank (width * height)) long) in
+      let after = turn-keeps table sound enough start (start-good table sound opens (blank (width * height)) long) in
       let at = last .state .at in
       let u : at .updates < 10000000 = few camera width height s _ (at .done) (after .record-of .updates) in
       ap (λ (a : Answer Float). fair (listed width height (a .job .at .updates) (a .job .at .region) (a .cells))) built-is

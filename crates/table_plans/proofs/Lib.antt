@@ -1,2 +1,4 @@
+pub mod Corners
+pub mod Laws
 pub mod Numbers
 pub mod Sound

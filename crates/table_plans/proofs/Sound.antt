@@ -32,7 +32,7 @@ use Rattle.camera.proofs.Laws.{updates-limit-judged}
 use Rattle.plans.specs.Plan.{Content, numbers, none}
 use Rattle.plans.specs.Calls.{Sound}
 use Rattle.cell.specs.Cell.{cell-point, f32, of-pixel, cell-by}
-use Rattle.table_plans.specs.Tables.{Engine, engine-of, Border, corners-twice, opens-for, sweep-by, table-by, f32-table}
+use Rattle.table_plans.specs.Tables.{Engine, engine-of, Border, corners-once, corners-twice, opens-for, sweep-by, table-by, f32-table, f32-table-before}
 
 -- an engine whose answers are finite and within its limit; a kind of cell whose refusals have a number
 pub record Sure (engine : Engine) : Type 0 where
@@ -118,11 +118,14 @@ module _ (camera : Camera) (width height : ℕ) where
       record { numbers = p .0; focal = p .1; taken-size = p .2; size = is-sized width height (p .2) }
 
   module _ {X : Type 0} (engine : Engine) (border : Border) (strict : Bool) (kind : Pixel → Content X) where
-    pub table-sound : Sure engine → Telling kind → 0 < border .samples → Sound (table-by (sweep-by camera engine border strict width height) engine kind)
+    pub table-sound : Sure engine → Telling kind → (Sized width height → 0 < border .samples) → Sound (table-by (sweep-by camera engine border strict width height) engine kind)
     table-sound s t h = record {
-      steady = record { bordered = h; limited = s .limited; points = s .points; alike = opens-alike };
+      steady = record { bordered = λ region o. h (opened region o .size); limited = s .limited; points = s .points; alike = opens-alike };
       refusals = λ region u v. telling-cell engine kind t region (increments region width height) u v;
     }
 
   pub f32-sound : (strict : Bool) → Sound (f32-table camera width height strict)
-  f32-sound strict = table-sound (engine-of camera) (corners-twice width height) strict f32 (engine-sure camera) f32-telling (omega arith)
+  f32-sound strict = table-sound (engine-of camera) (corners-once width height) strict f32 (engine-sure camera) f32-telling (λ size. omega (arith, size .wide))
+
+  pub before-sound : (strict : Bool) → Sound (f32-table-before camera width height strict)
+  before-sound strict = table-sound (engine-of camera) (corners-twice width height) strict f32 (engine-sure camera) f32-telling (λ size. omega arith)

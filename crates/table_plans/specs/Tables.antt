@@ -4,6 +4,7 @@ use mathlib.Core.List.{List, [], _∷_}
 use Prim.Native.Nat.{ℕ}
 use lib.Dec.{eqb}
 use lib.Ieee.{Float}
+use lib.ListN.{getD}
 use Rattle.lens.specs.Finite.{all-finite}
 use Rattle.lens.specs.declared.Distorted.{Distorted}
 use Rattle.lens.specs.declared.Judgement.{Judgement}
@@ -17,7 +18,7 @@ use Rattle.region.specs.Size.{sized}
 use Rattle.region.specs.declared.Region.{Region}
 use Rattle.camera.specs.Camera.{parameters, zero-focal, distort-judged, undistort-judged, limit}
 use Rattle.camera.specs.declared.Camera.{Camera}
-use Rattle.border.specs.Border.{samples, border-at}
+use Rattle.border.specs.Border.{outside, pixel, samples, border-at, border-twice, samples-twice}
 use Rattle.plans.specs.Plan.{Content, Sweep, Plan}
 use Rattle.cell.specs.Cell.{f32, cell-by}
 
@@ -41,9 +42,16 @@ pub record Border : Type 0 where
   pub samples : ℕ
   pub pixel-at : ℕ → Pixel
 
--- top and bottom, then left and right, each from corner to corner
+-- top and bottom from corner to corner, then left and right between the corners
+abbrev pub corners-once : ℕ → ℕ → Border
+corners-once width height = record { samples = samples width height; pixel-at = border-at width height }
+
+-- as it was before: left and right from corner to corner as well
 abbrev pub corners-twice : ℕ → ℕ → Border
-corners-twice width height = record { samples = samples width height; pixel-at = border-at width height }
+corners-twice width height = record {
+  samples = samples-twice width height;
+  pixel-at = λ n. getD (border-twice width height) n (pixel outside outside);
+}
 
 -- ---- what refuses a record before its table is looked at: 4, 5, 6
 
@@ -76,11 +84,16 @@ table-by sweep engine kind = record {
 
 -- the sweep of every table, whatever its cells hold; a strict one is refused at a sample that didn't settle
 abbrev pub sweep-of : Camera → ℕ → ℕ → Bool → Sweep
-sweep-of camera width height strict = sweep-by camera (engine-of camera) (corners-twice width height) strict width height
+sweep-of camera width height strict = sweep-by camera (engine-of camera) (corners-once width height) strict width height
 
 -- the table of f32s
 abbrev pub f32-table : Camera → ℕ → ℕ → Bool → Plan Float
 f32-table camera width height strict = table-by (sweep-of camera width height strict) (engine-of camera) f32
+
+-- and the one that was built before, with its corners twice
+abbrev pub f32-table-before : Camera → ℕ → ℕ → Bool → Plan Float
+f32-table-before camera width height strict =
+    table-by (sweep-by camera (engine-of camera) (corners-twice width height) strict width height) (engine-of camera) f32
 
 -- ---- what refuses a unit of it: 8, 10, 11, 12, 16, and 18 in a strict one
 

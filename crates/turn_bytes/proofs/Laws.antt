@@ -24,8 +24,8 @@ use Rattle.distortion_table.specs.Answer.{plan-of, state-of, turn-of}
 use Rattle.distortion_table.proofs.Calls.{start-admitted}
 use Rattle.camera_bytes.specs.Reading.{camera-of}
 use Rattle.job_bytes.specs.Bytes.{record-bytes, record-read, job-at, fresh-bytes}
-use Rattle.job_bytes.specs.Check.{intact, marked, whole, RecordBytes, WordApart, ByteApart}
-use Rattle.job_bytes.proofs.Laws.{fresh-read, fresh-opens-zero, written-whole, written-bytes, one-word-caught, one-byte-caught}
+use Rattle.job_bytes.specs.Check.{intact, intact-before, marked, whole, RecordBytes, WordApart, ByteApart}
+use Rattle.job_bytes.proofs.Laws.{fresh-read, fresh-opens-zero, written-whole, written-bytes, one-word-caught, one-byte-caught, of-before-refused}
 use Rattle.turn_bytes.specs.Turn.{Handed, handed, answer-length, before-units, written, turn-bytes}
 use Rattle.turn_bytes.specs.Calls.{HeldBytes, bytes-plan, bytes-state, left, bytes-said, call-numbers, NotTaken}
 use Rattle.turn_bytes.proofs.Build.{Ready, ByTurnBytes, bytes-serve, Reports, admitted-reports}
@@ -137,6 +137,10 @@ module _ (bs : List ℕ) (cells : List Float) (allowance : ℕ) (lent : List ℕ
   -- So with bytes whose strict mark is neither 0 nor 1.
   pub not-marked-refused : marked bs ≡ false → NotTaken bs cells lent after
   not-marked-refused broken = broken-refused (λ z. false≢true (sym broken ∙ right-bytes z .0))
+
+  -- So with the bytes of a release of before, whose border had each corner twice: such a job is never continued.
+  pub job-of-before-refused : intact-before bs ≡ true → NotTaken bs cells lent after
+  job-of-before-refused old = not-intact-refused (of-before-refused bs old)
 
   taken-intact : one-of (after .code) call-numbers ≡ false → intact bs ≡ true
   taken-intact n = right-bytes (none-wrong n) .1

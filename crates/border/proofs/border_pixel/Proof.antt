@@ -14,10 +14,10 @@ returns c =
 returns-2 : tie.Need-returns-2
 returns-2 c =
     let a = c .before .before .before .before .args in
-    rw (c .along2 .ensures, c .before .across2 .ensures) (sym (other-sides (a .width) (a .height) (a .n) _ (omega arith) (omega arith)))
+    rw (c .along2 .ensures, c .before .across2 .ensures) (sym (other-sides (a .width) (a .height) (a .n) _ (omega arith) (omega arith) (omega arith)))
 
 returns-3 : tie.Need-returns-3
-returns-3 c = let a = c .before .before .args in sym (no-side (a .width) (a .height) (a .n) (omega arith))
+returns-3 c = let a = c .before .before .args in sym (no-side (a .width) (a .height) (a .n) (omega arith) (omega arith))
 
 pub border-pixel-spec : {M : Type 1} → statement M
 border-pixel-spec =
@@ -26,7 +26,6 @@ border-pixel-spec =
     (λ c κs. search needs)
     (λ c κs. search needs)
     returns
-    (λ c. omega arith)
     (λ c. omega arith)
     (λ c. omega arith)
     (λ c κs. search needs)
