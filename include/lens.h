@@ -117,7 +117,8 @@ static inline const uint8_t *lens_bytes_of(const double *doubles) {
 
 /* A point, the answer of lens_undistort: two doubles; how many Newton updates it took, a uint32_t; one byte, 1 if the
  * search settled and 0 if not; three zero bytes. Of LENS_KB it has not settled at an angle of 0 or below, whatever its
- * last step was: distorting such a point doesn't come back to the pixel. */
+ * last step was: distorting such a point doesn't come back to the pixel. Of LENS_BC it has settled if the point's
+ * pixel lies within 1e-6 focal lengths of this one, however many updates it took. */
 #define LENS_POINT_X 0
 #define LENS_POINT_Y 8
 #define LENS_POINT_UPDATES 16

@@ -1,6 +1,7 @@
 // brown_conrady.rs: OpenCV's radial and tangential distortion. Its operations, in the Rust's order and by its names.
 // None refuses: what isn't finite is for the camera to judge. What the Rust leaves undone, dx_distort_params, is ours:
-// specs/Formula.antt has its order of operations, and proofs/Laws.antt that it is the derivative of distort.
+// specs/Formula.antt has its order of operations, and proofs/Laws.antt that in exact arithmetic it is the derivative of
+// distort.
 ghost use mathlib.Core.Path.{_≡_};
 ghost use Prim.Native.Nat.{_<_};
 ghost use Rattle.brown_conrady.specs.BrownConrady.{affine-params, distortion, distort, shared-at, slopes-at, dx-distort-x, f-xy, small, solve, step-from, limit, pass, newton, undistort};

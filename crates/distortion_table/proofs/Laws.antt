@@ -21,6 +21,7 @@ use Rattle.plans.specs.Plan.{Plan, State, one-no, fresh, next}
 use Rattle.plans.specs.Thinned.{SameTable}
 use Rattle.plans.proofs.Ends as ends
 use Rattle.plans.proofs.Laws as plans
+use Rattle.plans.proofs.Reaching.{is-admitted}
 use Rattle.plans.proofs.Refusals.{doable-most, refused-told, told-refused}
 use Rattle.plans.proofs.Same.{built-same}
 use Rattle.table_plans.specs.Tables.{sweep-of, f32-table, f32-table-before, one-of, unit-numbers}
@@ -126,6 +127,16 @@ module _
         build-admitted =
             plans.built-admitted (Held Float) (λ h. Unit {0}) held-plan held-state Called turn-serves (first camera width height strict table) tt
             (f32-sound camera width height strict) table refl allowances last calls takes
+
+        -- In a strict job all samples done have settled: the count is 0, and the flag of each, by the definition, says yes.
+        pub strict-settled :
+            strict ≡ true
+            → (last .job .at .unsettled ≡ 0)
+            × ((k : ℕ) → k < min (last .job .at .done) (samples width height) → settled-at (sweep-of camera width height strict) k .flag ≡ true)
+        strict-settled h =
+            let tallies = is-admitted (sweep-of camera width height strict) (last .job .at) (length (last .cells)) build-admitted .record-of .tallies in
+            let none = tallies .none-strict h in
+            (none, λ k l. first-unsettled camera width height strict table allowances last calls .yes-all k l (tallies .some-first none))
 
         -- so that none is refused with 4, 5, 6, 7 or 13, but with 8, 10, 11, 12 or 16 if at all, or in a strict job with 18,
         pub build-refusals :

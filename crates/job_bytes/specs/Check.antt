@@ -1,5 +1,5 @@
 -- The check word behind a record: a sum over all that stands before it, so that damaged bytes are told from those that
--- were written. Definitions only.
+-- were written; and the strict mark, which can be no number but 0 or 1. Definitions only.
 use mathlib.Core.Path.{_≡_}
 use mathlib.Core.Bool.{Bool, _&&_}
 use mathlib.Core.List.{List}

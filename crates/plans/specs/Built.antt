@@ -9,6 +9,7 @@ use lib.ListN.{length, getD}
 use Rattle.lens.specs.Judgement.{verdict}
 use Rattle.lens.specs.Refusal.{number}
 use Rattle.lens.specs.Undistorted.{told}
+use Rattle.lens.specs.declared.Refusal.the-variants.{SampleUnsettled}
 use Rattle.lens.specs.declared.Settled.{Settled}
 use Rattle.lens.specs.declared.Undistorted.{Undistorted}
 use Rattle.lens.specs.declared.Undistorted.the-variants.{At, Refused}
@@ -63,7 +64,7 @@ module _ (sweep : Sweep) where
   -- the number that a sample is refused with, 0 if it is not: its own, or 18
   abbrev pub sample-number : Undistorted → ℕ
   sample-number (Refused r) = number r
-  sample-number (At settled) = cond (too-strict sweep settled) 18 0
+  sample-number (At settled) = cond (too-strict sweep settled) (number SampleUnsettled) 0
 
   -- and that border unit n is: its sample's first; behind the last one that of the increments
   abbrev pub border-number : ℕ → ℕ

@@ -10,6 +10,7 @@ use Rattle.lens.specs.Judgement.{decided}
 use Rattle.lens.specs.Refusal.{number}
 use Rattle.lens.specs.declared.Judgement.{Judgement}
 use Rattle.lens.specs.declared.Pixel.{Pixel}
+use Rattle.lens.specs.declared.Refusal.the-variants.{SampleUnsettled}
 use Rattle.lens.specs.declared.Settled.{Settled}
 use Rattle.lens.specs.declared.Undistorted.{Undistorted}
 use Rattle.lens.specs.declared.Undistorted.the-variants.{At, Refused}
@@ -123,7 +124,7 @@ module _ (sweep : Sweep) where
   after-sample at (Refused r) = refuses (number r)
   after-sample at (At settled) =
       let next = sampled at settled in
-      cond (too-strict settled) (refuses 18)
+      cond (too-strict settled) (refuses (number SampleUnsettled))
       (cond (ltb (next .done) (sweep .samples)) (does next) (closed (sweep .width) (sweep .height) next))
 
   -- the next border unit

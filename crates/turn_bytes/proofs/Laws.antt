@@ -243,14 +243,15 @@ module _
       -- first of them of the record that it left.
       pub reports-by-bytes :
           length table ≡ 2 * (width * height) → (a : ℕ) (lent : List ℕ) → length lent ≡ answer-length
-          → Reports (job-at (last .job) .strict) (turn-bytes (last .job) (last .cells) a lent)
+          → Reports (eqb mark 1) (turn-bytes (last .job) (last .cells) a lent)
       reports-by-bytes long a lent room =
           let serves = bytes-serve Post by-turn-bytes in
           let r = plans.built-ready HeldBytes Ready bytes-plan bytes-state Post serves first ready sound table starts allowances last calls in
           let opens = fresh-opens-zero model params width height mark buffer begun in
           let taken = ap (λ (p : Plan Float). judged p (fresh table)) plan-is ∙ start-admitted (camera-of model params) width height (eqb mark 1) opens table long in
           let e = plans.built-admitted HeldBytes Ready bytes-plan bytes-state Post serves first ready sound table starts allowances last calls taken in
-          admitted-reports last (r .0) (ap (λ (p : Plan Float). judged p (bytes-state last)) (r .1) ∙ e) a lent room
+          subst (λ (b : Bool). Reports b (turn-bytes (last .job) (last .cells) a lent)) (ap (λ (p : Plan Float). p .sweep .strict) (r .1 ∙ plan-is))
+          (admitted-reports last (r .0) (ap (λ (p : Plan Float). judged p (bytes-state last)) (r .1) ∙ e) a lent room)
 
 -- Demand 3, for firmware. Start from the bytes that job_bytes' `fresh` leaves with the number 0, for any model, parameters,
 -- size and mark, with any table, and call `turn` with any allowances and an answer of 48 bytes, each time with the record's bytes and the
@@ -271,5 +272,5 @@ pub reports-in-bytes :
     (table : List Float) (allowances : List ℕ) (last : HeldBytes)
     → Build HeldBytes Called allowances record { job = fresh-bytes model params width height mark buffer .answer; cells = table } last
     → length table ≡ 2 * (width * height) → (a : ℕ) (lent : List ℕ) → length lent ≡ answer-length
-    → Reports (job-at (last .job) .strict) (turn-bytes (last .job) (last .cells) a lent)
+    → Reports (eqb mark 1) (turn-bytes (last .job) (last .cells) a lent)
 reports-in-bytes = reports-by-bytes Called by-contract
