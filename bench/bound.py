@@ -8,9 +8,10 @@ the function called takes at most, and a loop counts as often as it can be passe
 what is proved of the source. A loop that isn't in LOOPS is an error, and so is a line of LOOPS that fits no loop. A path that no input
 takes counts too: the figures are bounds and not the worst input's.
 
-A unit's part of a turn. lens_turn's loops over samples and cells have no number of passes: they have a price. A pass of the loop at its
-longest is what a sample costs, S, or a cell, C. Then each call that makes a sample is counted S less, and each that makes a cell C less:
-no pass is then above 0, which is checked, so the longest path passes each loop once, and what it comes to is the turn's own. Hence
+A unit's part of a turn. The loops over samples and cells have no number of passes: they have a price. A pass of the loop at its longest
+is what a sample costs, S, or a cell, C. Then each call that makes a sample is counted S less, and each that makes a cell C less: no pass
+is then above 0, which is checked, so the longest path passes each loop once, and what it comes to is the turn's own. A function that is
+called brings its own and the prices of its units along, outside of any loop, which is checked. Hence
 
     a turn of s samples and c cells takes at most  own + s * S + c * C.
 
@@ -24,7 +25,7 @@ The stack. What a function pushes and reserves at its deepest, the 8 bytes of it
 as far as it is touched, and at each call what the function called takes at most. An alignment counts as the most it can skip. What the
 caller of a C function passes on the stack isn't in it.
 
-memcpy is the one function from outside, called by the two Jacobians alone. Its own instructions and stack are not in the figures; how
+memcpy is the one function from outside, called by the turns alone. Its own instructions and stack are not in the figures; how
 often it can be called is said."""
 import re, sys
 from dataclasses import dataclass
@@ -70,10 +71,12 @@ LOOPS = [
           why="kannala_brandt::newton, LIMIT = 20 (specs: newton, limit); the updates are counted from 1, and 21 ends it"),
     Limit("camera::undistort_judged", [r"cmp \$0x32,", r"divpd|divsd"], passes=50,
           why="brown_conrady::newton, LIMIT = 50 (specs: newton, limit); a pass that ends it early makes no update"),
-    Limit("lens_turn", [r"call camera::undistort_judged"], unit="sample", by="camera::undistort_judged",
+    Limit("distortion_table::up_to_cells", [r"call camera::undistort_judged"], unit="sample", by="camera::undistort_judged",
           why="sweep::units: one call for each sample that is begun"),
     Limit("lens_turn", [r"call camera::distort_judged"], unit="cell", by="camera::distort_judged",
           why="distortion_table's fill: one call for each cell that is begun and whose point is finite; another ends the turn"),
+    Limit("lens_turn16", [r"call camera::distort_judged"], unit="cell", by="camera::distort_judged",
+          why="the same, of sixteen bits"),
     Limit("lens_observe", [r"call camera::undistort_judged"], unit="observation",
           why="observation_bytes: a pass for each record, tested behind the pass, which is skipped for a list of none"),
 ]
@@ -81,7 +84,7 @@ LOOPS = [
 # little_endian's `last` has a loop that the compiler makes two of, four bytes a pass and one. Fewer than eight bytes are left there. Every C
 # function but lens_lookup has tested all lengths before it reads a number.
 PARTS = ["region_bytes::box_at", "camera_bytes::camera_of", "lens_observe"]
-TESTED = ["lens_distort", "lens_undistort", "lens_dx_distort_x", "lens_dx_distort_params", "lens_job_new", "lens_turn", "lens_observe"]
+TESTED = ["lens_distort", "lens_undistort", "lens_dx_distort_x", "lens_dx_distort_params", "lens_job_new", "lens_turn", "lens_turn16", "lens_observe"]
 LOOPS += [
     Limit(PARTS, [r"shl \$0x10,", "movzbl"], many=True, passes=1, never=TESTED,
           why="little_endian::last, four bytes a pass: fewer than eight are left (its requires); entered only by lens_lookup"),
@@ -98,7 +101,7 @@ MODEL_TABLES = {"camera::finite_parameters": PARAMETERS, "job_bytes::write": PAR
 
 # The functions that C has, in the header's order, and whether a model is handed in.
 FUNCTIONS = {"lens_distort": True, "lens_undistort": True, "lens_dx_distort_x": True, "lens_dx_distort_params": True,
-             "lens_job_new": True, "lens_turn": True, "lens_lookup": False, "lens_observe": True, "lens_root": False,
+             "lens_job_new": True, "lens_turn": True, "lens_turn16": True, "lens_lookup": False, "lens_observe": True, "lens_root": False,
              "lens_arctangent": False, "lens_tangent": False}
 
 
@@ -283,14 +286,24 @@ class Bounds:
                     fail(f"{name}+{loop.head:x}: a pass without a {loop.entry.unit} in it")
         return best, prices
 
+    def brought(self, name, model, root):
+        """The prices of units that functions called from this one bring along. None may be called from within a loop."""
+        function, found = self.functions[name], {}
+        looped = {at for loop in every_loop(function.loops) for at in loop.body}
+        for at, block in function.blocks.items():
+            for called in [*map(call_of, block.lines), block.leaves]:
+                if not called or called in OUTSIDE:
+                    continue
+                for unit, price in self.instructions(called, model, root)[1].items():
+                    if at in looped:
+                        fail(f"{name}+{at:x}: {called}, which has units of its own, is called in a loop")
+                    found[unit] = max(price, found.get(unit, 0))
+        return found
+
     def one_each(self, model, root):
-        """The weight of an instruction, and of the function that it calls."""
+        """The weight of an instruction, and of the function that it calls, beside its units."""
         def what(line, called):
-            inside = 0
-            if called and called not in OUTSIDE:
-                inside, prices = self.instructions(called, model, root)
-                if prices:
-                    fail(f"{called} is called, which has units of its own")
+            inside = self.instructions(called, model, root)[0] if called and called not in OUTSIDE else 0
             return inside + (1 if line else 0)
         return what
 
@@ -299,7 +312,11 @@ class Bounds:
         """(the most instructions beside units, the price of each unit) of a function, for one model by its number or for all; called from
         the C function `root`, or from anywhere."""
         root = root or (name if name in FUNCTIONS else None)
-        return self.reckon(name, model, root, self.one_each(model, root))
+        best, prices = self.reckon(name, model, root, self.one_each(model, root))
+        brought = self.brought(name, model, root)
+        if prices.keys() & brought.keys():
+            fail(f"{name} has units of its own and calls a function with the same: {prices}, {brought}")
+        return best, {**brought, **prices}
 
     def pass_of(self, limit, model):
         """What a pass of a loop of LOOPS takes at most."""

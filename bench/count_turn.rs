@@ -2,6 +2,7 @@
 //   cases MODEL KIND: writes records, one a line in hexadecimal, whose unit but one is of that kind, `sample` or `cell`, and the next one
 //     too. A sample of kb or bc is one of the most updates that there can be, 20 or 50
 //   count ALLOWANCE N FILE CASE AHEAD: N turns of that allowance, each from the record on that line after so many units ahead
+//   count16: the same by lens_turn16
 #[path = "../oracle/compare/cases.rs"]
 #[allow(dead_code)]
 mod cases;
@@ -15,6 +16,7 @@ use std::hint::black_box;
 extern "C" {
     fn lens_job_new(model: u8, params: *const u8, handed: usize, width: u32, height: u32, strict: u8, job: *mut u8, lent: usize) -> u8;
     fn lens_turn(job: *mut u8, job_length: usize, table: *mut f32, places: usize, allowance: u64, answer: *mut u8, lent: usize) -> u8;
+    fn lens_turn16(job: *mut u8, job_length: usize, table: *mut i16, places: usize, allowance: u64, answer: *mut u8, lent: usize) -> u8;
 }
 
 const JOB: usize = header_number(b"#define LENS_JOB_BYTES ");
@@ -51,6 +53,7 @@ const fn header_number(line: &[u8]) -> usize {
 struct Head {
     job: [u8; JOB],
     table: [f32; 2 * SIDE * SIDE],
+    table16: [i16; 2 * SIDE * SIDE],
     answer: [u8; ANSWER],
 }
 
@@ -58,6 +61,10 @@ impl Head {
     fn turn(&mut self, allowance: u64) -> u8 {
         let (j, t, a) = (&mut self.job, &mut self.table, &mut self.answer);
         unsafe { lens_turn(j.as_mut_ptr(), j.len(), t.as_mut_ptr(), t.len(), allowance, a.as_mut_ptr(), a.len()) }
+    }
+    fn turn16(&mut self, allowance: u64) -> u8 {
+        let (j, t, a) = (&mut self.job, &mut self.table16, &mut self.answer);
+        unsafe { lens_turn16(j.as_mut_ptr(), j.len(), t.as_mut_ptr(), t.len(), allowance, a.as_mut_ptr(), a.len()) }
     }
     fn updates(&self) -> u64 {
         let mut eight = [0; 8];
@@ -67,7 +74,7 @@ impl Head {
 }
 
 fn blank() -> Head {
-    Head { job: [0; JOB], table: [0.0; 2 * SIDE * SIDE], answer: [0; ANSWER] }
+    Head { job: [0; JOB], table: [0.0; 2 * SIDE * SIDE], table16: [0; 2 * SIDE * SIDE], answer: [0; ANSWER] }
 }
 
 fn print(job: &[u8; JOB]) {
@@ -121,7 +128,7 @@ fn write_cases(model: usize, cell: bool) {
     }
 }
 
-fn count(allowance: u64, n: usize, record: &str, ahead: u64) {
+fn count(turn: fn(&mut Head, u64) -> u8, allowance: u64, n: usize, record: &str, ahead: u64) {
     let byte = |i: usize| u8::from_str_radix(&record[2 * i..2 * i + 2], 16).expect("a byte");
     let mut job = [0; JOB];
     (0..JOB).for_each(|i| job[i] = byte(i));
@@ -129,9 +136,10 @@ fn count(allowance: u64, n: usize, record: &str, ahead: u64) {
     head.job = job;
     head.turn(ahead);
     job = head.job;
+    let turn = black_box(turn);
     for _ in 0..n {
         head.job = job;
-        black_box(head.turn(black_box(allowance)));
+        black_box(turn(&mut head, black_box(allowance)));
     }
 }
 
@@ -140,10 +148,11 @@ fn main() {
     let number = |i: usize| args[i].parse::<usize>().expect("a count");
     match args[0].as_str() {
         "cases" => write_cases(place(&MODELS, &args[1]), args[2] == "cell"),
-        "count" => {
+        "count" | "count16" => {
             let file = std::fs::read_to_string(&args[3]).expect("the cases");
-            count(number(1) as u64, number(2), file.lines().nth(number(4)).expect("a case"), number(5) as u64)
+            let turn = if args[0] == "count" { Head::turn } else { Head::turn16 };
+            count(turn, number(1) as u64, number(2), file.lines().nth(number(4)).expect("a case"), number(5) as u64)
         }
-        _ => panic!("cases or count"),
+        _ => panic!("cases, count or count16"),
     }
 }

@@ -26,6 +26,17 @@ def met(page, model):
     return [int(x) for x in found.groups()] if found else sys.exit(f"{page} has no row of {model} with met and at most: run bench/run")
 
 
+def sixteen(bounds):
+    """The cells of lens_turn16, whose samples cost the same."""
+    rows = []
+    for model in range(len(MODELS)):
+        own, prices = bounds.instructions("lens_turn16", model)
+        fit = [n((rate * 1000 * MILLISECONDS - own) // prices["cell"]) for rate in RATES]
+        rows.append([MODELS[model], n(prices["cell"]), n(own), *fit])
+    print(f"\nOf `lens_turn16`, and how many of its cells fit {MILLISECONDS} ms at so many million instructions a second:\n")
+    print(lines(["", "cell, at most", "a turn's own, at most", *map(str, RATES)], rows))
+
+
 def main(archive, page):
     bounds = Bounds(archive)
     most = [bounds.instructions("lens_turn", model) for model in range(len(MODELS))]
@@ -39,7 +50,7 @@ def main(archive, page):
           "and the most that was met (docs/COST.md, \"The worst unit of each model\", says how both were found):\n")
     print(lines(["", "border sample, at most", "met", "its updates", "cell, at most", "met", "a turn's own, at most", "met"], rows))
     print("\nA turn of s samples and c cells takes at most\n\n    a turn's own + s × a border sample + c × a cell\n\n"
-          "instructions. So the units that fit a frame are\n\n    units = (free time × rate - a turn's own) / a unit\n\n"
+          "instructions, and what memcpy takes for two calls with 224 bytes. So the units that fit a frame are\n\n    units = (free time × rate - a turn's own) / a unit\n\n"
           "rounded down, where the rate is how many of these instructions the processor does in a unit of time, and a unit is a border "
           "sample until the border is done and a cell from then on (`LENS_TURN_DONE` of the answer is then `LENS_SAMPLES` or more). For a "
           f"turn that may do both, take the dearer. In {MILLISECONDS} ms, samples / cells:\n")
@@ -50,6 +61,7 @@ def main(archive, page):
 
     both = [[" / ".join(n(fits(m, kind, rate)) for kind in ("sample", "cell")) for m in range(len(MODELS))] for rate in RATES]
     print(lines(["millions of instructions a second", *MODELS], [[str(rate), *row] for rate, row in zip(RATES, both)]))
+    sixteen(bounds)
     samples, cells, rows = 2 * WIDTH + 2 * HEIGHT, WIDTH * HEIGHT, []
     for model, (own, prices) in enumerate(most):
         border, rest = (math.ceil(count / fits(model, kind, 100)) for count, kind in ((samples, "sample"), (cells, "cell")))

@@ -9,15 +9,21 @@ from counting import MODELS, each, folder, machine, page, runner
 
 TITLE = "\n## The worst unit of each model\n\n"
 LIMITS = {"affine": "none", "eucm": "none", "kb": 20, "bc": 50}
-WORST = """In x86-64 instructions, through `lens_turn`. Counted on the same machine, DATE.
+WORST = """In x86-64 instructions, through `lens_turn`, and the cells of sixteen bits through `lens_turn16`. Counted on the same machine, DATE.
 
 - *Met*: a turn of two units less a turn of one, the most of 16 records. (What a turn of none takes more behind the last sample than before it is taken off that sample.) Samples are ones that take the most updates that there can be, of stretched lenses, four of them the last sample, which closes the region; cells are of lenses that somebody might have. A turn's own is there a turn of none: reading, judging and writing the record, and the loop that counts.
-- *At most*: the longest path through the archive's instructions, each loop as often as it can be passed (bench/bound.py; the loops stand below). No input need take that path. A turn of s samples and c cells takes at most a turn's own + s · a border sample + c · a cell, whatever the record and the camera are.
+- *At most*: the longest path through the archive's instructions, each loop as often as it can be passed (bench/bound.py; the loops stand below). No input need take that path. A turn of s samples and c cells takes at most a turn's own + s · a border sample + c · a cell, whatever the record and the camera are. What memcpy itself takes, of which a turn makes at most two calls with 224 bytes each, is in what is met and not in what is at most.
 
 docs/HEAD.md budgets with what is *at most*.
 
 | | updates | border sample, met | at most | cell, met | at most | a turn's own, met | at most |
 |---|---|---|---|---|---|---|---|
+"""
+SIXTEEN = """
+Of `lens_turn16`, whose samples are the same code:
+
+| | cell of sixteen bits, met | at most | a turn's own, met | at most |
+|---|---|---|---|---|
 """
 LEFT = """
 The loops that the compiler has left in the archive. It has laid out the others (the root's digits, the arctangent's series, the bytes of a number) pass by pass, so that they stand in the paths as they are.
@@ -35,7 +41,7 @@ The stack is in bytes, over all paths, with the 8 of the return address and with
 | | affine | eucm | kb | bc | calls of memcpy | stack, met | stack, at most |
 |---|---|---|---|---|---|---|---|
 """
-# Counted through C and not in the bounds: the caller's loop, and a memcpy of at most 208 bytes.
+# Counted through C and not in the bounds: the caller's loop, and a memcpy of at most 224 bytes.
 CALLER, COPY = 40, 40
 faults = []
 
@@ -52,22 +58,28 @@ def hold(what, met, most):
     print(f"{what}: met {met:.0f}, at most {most}, {most / met:.2f} of it")
 
 
-def units(model, kind, own, price):
+def units(model, kind, own, price, count="count"):
     """What a unit of that kind costs at most, and the turn around it."""
     name, jobs = f"{folder}/{model}_{kind}.jobs", made("count_turn", "cases", model, kind)
     with open(name, "w") as out:
         out.write("\n".join(jobs))
 
     def turn(allowance, ahead):
-        return [each(50, "count_turn", "count", allowance, None, name, i, ahead) for i in range(len(jobs))]
+        return [each(50, "count_turn", count, allowance, None, name, i, ahead) for i in range(len(jobs))]
 
     one, two, before, after = turn(1, 0), turn(2, 0), turn(0, 1), turn(0, 2)
     # What a turn of none takes changes with the last sample, which is not that unit's.
     unit = max(b - a - (d - c) for a, b, c, d in zip(one, two, before, after))
-    hold(f"{model}: a {kind}", unit, price)
+    words = f"a {kind}" if count == "count" else f"a {kind} of sixteen bits"
+    hold(f"{model}: {words}", unit, price)
     for n, counted in enumerate((before + after, one, two)):
-        hold(f"{model}: a turn of {n}, the last a {kind}", max(counted), own + n * price)
+        hold(f"{model}: a turn of {n}, the last {words}", max(counted), own + n * price + copied(model))
     return unit, max(before + after)
+
+
+def copied(model):
+    """What the calls of memcpy take, which are not in a turn's own."""
+    return COPY * bounds.copies("lens_turn", MODELS.index(model))
 
 
 def worst(bounds, model):
@@ -75,6 +87,12 @@ def worst(bounds, model):
     (sample, around), (cell, also) = (units(model, kind, own, prices[kind]) for kind in ("sample", "cell"))
     return (f"| {model} | {LIMITS[model]} | {sample:.0f} | {prices['sample']} | {cell:.0f} | {prices['cell']} "
             f"| {max(around, also):.0f} | {own} |\n")
+
+
+def worst_sixteen(bounds, model):
+    own, prices = bounds.instructions("lens_turn16", MODELS.index(model))
+    cell, around = units(model, "cell", own, prices["cell"], "count16")
+    return f"| {model} | {cell:.0f} | {prices['cell']} | {around:.0f} | {own} |\n"
 
 
 def left(bounds):
@@ -90,7 +108,7 @@ def functions(bounds):
         cells = []
         for model in range(len(MODELS)):
             own, prices = bounds.instructions(name, model)
-            more = {"lens_turn": " and its units", "lens_observe": " and {} a record"}.get(name, "")
+            more = {"lens_turn": " and its units", "lens_turn16": " and its units", "lens_observe": " and {} a record"}.get(name, "")
             cells.append(f"{own}{more.format(*prices.values())}")
         cells = cells if by_model else [cells[0], "", "", ""]
         most = bounds.stack(name)[0]
@@ -117,6 +135,7 @@ if f"Counted on {machine()}," not in text:
 bounds = Bounds(os.environ["BOUND_ARCHIVE"])
 through_c(bounds, text)
 text += TITLE + WORST.replace("DATE", datetime.date.today().isoformat()) + "".join(worst(bounds, model) for model in MODELS)
+text += SIXTEEN + "".join(worst_sixteen(bounds, model) for model in MODELS)
 text += LEFT + "".join(left(bounds)) + EACH + "".join(functions(bounds))
 if faults:
     sys.exit("A bound that doesn't hold (lines with a caller come from the page: after a change to the archive run bench/run whole):\n"

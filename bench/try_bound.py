@@ -38,6 +38,25 @@ OUTER, INNER = Limit("nest", [r"cmp \$0x77,"], passes=3, why="3 down to 1"), Lim
 # leaf: 6. A pass within: 1 + 6 + 2 = 9, five of them 45. A pass around: 1 + 45 + 4 = 50, three of them 150. Before it 3, behind it 3.
 # Stack: 8 of the return address, 8 and 32; and leaf's 8 and the 64 that it writes below.
 RIGHT = 6, 156, 120
+# A pass of walk is a call of leaf, 7, and 2 more; beside its steps walk takes 3, and top, which calls it, 5.
+UNITS = """
+.section .text.walk,"ax"
+.globl walk
+walk:
+  test %edi,%edi
+  je 6f
+5: call leaf
+  dec %edi
+  jne 5b
+6: ret
+.section .text.top,"ax"
+.globl top
+top:
+  call walk
+  ret
+"""
+STEP = Limit("walk", ["call leaf"], unit="step", by="leaf", why="a step each")
+AROUND = Limit("top", ["call walk"], passes=3, why="3 down to 1")
 REFUSED = [  # what is changed, and what the refusal must say
     ("mov $3,%ecx", "call *%rax\n  mov $3,%ecx", "isn't named"),
     ("mov $3,%ecx", "jmp *%rax\n  mov $3,%ecx", "no jump table"),
@@ -92,6 +111,19 @@ def small(folder):
         told(found.splitlines()[0], says in found)
 
 
+def units(folder):
+    """A function that is called brings its units' price along, unless it is called in a loop."""
+    bound.LOOPS[:] = [OUTER, INNER, STEP]
+    bound.UNITS["walk"] = [STEP]
+    found = Bounds(archive(folder, PROGRAM + UNITS)).instructions("top")
+    told(f"top and a step: {found}", found == (5, {"step": 9}))
+    bound.LOOPS.append(AROUND)
+    looped = (PROGRAM + UNITS).replace("  call walk", "  mov $3,%ecx\n7: call walk\n  dec %ecx\n  jne 7b")
+    found = refusal(lambda: Bounds(archive(folder, looped)).instructions("top"))
+    told(found.splitlines()[0], "is called in a loop" in found)
+    bound.UNITS.clear()
+
+
 def lens(path, tables):
     for name, by in (("camera::distort_judged", PARAMETERS), ("camera::finite_parameters", CALLS), ("lens_lookup", CALLS)):
         bound.MODEL_TABLES.update({**tables, name: by})
@@ -110,6 +142,7 @@ kept = dict(bound.FUNCTIONS), dict(bound.MODEL_TABLES), list(bound.LOOPS), dict(
 bound.FUNCTIONS.clear(), bound.MODEL_TABLES.clear(), bound.UNITS.clear()
 with tempfile.TemporaryDirectory() as folder:
     small(folder)
+    units(folder)
 bound.FUNCTIONS.update(kept[0]), bound.UNITS.update(kept[3])
 bound.LOOPS[:] = kept[2]
 if len(sys.argv) == 2:

@@ -1,6 +1,7 @@
 /* A head's frame loop, as firmware would have it: a lens table grows between frames; then points are looked up in it
- * and a list of observations is undistorted; last a lens whose border doesn't settle everywhere. examples/run-head
- * builds and runs it; --measure times units instead. */
+ * and a list of observations is undistorted; the same table is built in sixteen-bit numbers, for a part without floats,
+ * compared with the first, and read in whole numbers; last a lens whose border doesn't settle everywhere.
+ * examples/run-head builds and runs it; --measure times units instead. */
 #include "lens.h"
 
 #include <inttypes.h>
@@ -12,8 +13,10 @@
 #define HEIGHT 480
 #define FLOATS LENS_TABLE_FLOATS(WIDTH, HEIGHT)
 
-/* All the memory there is; nothing is allocated. The second table is only there to compare the first with. */
+/* All the memory there is; nothing is allocated. The second and third table are only there to compare the first with:
+ * a head has one of floats or one of sixteen-bit numbers. */
 static float table[FLOATS], at_once[FLOATS];
+static int16_t sixteen[FLOATS];
 static uint8_t job[LENS_JOB_BYTES], saved[LENS_JOB_BYTES];
 
 /* The camera of the Rust's own test. */
@@ -33,15 +36,26 @@ static uint64_t word_at(const uint8_t *bytes, size_t place) {
     return word;
 }
 
-static uint8_t turn(uint8_t *of, float *cells, uint64_t allowance, struct turned *says) {
-    uint8_t answer[LENS_TURN_BYTES] = {0};
-    uint8_t no = lens_turn(of, LENS_JOB_BYTES, cells, FLOATS, allowance, answer, sizeof answer);
+static void read_answer(const uint8_t *answer, struct turned *says) {
     says->status = word_at(answer, LENS_TURN_STATUS);
     says->done = word_at(answer, LENS_TURN_DONE);
     says->units = word_at(answer, LENS_TURN_UNITS);
     says->updates = word_at(answer, LENS_TURN_UPDATES);
     says->unsettled = word_at(answer, LENS_TURN_UNSETTLED);
     says->first = word_at(answer, LENS_TURN_FIRST);
+}
+
+static uint8_t turn(uint8_t *of, float *cells, uint64_t allowance, struct turned *says) {
+    uint8_t answer[LENS_TURN_BYTES] = {0};
+    uint8_t no = lens_turn(of, LENS_JOB_BYTES, cells, FLOATS, allowance, answer, sizeof answer);
+    read_answer(answer, says);
+    return no;
+}
+
+static uint8_t turn16(uint8_t *of, int16_t *cells, uint64_t allowance, struct turned *says) {
+    uint8_t answer[LENS_TURN_BYTES] = {0};
+    uint8_t no = lens_turn16(of, LENS_JOB_BYTES, cells, FLOATS, allowance, answer, sizeof answer);
+    read_answer(answer, says);
     return no;
 }
 
@@ -123,6 +137,69 @@ static int damage(void) {
         return 1;
     printf("begun again: %" PRIu64 " of %" PRIu64 " units\n", says.done, says.units);
     return 0;
+}
+
+/* ---- the part without floats */
+
+static double size(double x) {
+    return x < 0 ? -x : x;
+}
+
+/* From a float to the next one away from zero. */
+static double step(float x) {
+    uint32_t bits;
+    float next;
+    memcpy(&bits, &x, sizeof bits);
+    bits++;
+    memcpy(&next, &bits, sizeof next);
+    return size((double)next - (double)x);
+}
+
+/* Whether a float and a number of thirty-seconds are as near as they have to be, both being of one pixel: 1/64 apart at
+ * most, and half the float's step more, which is what the float itself may be off. */
+static int near(float one, int16_t other, double *most) {
+    double off = size((double)one - (double)other / LENS_PER_PIXEL);
+    *most = off > *most ? off : *most;
+    return off <= 1.0 / 64 + step(one) / 2;
+}
+
+/* The table of the same camera in thirty-seconds of a pixel, by the same turns; and each number beside the float. The
+ * jobs are the same, as none says which kind of table it is for. */
+static int build16(void) {
+    struct turned says;
+    memset(&says, 0, sizeof says);
+    uint8_t no = begin(kb, 1, saved);
+    for (unsigned frame = 0; no == LENS_OK && says.status != LENS_STATUS_FINISHED; frame++)
+        no = turn16(saved, sixteen, allowance(frame), &says);
+    if (no != LENS_OK || memcmp(job, saved, sizeof job) != 0) {
+        printf("no table of sixteen bits: refused %u\n", no);
+        return 1;
+    }
+    double most = 0;
+    size_t wrong = 0;
+    for (size_t i = 0; i < FLOATS; i++)
+        wrong += !near(table[i], sixteen[i], &most);
+    printf("in sixteen bits: %zu bytes for %zu, at most %.6f of a pixel apart, %zu of %zu numbers too far apart\n",
+           sizeof sixteen, sizeof table, most, wrong, (size_t)FLOATS);
+    return wrong == 0 ? 0 : 1;
+}
+
+/* What such a part computes, in whole numbers alone: a number of the pixel between four cells, in 2^-21 of a pixel, with
+ * nothing rounded. Column and row come in 256ths of a cell, below 256 * (WIDTH - 1) and 256 * (HEIGHT - 1). 32 bits are
+ * enough: the four weights are 65,536 together, and a cell has sixteen bits. */
+static int32_t between(uint32_t column, uint32_t row, unsigned which) {
+    const int16_t *at = sixteen + LENS_TABLE_CELL(WIDTH, column / 256, row / 256) + which;
+    const int16_t *below = at + 2 * WIDTH;
+    int32_t right = (int32_t)(column % 256), down = (int32_t)(row % 256);
+    int32_t upper = at[0] * (256 - right) + at[2] * right;
+    int32_t lower = below[0] * (256 - right) + below[2] * right;
+    return upper * (256 - down) + lower * down;
+}
+
+/* Only printing makes doubles of them. */
+static void look_up16(uint32_t column, uint32_t row) {
+    int32_t u = between(column, row, 0), v = between(column, row, 1);
+    printf("column %.2f, row %.2f: pixel %.3f %.3f\n", column / 256.0, row / 256.0, u / 2097152.0, v / 2097152.0);
 }
 
 /* ---- points and pixels */
@@ -217,5 +294,9 @@ int main(int count, char **words) {
     look_up(0.1, -0.05);
     look_up(-0.25, 0.15);
     look_up(9, 0);
+    if (build16() != 0)
+        return 1;
+    look_up16(256 * 319 + 128, 256 * 239 + 128);
+    look_up16(256 * 100 + 64, 256 * 400);
     return observe() != 0 || build(stretched) != 0;
 }

@@ -9,11 +9,12 @@
  *
  * What the caller owes. No function can check any of this; if it isn't kept, nothing is promised:
  *   - A buffer crosses as a pointer and its length, two arguments in a row; the length counts bytes for a uint8_t *,
- *     floats for a float *. The pointer is not null, even with length 0, and so much memory is there.
+ *     floats for a float *, numbers for an int16_t *. The pointer is not null, even with length 0, and so much memory
+ *     is there.
  *   - A buffer that the function may write (those without const) overlaps no other buffer of the same call. So the
  *     parameters inside a job can't begin that same job anew: copy them out first. Two that are only read may overlap.
- *   - A float * is aligned as a float is (4 bytes), a lens_observation * as that struct is (8). A uint8_t * may have
- *     any address.
+ *   - A float * is aligned as a float is (4 bytes), an int16_t * as that is (2), a lens_observation * as that struct is
+ *     (8). A uint8_t * may have any address.
  *   - While the call runs, nobody else (a thread, an interrupt, a device) writes to any of its buffers, nor reads those
  *     that the function may write.
  *   - Arithmetic is as a program finds it when it starts: doubles are rounded to nearest, subnormal numbers are
@@ -40,14 +41,14 @@ extern "C" {
 /* ---- the number returned
  *
  * A function that returns a uint8_t returns LENS_OK, and has written all of its answer; or it returns a refusal's
- * number, and has written nothing. The one exception is lens_turn, which says where.
+ * number, and has written nothing. The one exception are lens_turn and lens_turn16, which say where.
  *
  * Where several apply, the lowest number is returned, but for these:
  *   - lens_lookup judges the region's increments, 8 and then 11, before 9. So 11 may be told of a point that is also
  *     outside; of a pixel that isn't finite 11 is told only after 9.
  *   - 16 is tried before 11, of the same pixel.
- *   - lens_turn judges the call before any unit: 13 comes before the 8, 10, 11, 12, 16 or 18 of a unit. Of a job that
- *     is not LENS_JOB_BYTES long nothing is read: 7, before all others.
+ *   - lens_turn and lens_turn16 judge the call before any unit: 13 comes before the 8, 10, 11, 12, 16, 18 or 19 of a
+ *     unit. Of a job that is not LENS_JOB_BYTES long nothing is read: 7, before all others.
  *   - The last sample's 18 comes before the 8 or 11 of the region, which is worked out behind it. */
 #define LENS_OK 0
 
@@ -65,12 +66,14 @@ extern "C" {
                                                  that is met where LENS_KB undistorts a pixel */
 #define LENS_REFUSED_ANSWER_NOT_FINITE 11     /* NaN or an infinity would have to be answered, or built on: the point
                                                  of a sample or a cell, its pixel, an increment */
-#define LENS_REFUSED_CELL_INFINITE 12         /* a cell's pixel is finite, but too large for a float */
+#define LENS_REFUSED_CELL_INFINITE 12         /* a cell's pixel is finite, but too large for a float (lens_turn) */
 #define LENS_REFUSED_IMPOSSIBLE_JOB 13        /* the job's check word is wrong, no build can have come to this job, or a
                                                  strict mark is neither 0 nor 1 */
 #define LENS_REFUSED_RAY_NOT_FORWARD 16       /* LENS_EUCM undistorts a pixel whose ray has a z of 0 or below: the point
                                                  would be mirrored, or nowhere */
 #define LENS_REFUSED_SAMPLE_UNSETTLED 18      /* a strict job met a border sample whose search didn't settle */
+#define LENS_REFUSED_CELL_TOO_FAR 19          /* a cell's pixel is finite, but not in the 16 bits of lens_turn16: below
+                                                 -1024.015625, or at 1023.984375 or above */
 
 #define LENS_ANGLE_LIMIT 1.546875 /* 99/64, which is 88.6 degrees */
 
@@ -169,9 +172,14 @@ uint8_t lens_dx_distort_params(uint8_t model, const uint8_t *params, size_t para
 #define LENS_CELLS(width, height) ((uint64_t)(width) * (uint64_t)(height))
 #define LENS_UNITS(width, height) (LENS_SAMPLES(width, height) + LENS_CELLS(width, height))
 
-/* A table's length in floats, and where in it the pixel of cell (u, v) stands: two floats from there on. */
+/* A table's length in floats, and where in it the pixel of cell (u, v) stands: two floats from there on. A table of
+ * int16_t has as many numbers, and the cells stand at the same places. */
 #define LENS_TABLE_FLOATS(width, height) (2 * (size_t)(width) * (size_t)(height))
+#define LENS_TABLE_NUMBERS(width, height) LENS_TABLE_FLOATS(width, height)
 #define LENS_TABLE_CELL(width, u, v) (2 * ((size_t)(v) * (size_t)(width) + (size_t)(u)))
+
+/* A table of int16_t counts in thirty-seconds of a pixel: a number n in it stands for the pixel's number n / 32. */
+#define LENS_PER_PIXEL 32
 
 /* A region, the box of points that a table covers: four doubles. Left and right are its lower and upper x, top and
  * bottom its lower and upper y. */
@@ -214,7 +222,7 @@ uint8_t lens_dx_distort_params(uint8_t model, const uint8_t *params, size_t para
  * Not caught for certain: changes in two words or more, which may cancel out in the sum, as two exchanged words of the
  * 25 do, or two doubles that both change their sign; bytes whose check word was worked out anew; a sound job of another
  * build or of an earlier turn.
- * Not checked at all: the table's floats, which no turn reads; the region handed to lens_lookup; observations. */
+ * Not checked at all: the table's numbers, which no turn reads; the region handed to lens_lookup; observations. */
 
 /* What a turn answers: six uint64_t. */
 #define LENS_TURN_STATUS 0
@@ -245,6 +253,16 @@ uint8_t lens_job_new(uint8_t model, const uint8_t *params, size_t params_length,
  * its status running. */
 uint8_t lens_turn(uint8_t *job, size_t job_length, float *table, size_t table_length, uint64_t allowance,
                   uint8_t *answer, size_t answer_length);
+
+/* The same turns into a table of sixteen-bit numbers, for a part that reads no floats. Each of a cell's two numbers is
+ * that of the multiple of 1/32 that is nearest to the pixel's double, of two as near the even one. So it is off by at
+ * most 1/64 of a pixel, and by no more than that and the float's own rounding from the cell that lens_turn gives.
+ * Lengths, job, answer and what is returned are as for lens_turn, table_length being LENS_TABLE_NUMBERS, but for one
+ * number: a unit is refused with 19 in place of 12, LENS_REFUSED_CELL_TOO_FAR.
+ * A job doesn't say which kind of table it is built into: begun with one call it goes on with the other, and then each
+ * table has some of the cells. Keep to one. lens_lookup takes floats alone. */
+uint8_t lens_turn16(uint8_t *job, size_t job_length, int16_t *table, size_t table_length, uint64_t allowance,
+                    uint8_t *answer, size_t answer_length);
 
 /* The pixel at the point (x, y), between the four cells around it. region: the LENS_REGION_BYTES bytes at
  * LENS_JOB_REGION of the finished job; width and height are that job's; table_length: LENS_TABLE_FLOATS of them.
@@ -316,6 +334,7 @@ uint8_t lens_tangent(double theta, uint8_t *answer, size_t answer_length);
 
 typedef char lens_needs_bytes_of_8_bits[(unsigned char)-1 == 255 ? 1 : -1];
 typedef char lens_needs_floats_of_4_bytes[sizeof(float) == 4 ? 1 : -1];
+typedef char lens_needs_shorts_of_2_bytes[sizeof(int16_t) == 2 ? 1 : -1];
 typedef char lens_needs_doubles_of_8_bytes[sizeof(double) == 8 ? 1 : -1];
 typedef char lens_needs_observations_of_40_bytes[sizeof(lens_observation) == LENS_OBSERVATION_BYTES ? 1 : -1];
 typedef char lens_needs_pixel_u_at_0[offsetof(lens_observation, pixel_u) == LENS_OBSERVATION_PIXEL_U ? 1 : -1];

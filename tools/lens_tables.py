@@ -4,9 +4,10 @@ From the Rust's distortion_table.rs where it has a text, and from docs/RULES.md 
 of 5) where it has none: BoxRegion, units, turns, strict jobs, the job record. No code of the crates takes
 part. The four models come from tools/lens_models.py, which was made from the Rust in the same way.
 
-A camera is a pair (model's number, parameters). A table is a list of 2 * width * height whole numbers,
-each the bit pattern of an f32; the pixel of cell (u, v) takes two places from 2 * (v * width + u) on.
-Four numbers of a box stand as lower x, lower y, upper x, upper y.
+A camera is a pair (model's number, parameters). A table is a list of 2 * width * height whole numbers;
+the pixel of cell (u, v) takes two places from 2 * (v * width + u) on. There are two kinds: of F32 each
+number is the bit pattern of an f32, of I16 it is a count of thirty-seconds of a pixel. A record doesn't
+say of which kind its table is. Four numbers of a box stand as lower x, lower y, upper x, upper y.
 
 `distort_table` is the Rust's function once more, in one go, without units and with each corner twice. The
 turns don't use it; the self-test of make_table_vectors.py holds the two against each other.
@@ -15,6 +16,7 @@ import functools
 import math
 import struct
 from dataclasses import dataclass, replace
+from fractions import Fraction
 
 from lens_models import COUNTS, DISTORT, UNDISTORT, answer, div
 
@@ -114,8 +116,19 @@ def narrow(x):
         return None
 
 
-def cell(camera, region, w, h, u, v):
-    """A refusal's number, 0 for none, and the two f32s of cell (u, v)."""
+def thirty_seconds(x):
+    """The number of the multiple of 1/32 nearest to a finite x, ties to even, or None if sixteen bits don't hold it."""
+    number = round(32 * Fraction(x))
+    return number if -32768 <= number <= 32767 else None
+
+
+# A kind of cell: what one number of a pixel becomes, and the refusal where that is None.
+F32 = narrow, 12
+I16 = thirty_seconds, 19
+
+
+def cell(camera, region, w, h, u, v, kind=F32):
+    """A refusal's number, 0 for none, and the two numbers of cell (u, v)."""
     x, y = cell_point(region, w, h, u, v)
     # a point that isn't finite is nobody's argument here, so it is 11 and not 4
     if not (math.isfinite(x) and math.isfinite(y)):
@@ -123,8 +136,9 @@ def cell(camera, region, w, h, u, v):
     number, pixel = answer(camera[0], DISTORT, camera[1], x, y)
     if number:
         return number, None
-    pair = narrow(pixel[0]), narrow(pixel[1])
-    return (12, None) if None in pair else (0, pair)
+    rounded, too_large = kind
+    pair = rounded(pixel[0]), rounded(pixel[1])
+    return (too_large, None) if None in pair else (0, pair)
 
 
 # ---- the job record and its units (RULES 12.7, 12.8, 13.1, 13.2)
@@ -205,19 +219,19 @@ def tallies(flags_done):
     return flags_done.count(False), flags_done.index(False) + 1 if False in flags_done else 0
 
 
-def cell_unit(job):
-    """The next cell: a refusal's number, the record after it, and its two f32s."""
+def cell_unit(job, kind):
+    """The next cell: a refusal's number, the record after it, and its two numbers."""
     v, u = divmod(job.done - border(job.width, job.height), job.width)
-    number, pair = cell(job.camera, job.region, job.width, job.height, u, v)
+    number, pair = cell(job.camera, job.region, job.width, job.height, u, v, kind)
     return (number, None, None) if number else (0, replace(job, done=job.done + 1), pair)
 
 
-def unit(job):
+def unit(job, kind=F32):
     """Unit done + 1 of a job that has one left: a refusal's number, 0 for none; the record after it; and a cell's two
-    f32s, None for a sample. A refused unit gives its number alone."""
+    numbers, None for a sample. A refused unit gives its number alone."""
     if job.done < border(job.width, job.height):
         return (*sample_unit(job), None)
-    return cell_unit(job)
+    return cell_unit(job, kind)
 
 
 # ---- turns (RULES 13.3 to 13.6)
@@ -259,7 +273,7 @@ def call_refused(job, table):
     return 13 if impossible(job) else 0
 
 
-def turn(job, table, allowance):
+def turn(job, table, allowance, kind=F32):
     """At most so many units of a job. The status, a refusal's number (0 for none), and the record; cells are written
     into the table. A call refused before any unit gives its own record back."""
     number = call_refused(job, table)
@@ -268,7 +282,7 @@ def turn(job, table, allowance):
     first, last = border(job.width, job.height), total(job.width, job.height)
     left = allowance
     while left > 0 and job.done < last:
-        number, after, pair = unit(job)
+        number, after, pair = unit(job, kind)
         if number:
             return REFUSED, number, job
         if pair:
@@ -292,9 +306,18 @@ def rust_samples(w, h):
     return found
 
 
-def distort_table(camera, w, h):
+def narrowed(z):
+    return struct.unpack("<I", struct.pack("<f", z))[0]
+
+
+def in_sixteen_bits(z):
+    """By the platform: 32 times an f64 is exact or infinite, and round has ties to even."""
+    return struct.unpack("<h", struct.pack("<h", round(32 * z)))[0]
+
+
+def distort_table(camera, w, h, kind=F32):
     """region and table as distortion_table.rs has them, top to bottom, or the number of whatever comes first that is
-    refused. Written apart from the units above."""
+    refused. Written apart from the units above. For sixteen bits it is the same with another rounding of each pixel."""
     model, params = camera
     region = None
     for u, v in rust_samples(w, h):
@@ -328,7 +351,7 @@ def distort_table(camera, w, h):
                 return number, None, None
             for z in pixel:
                 try:
-                    table += struct.unpack("<I", struct.pack("<f", z))
-                except OverflowError:
-                    return 12, None, None
+                    table.append(narrowed(z) if kind is F32 else in_sixteen_bits(z))
+                except (OverflowError, struct.error):
+                    return kind[1], None, None
     return 0, (*offset, *end), table

@@ -1,5 +1,5 @@
 #!/usr/bin/env python3
-"""Makes crates/test_head_calls/stdin and stdout: calls of the four functions that a head calls, and what is owed for each.
+"""Makes crates/test_head_calls/stdin and stdout: calls of the five functions that a head calls, and what is owed for each.
 
     python3 tools/make_head_calls.py              writes both files, and says on stderr what they cover
     python3 tools/make_head_calls.py --self-test  tests this script, and writes nothing
@@ -19,27 +19,29 @@ from collections import Counter
 from dataclasses import replace
 
 from lens_models import AFFINE, BC, COUNTS, EUCM, KB, UNDISTORT, answer
-from lens_tables import FINISHED, LIMITS, REFUSED, RUNNING, Job
-from lens_tables import border, call_refused, camera_refused, fresh, samples, size_refused, total, turn
+from lens_tables import F32, FINISHED, I16, LIMITS, REFUSED, RUNNING, Job
+from lens_tables import border, call_refused, camera_refused, fresh, narrow, samples, size_refused, thirty_seconds
+from lens_tables import total, turn
 from make_leaf_vectors import Splitmix
 from make_table_lookups import BOX, lookup
 from make_table_lookups import LISTED as LISTED_CELLS
-from make_table_vectors import BRINK, FLAT_UNSETTLED_LAST, HALF_EUCM, LISTED, LISTING, OWN_REFUSALS, UNSETTLED
-from make_table_vectors import UNSETTLED_THEN_REFUSED, first_unsettled, sample_at, unsettled_last
+from make_table_vectors import BRINK, FLAT_UNSETTLED_LAST, HALF_EUCM, LISTED, LISTING, OWN_REFUSALS, SHAPES, UNSETTLED
+from make_table_vectors import UNSETTLED_THEN_REFUSED, about_the_edge, first_unsettled, sample_at, unsettled_last
 
 FOLDER = pathlib.Path(__file__).resolve().parent.parent / "crates" / "test_head_calls"
 FIELDS, LINE = 12, 204
 BYTES, NUMBERS = 512, 64  # of a buffer, of the table
-FILL, BEFORE = 0xA5, struct.unpack("<I", struct.pack("<f", 12345.0))[0]
+FILL, BEFORE, BEFORE16 = 0xA5, struct.unpack("<I", struct.pack("<f", 12345.0))[0], 12345
 JOB, REGION_AT, TALLIES, MARK, CHECK = 208, 152, 184, 192, 200
 ANSWER, PIXEL, BOX_BYTES, OBSERVATION = 48, 16, 32, 40
-REFILL, PUT_READ, PUT_LENT, PUT_TABLE, JOB_NEW, TURN, OBSERVE, LOOKUP, FLIPS = range(9)
+REFILL, PUT_READ, PUT_LENT, PUT_TABLE, JOB_NEW, TURN, OBSERVE, LOOKUP, FLIPS, TURN16, FLIPS16 = range(11)
 STATUS = {RUNNING: 0, FINISHED: 1, REFUSED: 2}
 NAN, INF = math.nan, math.inf
 LARGEST, LEAST = sys.float_info.max, 2.0**-1074
 MAX32, MAX64 = 2**32 - 1, 2**64 - 1
 ODD = (NAN, INF, -INF, -0.0)  # what may stand where a number should
 NAMES = ("affine", "eucm", "kb", "bc")
+NAME = {F32: "lens_turn", I16: "lens_turn16"}
 
 
 # ---- bytes
@@ -140,12 +142,12 @@ def turn_refused(data, table, room):
     return lowest(1 if job is None else call_refused(job, table), damaged, 7 if room != ANSWER else 0)
 
 
-def turn_owed(data, table, allowance, lent):
+def turn_owed(data, table, allowance, lent, kind=F32):
     number = turn_refused(data, table, len(lent))
     if number:
         return number, data, table, lent
     cells = list(table)
-    status, number, after = turn(record_of(data), cells, allowance)
+    status, number, after = turn(record_of(data), cells, allowance, kind)
     units = total(after.width, after.height)
     said = struct.pack("<6Q", STATUS[status], after.done, units, after.updates, after.unsettled, after.first)
     return number, record_bytes(after), cells, said
@@ -177,6 +179,11 @@ def lookup_owed(table, region, w, h, x, y, lent):
 # ---- the lines
 
 
+def spelled_cells(cells, kind):
+    """An i16 is spelled as the f32 that is the same number."""
+    return "".join(f"{z:08x}" for z in (cells if kind is F32 else map(narrow, cells)))
+
+
 class Head:
     """The buffers as the program has them, and the lines of both files."""
 
@@ -196,8 +203,12 @@ class Head:
 
     def refill(self):
         self.read, self.lent, self.answer = (bytes([FILL]) * BYTES for _ in range(3))
-        self.table = [BEFORE] * NUMBERS
+        self.tables = {F32: [BEFORE] * NUMBERS, I16: [BEFORE16] * NUMBERS}
         self.line(REFILL)
+
+    @property
+    def table(self):
+        return self.tables[F32]
 
     def put(self, what, old, new):
         """Puts the words that are others, at most eight a line."""
@@ -226,7 +237,7 @@ class Head:
     def cells(self, table):
         new = [*table, *self.table[len(table) :]]
         self.put(PUT_TABLE, [pattern(widened(z)) for z in self.table], [pattern(widened(z)) for z in new])
-        self.table = new
+        self.tables[F32] = new
 
     def reply(self, what, number, *buffers):
         """The line of a call: a buffer is before, after, and its spelling."""
@@ -244,27 +255,27 @@ class Head:
             self.lent = after + self.lent[room:]
         return reply
 
-    def turn(self, allowance, places, length=JOB, room=ANSWER, stay=0):
-        self.line(TURN, stay, 0, 0, length, room, places, 0, 0, 0, 0, allowance)
-        given = self.lent[:length], self.table[:places], self.answer[:room]
-        number, data, cells, said = turn_owed(given[0], given[1], allowance, given[2])
-        spelled = data.hex(), "".join(f"{z:08x}" for z in cells), said.hex()
-        reply = self.reply("lens_turn", number, *zip(given, (data, cells, said), spelled))
+    def turn(self, allowance, places, length=JOB, room=ANSWER, stay=0, kind=F32):
+        self.line(TURN if kind is F32 else TURN16, stay, 0, 0, length, room, places, 0, 0, 0, 0, allowance)
+        given = self.lent[:length], self.tables[kind][:places], self.answer[:room]
+        number, data, cells, said = turn_owed(given[0], given[1], allowance, given[2], kind)
+        spelled = data.hex(), spelled_cells(cells, kind), said.hex()
+        reply = self.reply(NAME[kind], number, *zip(given, (data, cells, said), spelled))
         if stay:
             self.lent = data + self.lent[length:]
-            self.table = cells + self.table[places:]
+            self.tables[kind] = cells + self.tables[kind][places:]
         return reply
 
-    def flips(self, allowance, places):
+    def flips(self, allowance, places, kind=F32):
         """A turn with each bit of the job flipped, from the lowest of the first byte on: the numbers that refuse them."""
-        self.line(FLIPS, 0, 0, 0, JOB, ANSWER, places, 0, 0, 0, 0, allowance)
+        self.line(FLIPS if kind is F32 else FLIPS16, 0, 0, 0, JOB, ANSWER, places, 0, 0, 0, 0, allowance)
         numbers = []
         for bit in range(8 * JOB):
             flipped = int.from_bytes(self.lent[:JOB], "little") ^ (1 << bit)
-            given = flipped.to_bytes(JOB, "little"), self.table[:places], self.answer[:ANSWER]
-            number, *after = turn_owed(given[0], given[1], allowance, given[2])
+            given = flipped.to_bytes(JOB, "little"), self.tables[kind][:places], self.answer[:ANSWER]
+            number, *after = turn_owed(given[0], given[1], allowance, given[2], kind)
             assert number and tuple(after) == given, bit
-            self.reply("lens_turn", number, *((old, old, "") for old in given))
+            self.reply(NAME[kind], number, *((old, old, "") for old in given))
             numbers.append(number)
         self.owed.append(f"bits\t{8 * JOB}\n")
         return numbers
@@ -303,15 +314,15 @@ def started(head, camera, w, h, mark=0):
     head.job_new(camera[0], doubles(*camera[1]), w, h, stay=1, mark=mark)
 
 
-def in_turns(head, camera, w, h, allowances, mark=0):
+def in_turns(head, camera, w, h, allowances, mark=0, kind=F32):
     """A job from its start to its end: the record and the cells."""
     started(head, camera, w, h, mark)
     turns = 0
     while struct.unpack_from("<Q", head.lent, 112)[0] < total(w, h):
-        number, _ = head.turn(allowances[turns % len(allowances)], 2 * w * h, stay=1)
+        number, _ = head.turn(allowances[turns % len(allowances)], 2 * w * h, stay=1, kind=kind)
         assert number == 0
         turns += 1
-    return head.lent, head.table
+    return head.lent, head.tables[kind]
 
 
 def rules_table(head):
@@ -376,16 +387,17 @@ JOBS = [
 ]  # fmt: skip
 
 
-def refused_at_a_unit(head):
-    for words, model, params, w, h, number, unit in JOBS:
+def refused_at_a_unit(head, jobs=JOBS, kind=F32):
+    before = {F32: BEFORE, I16: BEFORE16}[kind]
+    for words, model, params, w, h, number, unit in jobs:
         head.heading(f"{words}; after a turn of 100: turns of 0, 1, 100")
         started(head, (model, params), w, h)
-        given, _ = head.turn(ALL, 2 * w * h, stay=1)
+        given, _ = head.turn(ALL, 2 * w * h, stay=1, kind=kind)
         done = record_of(head.lent).done
-        assert (given, done) == (number, unit - 1), words
-        assert head.table[: 2 * w * h].count(BEFORE) == 2 * (w * h - max(done - border(w, h), 0))
+        assert (given, done) == (number, unit - 1), (words, given, done)
+        assert head.tables[kind][: 2 * w * h].count(before) == 2 * (w * h - max(done - border(w, h), 0))
         for allowance in (0, 1, ALL):
-            again, kept = head.turn(allowance, 2 * w * h)
+            again, kept = head.turn(allowance, 2 * w * h, kind=kind)
             assert again == (number if allowance else 0) and kept[:2] == ["kept", "kept"], words
 
 
@@ -569,7 +581,7 @@ def order_lines():
 CHANGED = {SAMPLE: (0, True, False), CELL: (0, True, True), LAST: (0, True, True), OVER: (0, False, False)}
 
 
-def beside_a_refusal(head):
+def beside_a_refusal(head, kind=F32):
     """Turns of 1, of affine 1 1 0 0 and 3 by 2 unless a line says so. An outcome is a refusal's number, or what
     a turn that is taken says and changes."""
     for lines in (
@@ -585,10 +597,10 @@ def beside_a_refusal(head):
         order_lines(),
     ):
         head.refill()
-        head.heading(next(lines))
+        head.heading(("" if kind is F32 else "turn16. ") + next(lines))
         for words, job, outcome, *numbers in lines:
             head.lends(record_bytes(job))
-            number, kept = head.turn(1, numbers[0] if numbers else 12)
+            number, kept = head.turn(1, numbers[0] if numbers else 12, kind=kind)
             if isinstance(outcome, str):
                 done, record, table = CHANGED[outcome]
                 assert (number, kept[0] != "kept", kept[1] != "kept") == (done, record, table), words
@@ -696,12 +708,26 @@ def impossible_records(head):
         assert head.turn(allowance, 12)[0] == 0
 
 
-def several_faults_of_a_turn(head):
+FAULTS = {
+    1: "model 4",
+    4: "fx NaN",
+    5: "fy 0",
+    6: "width 1",
+    7: "11 numbers",
+    13: f"{T + 1} units",
+    "mark": "mark 2",
+    "check": "a wrong check word",
+    "answer": "47 bytes of answer",
+    "record": "207 of record",
+}
+
+
+def several_faults_of_a_turn(head, some=tuple(FAULTS), kind=F32):
     """Every set of faults. Bytes of another length hold no record, so 207 of them are 7 whatever stands there."""
     head.refill()
-    head.heading(f"turn: every set of: model 4, fx NaN, fy 0, width 1, 11 numbers, {T + 1} units, mark 2, a wrong check word, 47 bytes of answer, 207 of record")
+    head.heading(f"{NAME[kind][5:]}: every set of: {', '.join(FAULTS[fault] for fault in some)}")
     good = after_units(CAMERAS[KB], 9)
-    for faults in subsets((1, 4, 5, 6, 7, 13, "mark", "check", "answer", "record")):
+    for faults in subsets(some):
         data = record_bytes(replace(good, done=T + 1 if 13 in faults else 9, width=1 if 6 in faults else 3))
         data = struct.pack("<I", 4 if 1 in faults else KB) + data[4:]
         data = poked(data, 8, NAN) if 4 in faults else data
@@ -709,7 +735,7 @@ def several_faults_of_a_turn(head):
         data = mended(marked(data, 2) if "mark" in faults else data)
         head.lends(data[:CHECK] + bytes([data[CHECK] ^ 1]) + data[CHECK + 1 :] if "check" in faults else data)
         places = 11 if 7 in faults else 4 if 6 in faults else 12
-        number, kept = head.turn(1, places, JOB - ("record" in faults), ANSWER - ("answer" in faults))
+        number, kept = head.turn(1, places, JOB - ("record" in faults), ANSWER - ("answer" in faults), kind=kind)
         own = {"answer": 7, "mark": 13, "check": 13}
         owed = 7 if "record" in faults else min([own.get(f, f) for f in faults], default=0)
         assert number == owed and (not owed or kept == ["kept"] * 3), faults
@@ -1130,9 +1156,138 @@ def marks(head):
             assert cells == table and other[:MARK] == lent[:MARK] and other[:JOB] == mended(marked(lent[:JOB], 1))
 
 
+# ---- cells of sixteen bits: the same jobs by lens_turn16
+
+EDGE, BELOW = 1023.984375, -1024.015625  # the first number of pixels out above, and the last one in below
+
+# What is refused before the cells is refused as ever; then the two jobs whose pixels are too large for a float are too
+# far.
+JOBS16 = [
+    *(job for job in JOBS if job[5] != 12),
+    ("eucm 1e39 1 1e39 0.5 0.5 1, 3 by 2: the pixel of cell (0, 0) is too far, and fits a float",
+     EUCM, (1e39, 1.0, 1e39, 0.5, *HALF_EUCM), 3, 2, 19, B + 1),
+    ("bc 1 1 -1 -1 1e55 0 0 0 0 0 0 0, 3 by 3: the pixel of cell (0, 0) is too far, and fits a float",
+     BC, (1.0, 1.0, -1.0, -1.0, 1e55, *[0.0] * 7), 3, 3, 19, border(3, 3) + 1),
+    *((f"eucm with an s of {s!r}, {shape(s)[1]} by {shape(s)[2]}: {words} is the first s whose cell is too far",
+       EUCM, tuple(shape(s)[3]), *shape(s)[1:3], 19, unit)
+      for unit, words, shape in SHAPES for s in about_the_edge(shape)[1:]),
+]  # fmt: skip
+
+
+def rules_table_16(head):
+    head.heading("turn16. the rules' table, affine 1 1 0 0, 3 by 2, unit by unit, in turns of 7, 100, 0 1 7 100, as many as can be said")
+    lent, table = in_turns(head, CAMERA, W, H, [1], kind=I16)
+    # -2, 1 and 4 across, -1.5 and 2.5 down, in thirty-seconds
+    assert table[: 2 * W * H] == [z for v in (-48, 80) for u in (-64, 32, 128) for z in (u, v)]
+    for allowances in ([7], [ALL], [0, 1, 7, ALL], [MAX64]):
+        assert in_turns(head, CAMERA, W, H, allowances, kind=I16) == (lent, table)
+        for allowance in (0, ALL):
+            assert head.turn(allowance, 12, kind=I16)[1][:2] == ["kept", "kept"]
+    assert in_turns(head, CAMERA, W, H, [1])[0] == lent
+    for camera in CAMERAS:
+        head.heading(f"turn16. {NAMES[camera[0]]}, 5 by 4: all at once, unit by unit, in turns of 9, of 0 3 20 1; 2 by 2 and 7 by 2 in both")
+        first = in_turns(head, camera, 5, 4, [MAX64], kind=I16)
+        for allowances in ([1], [9], [0, 3, 20, 1]):
+            assert in_turns(head, camera, 5, 4, allowances, kind=I16) == first
+        for w, h in ((2, 2), (7, 2)):
+            first = in_turns(head, camera, w, h, [MAX64], kind=I16)
+            assert in_turns(head, camera, w, h, [1], kind=I16) == first
+
+
+def both_calls(head):
+    """A record doesn't say of which kind its table is: cells of either go into their own table."""
+    head.heading(f"turn and turn16 on one job, in turns of 1 from {B} units on, by turns; each table has the cells of its own calls")
+    started(head, CAMERAS[BC], W, H)
+    head.turn(B, 12, stay=1)
+    for i in range(W * H):
+        assert head.turn(1, 12, stay=1, kind=(F32, I16)[i % 2])[0] == 0
+    for kind, before, odd in ((F32, BEFORE, 1), (I16, BEFORE16, 0)):
+        places = head.tables[kind][:12]
+        assert [places[2 * i : 2 * i + 2] == [before] * 2 for i in range(W * H)] == [i % 2 == odd for i in range(W * H)]
+
+
+def spots():
+    """Numbers of pixels that are the first cell's: both edges and the numbers beside them, ties that go down and up,
+    zeros, the smallest numbers, and some that are far."""
+    for z in (EDGE, BELOW, 1023.96875, -1024.0, 1024.0, -1024.03125):
+        yield from (math.nextafter(z, -INF), z, math.nextafter(z, INF))
+    for n in (1, 3, 5, 7, 65533):
+        for z in (n / 64, -n / 64):
+            yield from (math.nextafter(z, -INF), z, math.nextafter(z, INF))
+    yield from (0.0, -0.0, LEAST, -LEAST, 2.0**-1022, -(2.0**-1022), 1 / 32, -1 / 32, 319.99)
+    for z in (*(2.0**e for e in (11, 15, 16, 26, 27, 31, 32, 47, 52, 58, 63)), 1e39, 1e300):
+        yield from (z, -z)
+
+
+def at_the_edge_16(head):
+    """Jobs whose border is done, of affine 1 1 0 0 with a region that begins at a pixel of our choice: that is the pixel of
+    cell (0, 0). u alone, v alone; and 19 only where it isn't 11."""
+    head.refill()
+    head.heading("turn16. affine 1 1 0 0, 3 by 2, the border done; a region's left edge is each of some numbers, then its top")
+    met = Counter()
+    for z, across in itertools.product(spots(), (True, False)):
+        far = z + 1.0 if abs(z) < 2.0**40 else z + abs(z)
+        region = (z, -1.5, far, 2.5) if across else (-2.0, z, 4.0, far)
+        head.lends(record_bytes(record(done=B, region=region)))
+        number, kept = head.turn(1, 12, kind=I16)
+        owed = thirty_seconds(z)
+        assert number == (19 if owed is None else 0) and (owed is not None) == (BELOW <= z < EDGE), z
+        other = -48 if across else -64
+        pair = (owed, other) if across else (other, owed)
+        assert kept[1] == "kept" if owed is None else kept[1].startswith(spelled_cells(pair, I16)), z
+        met[number] += 1
+    assert met[0] > 50 and met[19] > 50
+    head.heading("turn16. the same with eucm 2 2 0 0 0.4 -0.5, whose pixel there is NaN: 11, and 19 next to it")
+    for x, number in ((4.0, 11), (1e6, 19)):
+        camera = (EUCM, (2.0, 2.0, 0.0, 0.0, 0.4, -0.5)) if number == 11 else CAMERA
+        head.lends(record_bytes(record(camera, B, region=(x, -1.5, x + 6.0, 2.5))))
+        assert head.turn(1, 12, kind=I16)[0] == number
+
+
+def hostile_turns_16(head):
+    head.refill()
+    good = record_bytes(after_units(CAMERAS[KB], B + 2))
+    head.lends(good)
+    head.heading("turn16: records of some lengths; answers of every length from 0 to 64; tables of every length from 0 to 64")
+    for n in (0, 1, 8, 104, 184, 192, 207, 208, 209, 216, 300, 416, 512):
+        assert head.turn(1, 12, n, kind=I16)[0] == (0 if n == JOB else 7)
+    for n in range(65):
+        assert head.turn(1, 12, room=n, kind=I16)[0] == (0 if n == ANSWER else 7)
+    for n in range(65):
+        assert head.turn(1, n, kind=I16)[0] == (0 if n == 12 else 7)
+    head.heading(f"turn16: a job at {B + 2} units with each of its {8 * JOB} bits flipped in turn; then the job itself")
+    assert set(head.flips(ALL, 12, I16)) == {1, 4, 6, 7, 13}
+    assert head.turn(ALL, 12, kind=I16)[0] == 0
+    several_faults_of_a_turn(head, (1, 4, 5, 6, 7, 13, "check", "answer"), I16)
+
+
+def strict_16(head):
+    for place in (0, 6, 13, 15):
+        pixels, (model, w, h, params) = UNSETTLED[place]
+        first = first_unsettled(pixels, (model, w, h, params))
+        head.heading(f"turn16. {NAMES[model]}, {w} by {h}, sample {first} is the first that doesn't settle: at once; strict")
+        started(head, (model, tuple(params)), w, h)
+        number, kept = head.turn(ALL, 2 * w * h, kind=I16)
+        assert number == 0 and said_by(kept[2])[5] == first
+        started(head, (model, tuple(params)), w, h, 1)
+        number, kept = head.turn(ALL, 2 * w * h, stay=1, kind=I16)
+        assert number == 18 and said_by(kept[2])[:2] == (2, first - 1)
+        assert head.turn(1, 2 * w * h, kind=I16)[0] == 18
+
+
+def of_sixteen_bits(head):
+    rules_table_16(head)
+    both_calls(head)
+    refused_at_a_unit(head, JOBS16, I16)
+    beside_a_refusal(head, I16)
+    at_the_edge_16(head)
+    strict_16(head)
+    hostile_turns_16(head)
+
+
 def no_calls(head):
     head.heading("lines that are no calls: an unknown function, an upper-case digit, a space for a tab, a line cut off")
-    head.line(9)
+    head.line(11)
     head.owed.append("bad\n")
     text = "\t".join(["000000000000000a", *["0" * 16] * 11]) + "\n"
     head.bad(text.replace("a", "A"))
@@ -1163,6 +1318,7 @@ def written():
         hostile_jobs,
         hostile_lists,
         hostile_lookups,
+        of_sixteen_bits,
         no_calls,
     ):
         part(head)
@@ -1177,6 +1333,7 @@ def cover(said):
     for name, numbers in (
         ("lens_job_new", {0, 1, 3, 4, 5, 6, 7, 13}),
         ("lens_turn", {0, 1, 4, 5, 6, 7, 8, 10, 11, 12, 13, 16, 18}),
+        ("lens_turn16", {0, 1, 4, 5, 6, 7, 8, 10, 11, 13, 16, 18, 19}),
         ("lens_observe", {0, 1, 3, 4, 5, 7}),
         ("lens_lookup", {0, 4, 6, 7, 8, 9, 11}),
     ):
@@ -1209,6 +1366,9 @@ def self_test():
     assert (number, cells, said) == (0, [BEFORE] * 12, struct.pack("<6Q", 0, 1, T, 0, 0, 0))
     assert after[120:152] == doubles(-0.75, -0.125, -0.75, -0.125) and after[152:200] == bytes(48)
     assert turn_owed(made, [BEFORE] * 11, 1, b"")[0] == 7 and turn_owed(made[1:], [], 1, b"")[0] == 7
+    # in sixteen bits the first of 16 units is the same, and the eleventh puts -2 and -1.5 as -64 and -48
+    assert turn_owed(made, [7] * 12, 1, bytes(ANSWER), I16) == (0, after, [7] * 12, said)
+    assert turn_owed(made, [7] * 12, 11, bytes(ANSWER), I16)[2] == [-64, -48, *[7] * 10]
     cells = [struct.unpack("<I", struct.pack("<f", z))[0] for z in LISTED_CELLS]
     assert lookup_owed(cells, doubles(*BOX), 3, 2, 0.25, 0.5, bytes(16)) == (0, doubles(0.25, 0.5))
     print("bytes and calls by hand: as said")

@@ -1,19 +1,22 @@
 #!/usr/bin/env python3
-"""Makes crates/test_leaf_vectors/stdin and stdout: questions to `root` and `narrow`, and the answers.
+"""Makes crates/test_leaf_vectors/stdin and stdout: questions to `root`, `narrow` and `thirty_seconds`,
+and the answers.
 
     python3 tools/make_leaf_vectors.py
 
-A question is a line, `root` or `narrow`, a tab and the 16 hexadecimal digits of an f64's bit
+A question is a line, one of these words, a tab and the 16 hexadecimal digits of an f64's bit
 pattern. Its answer is that line with a tab and the pattern of the correctly rounded result: 16
-digits of an f64 for `root`, 8 of an f32 for `narrow`. Every NaN is answered by one pattern. A line
-of another form is answered by `bad`, and the last line of stdout counts the lines of stdin.
+digits of an f64 for `root`, 8 of an f32 for `narrow`. Every NaN is answered by one pattern. For
+`thirty_seconds` it is the number of the nearest multiple of 1/32, written as the pattern of that
+whole number as an f64, or `too far` where 16 bits don't hold it. A line of another form is answered
+by `bad`, and the last line of stdout counts the lines of stdin.
 
 How the answers are made. A pattern is taken apart into whole numbers, and its value is m * 2^e.
 The root is found with math.isqrt on a number scaled to 108 to 110 bits, and held by two squarings
-to lie within half a unit; the f32 is found with one division with remainder, ties to even. No
-float takes part, and neither does any code of this repository. Only afterwards each answer is
-compared with the platform's math.sqrt and its conversion to a C float, and a difference stops the
-script.
+to lie within half a unit; the f32 and the number of thirty-seconds are found with one division with
+remainder, ties to even. No float takes part, and neither does any code of this repository. Only
+afterwards each answer is compared with the platform's math.sqrt, its conversion to a C float and
+its rounding of 32 * x to a whole number, and a difference stops the script.
 
 How the questions are made. By hand for the special values and the edges, by a search for the hard
 roots (`close_squares`: x such that 4x lies next to the square of an odd number, so that the root
@@ -68,18 +71,21 @@ def parts(bits):
     return (low, -1074) if field == 0 else (low + NORMAL, field - 1075)
 
 
+def in_units(m, e, unit):
+    """m * 2^e in units of 2^unit, to the nearest whole number, ties to even."""
+    if unit <= e:
+        return m << e - unit
+    n, rest = divmod(m, 1 << unit - e)
+    half = 1 << unit - e - 1
+    return n + (rest > half or rest == half and n % 2 == 1)
+
+
 def nearest(m, e, digits, least):
     """The pattern of m * 2^e, rounded once to nearest, ties to even, in the format with so many
     binary digits and the smallest value 2^least. What is too large gives no pattern of the format,
     but one at its infinity or above."""
     unit = max(m.bit_length() + e - digits, least)
-    if unit <= e:
-        n = m << e - unit
-    else:
-        n, rest = divmod(m, 1 << unit - e)
-        half = 1 << unit - e - 1
-        if rest > half or rest == half and n % 2 == 1:
-            n += 1
+    n = in_units(m, e, unit)
     # a carry into n's next binary digit counts the exponent up
     return (unit - least << digits - 1) + n if n else 0
 
@@ -109,6 +115,16 @@ def narrow(bits):
     if bits % SIGN == INF:
         return sign + INF32
     return sign + min(nearest(*parts(bits), 24, -149), INF32)
+
+
+def thirty_seconds(bits):
+    """The number of the nearest multiple of 1/32, ties to even, or None outside 16 bits."""
+    if bits % SIGN >= INF:
+        return None
+    n = in_units(*parts(bits), -5)
+    if bits >= SIGN:
+        n = -n
+    return n if -32768 <= n <= 32767 else None
 
 
 # ---- the questions
@@ -320,6 +336,63 @@ def narrow_kinds(rng):
     }
 
 
+def signed(n, e):
+    """The pattern of n * 2^e, which is an f64, for an n of either sign."""
+    return f64(n, e) if n >= 0 else SIGN + f64(-n, e)
+
+
+def multiple_ties(rng):
+    """Midpoints of two multiples of 1/32: down to an even number and up to one, and a unit beside
+    each."""
+    ns = [0, 1, 2, 3, 4, 5, 30, 31, 32, 33, 254, 255, 16383, 16384, 32764, 32765]
+    ns += [rng.of_length(k) for k in range(3, 16)]
+    return both(x for n in ns for x in around(tie(n, -5)))
+
+
+def range_ends():
+    """The last number in and the first out on each side, each with the f64s beside it."""
+    ends = [65532, 65533, 65534, 65535, 65536, 65537, 65538, 65539, 65540]
+    return both(x for n in ends for x in around(f64(n, -6)))
+
+
+def multiples(rng):
+    """Multiples of 1/32, among them the largest and the smallest that 16 bits hold."""
+    ns = [1, 2, 3, 31, 32, 33, 64, 1000, 20480, 32766, 32767]
+    found = [signed(n, -5) for n in ns + [-n for n in ns] + [-32768]]
+    return found + [signed(rng.below(65536) - 32768, -5) for _ in range(24)]
+
+
+def too_far(rng):
+    """Numbers past the range, up to the largest: those at which a sum or a whole number of 16, 32, 53
+    or 64 bits would wrap among them."""
+    powers = [11, 15, 16, 20, 26, 27, 31, 32, 46, 47, 48, 52, 53, 58, 59, 62, 63, 64, 128, 500, 1023]
+    found = [f64(1, e) for e in powers] + [f64(3, e) for e in (46, 47)] + [f64(2**32 + 1, -5), LARGEST]
+    return both(found + [f64(rng.of_length(53), rng.below(900) - 41) for _ in range(12)])
+
+
+def random_pixels(rng):
+    """Numbers inside the range, by exponent."""
+    return [rng.bits(1) * SIGN + f64(rng.of_length(53), rng.below(18) - 7 - 53) for _ in range(120)]
+
+
+def thirty_seconds_kinds(rng):
+    tiny = [1, 2, 3, NORMAL - 1, NORMAL, NORMAL + 1, f64(1, -1000), f64(1, -60), f64(1, -7)]
+    tiny += [rng.of_length(k) for k in range(4, 53, 8)]
+    return {
+        "NaN": NANS,
+        "infinity": both([INF]),
+        "zero": both([0]),
+        "end of the range": range_ends(),
+        "tie": multiple_ties(rng),
+        "multiple of 1/32": multiples(rng),
+        "beside a multiple": [x for b in multiples(rng)[-12:] for x in (b - 1, b + 1)],
+        "tiny": both(tiny),
+        "too far": too_far(rng),
+        "random, in the range": random_pixels(rng),
+        "random pattern": [rng.bits(64) for _ in range(20)],
+    }
+
+
 def bad_lines():
     one = "3ff0000000000000"
     bad = ["", "\t", "root", "narrow", "root\t", "narrow\t", one, "\t" + one, "root" + one]
@@ -327,6 +400,7 @@ def bad_lines():
     bad += ["root\t" + one[1:], "root\t0" + one, "root\t" + one + " ", "root\t" + one + "\r"]
     bad += ["narrow\t" + one[1:], "narrow\t0" + one, "narrow\t" + one + "\t", "arrow\t" + one]
     bad += ["root\t" + one.upper(), "narrow\t0x" + one[2:], "root\t-" + one[1:]]
+    bad += ["thirty_seconds", "thirty_seconds\t" + one[1:], "thirty_seconds\t" + one + "0", "thirty\t" + one]
     # the neighbours of the digits' ranges, at the first place and at the last
     bad += ["root\t" + c + one[1:] for c in "/:`g"] + ["narrow\t" + one[1:] + c for c in "/:`g"]
     return bad
@@ -356,7 +430,20 @@ def platform_narrow(bits):
         return (bits >> 63 << 31) + INF32
 
 
-def ask(word, width, kinds, answer, platform):
+def platform_thirty_seconds(bits):
+    x = value(bits)
+    # 32 * x is exact unless it overflows
+    if math.isnan(x) or math.isinf(32 * x):
+        return None
+    n = round(32 * x)
+    return n if -32768 <= n <= 32767 else None
+
+
+def shown(number):
+    return "too far" if number is None else f"{signed(number, 0):016x}"
+
+
+def ask(word, show, kinds, answer, platform):
     """The lines of stdin and of stdout for the kinds of questions, each question once."""
     asked, answers = [], []
     seen = set()
@@ -366,7 +453,7 @@ def ask(word, width, kinds, answer, platform):
         for b in new:
             assert 0 <= b < 2**64 and answer(b) == platform(b), hex(b)
             asked.append(f"{word}\t{b:016x}")
-            answers.append(f"{word}\t{b:016x}\t{answer(b):0{width}x}")
+            answers.append(f"{word}\t{b:016x}\t{show(answer(b))}")
         print(f"{word}: {len(new)} {kind}")
     print(f"{word}: {len(asked)} in all")
     return asked, answers
@@ -374,10 +461,12 @@ def ask(word, width, kinds, answer, platform):
 
 def main():
     bad = bad_lines()
-    roots = ask("root", 16, root_kinds(Splitmix(1)), root, platform_root)
-    narrows = ask("narrow", 8, narrow_kinds(Splitmix(2)), narrow, platform_narrow)
-    asked = roots[0] + bad + narrows[0]
-    answers = roots[1] + ["bad"] * len(bad) + narrows[1] + [f"lines\t{len(asked)}"]
+    roots = ask("root", "{:016x}".format, root_kinds(Splitmix(1)), root, platform_root)
+    narrows = ask("narrow", "{:08x}".format, narrow_kinds(Splitmix(2)), narrow, platform_narrow)
+    kinds = thirty_seconds_kinds(Splitmix(3))
+    multiples_asked = ask("thirty_seconds", shown, kinds, thirty_seconds, platform_thirty_seconds)
+    asked = roots[0] + bad + narrows[0] + multiples_asked[0]
+    answers = roots[1] + ["bad"] * len(bad) + narrows[1] + multiples_asked[1] + [f"lines\t{len(asked)}"]
     print(f"{len(bad)} bad lines; {len(asked)} lines in all")
     folder = pathlib.Path(__file__).resolve().parent.parent / "crates" / "test_leaf_vectors"
     for name, lines in (("stdin", asked), ("stdout", answers)):

@@ -4,10 +4,11 @@
     python3 tools/make_table_vectors.py              writes both files, and says on stderr what they cover
     python3 tools/make_table_vectors.py --self-test  tests this script and lens_tables.py, and writes nothing
 
-A question is a line of 17 fields with tabs between, each 16 hexadecimal digits: the model (0 affine,
+A question is a line of 18 fields with tabs between, each 16 hexadecimal digits: the model (0 affine,
 1 eucm, 2 kb, 3 bc), the width, the height, the allowance of every turn, 1 for a strict job and 0 for
-another, and twelve parameters as bit patterns of f64s. A model with fewer parameters has zeros in the
-places that are left. So every line has 289 bytes with its end, and the program reads one at a time.
+another, 1 for cells of sixteen bits and 0 for f32s, and twelve parameters as bit patterns of f64s. A
+model with fewer parameters has zeros in the places that are left. So every line has 306 bytes with its
+end, and the program reads one at a time.
 
 The answer to a question takes several lines, with tabs between fields; counts are decimal:
 
@@ -17,12 +18,13 @@ The answer to a question takes several lines, with tabs between fields; counts a
     refused  N DONE UPDATES NO FIRST     position of the first of them
     edges    four f64s                 lower x, lower y, upper x, upper y, of the last record
     region   four f64s                 the same
-    table    f32s                      every place of the table: two for each cell, by rows
+    table    f32s or i16s              every place of the table: two for each cell, by rows
 
 Turns follow one another, all with the question's allowance, as long as the status is running. An
 allowance of 0 stands for a single turn that may do nothing. Before the first turn every place of the
-table holds 3f000000, which is 0.5. f64s have 16 digits, f32s have 8. A line of another form, a model
-above 3 or a mark above 1 is answered by `bad`, and the last line of stdout counts the lines of stdin.
+table holds 3f000000, which is 0.5, or 16, in thirty-seconds. f64s have 16 digits, f32s have 8, and an i16 is
+spelled as the f32 that is the same number, 41800000 for 16. A line of another form, a model above 3 or a
+mark above 1 is answered by `bad`, and the last line of stdout counts the lines of stdin.
 
 The program's table has room for 3,072 cells: no question that gets a fresh record asks for more.
 
@@ -32,16 +34,20 @@ How the questions are made. By hand where a rule has an edge, with ordinary came
 search over splitmix64's numbers, from fixed seeds, for wild cameras that end in every way they can. So
 every run writes the same bytes. A question that two kinds have is asked once, and counted for the first.
 """
+import itertools
 import math
 import pathlib
 import struct
 import sys
 from collections import Counter
 from dataclasses import replace
+from fractions import Fraction
 
 from lens_models import AFFINE, BC, COUNTS, DISTORT, EUCM, KB, MODELS, UNDISTORT, answer
 from lens_tables import (
+    F32,
     FINISHED,
+    I16,
     LIMITS,
     MOST,
     REFUSED,
@@ -55,27 +61,31 @@ from lens_tables import (
     extended,
     flags,
     fresh,
+    in_sixteen_bits,
     increments,
     narrow,
     region_of,
     rust_samples,
     samples,
     tallies,
+    thirty_seconds,
     total,
     turn,
     unit,
 )
 from make_leaf_vectors import INF, NANS, SIGN, Splitmix, value
 from make_leaf_vectors import narrow as exact_narrow
+from make_leaf_vectors import thirty_seconds as exact_thirty_seconds
 from model_questions import BC_EXAMPLE, misspelled, number_of, pattern, sized, spelled, uniform
 from model_questions import unit as plain
 
 FOLDER = pathlib.Path(__file__).resolve().parent.parent / "crates" / "test_table_vectors"
 ROOM = 3072  # cells that the program's table has room for
-BEFORE = 0x3F000000  # what every place of the table holds before the first turn: 0.5
+CELLS = (F32, I16)  # a line's kind of cell is its place here
+BEFORE = {F32: 0x3F000000, I16: 16}  # what every place of the table holds before the first turn: 0.5
 LARGE = 10**6  # an allowance that no job of this size uses up
 DIGITS = frozenset("0123456789abcdef")
-FIELDS, LINE = 17, 289
+FIELDS, LINE = 18, 306
 
 
 # ---- a question's line, and its answer
@@ -85,27 +95,27 @@ def patterns(params):
     return [pattern(z) for z in params]
 
 
-def question_line(model, w, h, allowance, params, strict=False):
+def question_line(model, w, h, allowance, params, strict=False, cells=F32):
     """A question's parameters are bit patterns here: a NaN would not keep its pattern in a float."""
     unused = [0] * (12 - len(params))
-    return "\t".join(f"{n:016x}" for n in (model, w, h, allowance, strict, *params, *unused))
+    return "\t".join(f"{n:016x}" for n in (model, w, h, allowance, strict, CELLS.index(cells), *params, *unused))
 
 
 def read(line):
-    """Camera, width, height, allowance and strict mark of a line (with its end), or None if it is bad."""
+    """Camera, width, height, allowance, strict mark and kind of cell of a line (with its end), or None if it is bad."""
     fields = line[:-1].split("\t")
     if line[-1:] != "\n" or len(fields) != FIELDS or any(len(f) != 16 or not DIGITS.issuperset(f) for f in fields):
         return None
-    model, w, h, allowance, mark, *params = (int(f, 16) for f in fields)
-    if model > 3 or mark > 1:
+    model, w, h, allowance, mark, cells, *params = (int(f, 16) for f in fields)
+    if model > 3 or mark > 1 or cells > 1:
         return None
-    return (model, tuple(value(p) for p in params[: COUNTS[model]])), w, h, allowance, mark == 1
+    return (model, tuple(value(p) for p in params[: COUNTS[model]])), w, h, allowance, mark == 1, CELLS[cells]
 
 
-def turns(job, table, allowance):
+def turns(job, table, allowance, cells=F32):
     """What each turn of a job gives, up to the first that isn't running; for an allowance of 0, one turn."""
     while True:
-        status, number, job = turn(job, table, allowance)
+        status, number, job = turn(job, table, allowance, cells)
         yield status, number, job
         if status != RUNNING or allowance == 0:
             return
@@ -122,20 +132,21 @@ def box_line(word, box):
 
 def built(question):
     """Status, refusal's number, last record and table of a question, and what each turn gave. A question that doesn't
-    say is not strict."""
-    camera, w, h, allowance, *strict = question
-    number, job = fresh(camera, w, h, *strict)
+    say is not strict, and has f32s."""
+    camera, w, h, allowance, *said = question
+    strict, cells = *said, *(False, F32)[len(said) :]
+    number, job = fresh(camera, w, h, strict)
     if number:
         return "not made", number, None, None, []
     assert w * h <= ROOM
-    table = [BEFORE] * (2 * w * h)
-    taken = list(turns(job, table, allowance))
+    table = [BEFORE[cells]] * (2 * w * h)
+    taken = list(turns(job, table, allowance, cells))
     status, number, job = taken[-1]
     return status, number, job, table, taken
 
 
-def table_line(table):
-    return "\t".join(["table", *(f"{z:08x}" for z in table)])
+def table_line(table, cells):
+    return "\t".join(["table", *(f"{z:08x}" for z in (table if cells is F32 else map(narrow, table)))])
 
 
 def reply(line):
@@ -149,8 +160,8 @@ def reply(line):
     lines = ["fresh"] + [turn_line(*t) for t in taken]
     lines += [box_line("edges", job.edges), box_line("region", job.region)]
     beyond = table[2 * max(job.done - border(job.width, job.height), 0) :]
-    assert beyond.count(BEFORE) == len(beyond)
-    return lines + [table_line(table)]
+    assert beyond.count(BEFORE[question[-1]]) == len(beyond)
+    return lines + [table_line(table, question[-1])]
 
 
 # ---- the questions
@@ -456,6 +467,66 @@ def unsettled():
         yield from by(case, 1, refused, LARGE)
 
 
+# ---- cells of sixteen bits
+
+# With alpha 1/2 and beta 1, a cell's pixel grows with s: shapes that put one of its numbers across an edge at some s, its
+# unit, and which number that is, on which side.
+SHAPES = [
+    (border(3, 2) + 3, "u, above", lambda s: (EUCM, 3, 2, [s, 1.0, s, 0.5] + HALF_EUCM)),
+    (border(2, 2) + 1, "u, below", lambda s: (EUCM, 2, 2, [s, 1.0, -0.75 * s, 0.5] + HALF_EUCM)),
+    (border(2, 2) + 1, "v, above", lambda s: (EUCM, 2, 2, [1.0, -s, 0.5, 0.75 * s] + HALF_EUCM)),
+    (border(2, 2) + 1, "v, below", lambda s: (EUCM, 2, 2, [1.0, s, 0.5, -0.75 * s] + HALF_EUCM)),
+    (border(2, 2) + 3, "v, the next row begins too far", lambda s: (EUCM, 2, 2, [1.0, s, 0.5, s] + HALF_EUCM)),
+]
+
+
+def about_the_edge(shape):
+    """The two f64s next to each other of which the first has a table and the second is refused."""
+    low, high = 1.0, 2.0**20
+    while math.nextafter(low, high) != high:
+        middle = (low + high) / 2
+        _, number, _, _, _ = built(question_of(shape(middle), LARGE, False, I16))
+        low, high = (low, middle) if number else (middle, high)
+    return low, high
+
+
+def question_of(case, *rest):
+    model, w, h, params = case
+    return (model, tuple(params)), w, h, *rest
+
+
+def at_the_edge():
+    """The last case in and the first out, on both sides."""
+    for _, _, shape in SHAPES:
+        for s in about_the_edge(shape):
+            yield from by(shape(s), 3, LARGE)
+
+
+# An affine table of width w ends at (3w - 1)/2: 1022.5 for 682, and for 683 at 1024, which is 32,768 thirty-seconds.
+REFUSED_WIDE_16 = [
+    (19, border(683, 2) + 683, (AFFINE, 683, 2, [1.0, 1.0, 0.0, 0.0])),
+    (19, border(2, 683) + 1365, (AFFINE, 2, 683, [1.0, 64.0, 0.0, 0.25])),
+    (19, border(2, 683) + 1, (AFFINE, 2, 683, [256.0, -64.0, 0.5, 0.25])),  # upside down, so it begins there
+]
+
+# The number is 19 also where an f32 would be infinite, and 11 where nothing finite could be rounded.
+REFUSED_CELLS_16 = [
+    *((19, border(*shape(1e39)[1:3]) + 1, shape(1e39)) for _, _, shape in SHAPES),
+    (19, border(2, 2) + 1, (BC, 2, 2, plain(BC, 1e60))),
+    (19, border(2, 2) + 1, (KB, 2, 2, [3.0, 3.0, 0.5, 0.5, 0.0, 0.0, 0.0, 1e60])),
+    (11, border(2, 2) + 1, (KB, 2, 2, [1.2, 1.2, 0.5, 0.5, 0.0, 0.0, 0.0, 5e307])),
+    (11, border(4, 3) + 4, (EUCM, 4, 3, [4.0, 4.0, 0.0, 0.0, 0.4, -0.6])),
+    (11, border(7, 2) + 7, (AFFINE, 7, 2, [BRINK, 1.0, 0.0, 0.0])),
+]
+
+# The cells of an affine table of 129 are 129/64 apart, so that every other one lies in the middle of two thirty-seconds.
+TIES_16 = [
+    (AFFINE, 129, 2, [1.0, 1.0, 0.0, 0.0]),
+    (AFFINE, 2, 129, [-2.0, 4.0, 0.5, 16.0]),
+    (AFFINE, 682, 2, [1.0, 1.0, 0.0, 0.0]),
+]
+
+
 # ---- wild cameras
 
 
@@ -495,14 +566,14 @@ def wild(rng, model):
     return params
 
 
-def by_ending(rng, model, most, finished, tries, strict=False):
+def by_ending(rng, model, most, finished, tries, strict=False, cells=F32):
     """2 by 2 tables: of each ending that so many tries come to at most so many, and of those that finish as many as
     said."""
     have = Counter()
     allowances = (1, 3, LARGE, 5)
     for _ in range(tries):
         params = wild(rng, model)
-        ending = stage(((model, tuple(params)), 2, 2, LARGE, strict))
+        ending = stage(((model, tuple(params)), 2, 2, LARGE, strict, cells))
         if ending[1] == "fresh":
             continue
         if have[ending] < (finished if ending[1] == FINISHED else most):
@@ -542,19 +613,42 @@ def strict_kinds():
         yield f"{MODELS[model]}, wild, strict", by_ending(Splitmix(74 + model), model, 3, 6, 2000, True)
 
 
+def kinds_16():
+    """The same of cells of sixteen bits. What comes before the cells is the same as for f32s, and asked fewer times."""
+    yield "i16, by hand", by_hand()
+    yield "i16, 64 by 48", [q for q in ordinary() if q[0] == KB]
+    yield "i16, 16 by 9, by sevens", by_sevens()
+    yield "i16, narrow and flat", narrow_and_flat()
+    yield "i16, refused at a sample", [q for _, _, case in REFUSED_SAMPLES for q in by(case, LARGE)]
+    yield "i16, refused at unit B", [q for _, _, case in REFUSED_REGIONS for q in by(case, LARGE)]
+    yield "i16, refused at a cell", each_way(REFUSED_CELLS_16)
+    yield "i16, refused at a cell far out", [q for _, _, case in REFUSED_WIDE_16 for q in by(case, LARGE)]
+    yield "i16, at the edge of sixteen bits", at_the_edge()
+    yield "i16, halfway between two", [q for case in TIES_16 + TIES for q in by(case, LARGE)]
+    yield "i16, unsettled samples", [q for _, case in UNSETTLED for q in by(case, LARGE)]
+    for model, name in enumerate(MODELS):
+        yield f"i16, {name}, wild", by_ending(Splitmix(170 + model), model, 2, 4, 2000, False, I16)
+
+
+def strict_kinds_16():
+    yield "i16, strict, settled", [(model, 5, 4, 7, [9.0, 8.0, 2.0, 1.5] + params[4:]) for model, params in ORDINARY]
+    yield "i16, strict, refused at a sample", [q for _, _, case in strict_endings() for q in by(case, LARGE)]
+
+
 def bad_lines():
-    """Lines of 289 bytes that are not of the form: the program reads so many at a time. The last one is of the
+    """Lines of 306 bytes that are not of the form: the program reads so many at a time. The last one is of the
     form, and is bad because `main` cuts its end off."""
     model, w, h, params = LISTED
     good = question_line(model, w, h, LARGE, patterns(params))
     bad = [" " * (LINE - 1), "\t" * (LINE - 1), good.replace("\t", " ")]
     fields = good.split("\t")
-    one = fields[5]
-    # the model, and the mark: the first number past the last, and large ones that fit again once high bits are lost
+    one = fields[6]
+    # the model, the mark and the kind of cell: the first number past the last, and large ones that fit again once high
+    # bits are lost
     for wrong in (4, 2**8, 2**32, 2**63):
         bad.append("\t".join([f"{wrong:016x}"] + fields[1:]))
-    for wrong in (2, 2**8 + 1, 2**32, 2**63 + 1):
-        bad.append("\t".join(fields[:4] + [f"{wrong:016x}"] + fields[5:]))
+    for place, wrong in itertools.product((4, 5), (2, 2**8 + 1, 2**32, 2**63 + 1)):
+        bad.append("\t".join(fields[:place] + [f"{wrong:016x}"] + fields[place + 1 :]))
     bad += misspelled(fields, one)
     assert all(len(line) == LINE - 1 for line in bad)
     return bad + [good]
@@ -579,31 +673,58 @@ def value32(bits):
     return struct.unpack("<f", struct.pack("<I", bits))[0]
 
 
+def kind_of_f32(z, bits):
+    yield "f32s"
+    if bits >> 31:
+        yield "f32s with a minus"
+    if bits % 2**31 == 0:
+        yield "f32s that are zeros"
+    elif bits % 2**31 < 2**23:
+        yield "f32s that are subnormal"
+    if halfway(z):
+        yield f"pixels halfway between two f32s, rounded {halfway(z)}"
+
+
+def kind_of_i16(z, number):
+    yield "i16s"
+    if number < 0:
+        yield "i16s with a minus"
+    if number == 0:
+        yield "i16s that are 0"
+    if abs(32 * z - number) == 0.5:
+        yield f"pixels halfway between two i16s, rounded {'away' if abs(number) > abs(32 * z) else 'toward'}"
+    if number in (-32768, 32767):
+        yield f"i16s that are {number}"
+
+
 def cell_kinds(question, job, table):
-    """What can be said of the f32s of the cells done."""
-    camera, w, h, *_ = question
+    """What can be said of the numbers of the cells done."""
+    camera, w, h, *_, cells = question
     for i in range(max(job.done - border(w, h), 0)):
         v, u = divmod(i, w)
         pixel = answer(camera[0], DISTORT, camera[1], *cell_point(job.region, w, h, u, v))[1]
-        for z, bits in zip(pixel, table[2 * i : 2 * i + 2]):
-            yield "f32s"
-            if bits >> 31:
-                yield "f32s with a minus"
-            if bits % 2**31 == 0:
-                yield "f32s that are zeros"
-            elif bits % 2**31 < 2**23:
-                yield "f32s that are subnormal"
-            if halfway(z):
-                yield f"pixels halfway between two f32s, rounded {halfway(z)}"
+        for z, number in zip(pixel, table[2 * i : 2 * i + 2]):
+            yield from kind_of_f32(z, number) if cells is F32 else kind_of_i16(z, number)
+
+
+def all_kinds():
+    for some, strict, cells in (
+        (kinds(), False, F32),
+        (strict_kinds(), True, F32),
+        (kinds_16(), False, I16),
+        (strict_kinds_16(), True, I16),
+    ):
+        for name, questions in some:
+            yield name, questions, strict, cells
 
 
 def ask():
     """The lines of stdin and of stdout, each question once, and what is to be said about them."""
     asked, answers, said = {}, [], Counter()
-    for kind, questions, strict in [(*k, False) for k in kinds()] + [(*k, True) for k in strict_kinds()]:
+    for kind, questions, strict, cells in all_kinds():
         before = len(asked)
         for model, w, h, allowance, params in questions:
-            line = question_line(model, w, h, allowance, patterns(params), strict)
+            line = question_line(model, w, h, allowance, patterns(params), strict, cells)
             if line in asked:
                 continue
             asked[line] = kind
@@ -670,11 +791,13 @@ def summary(said, count, bad):
     wanted += [("eucm", 16, "unit B")]
     wanted += [(name, 18, place) for name in ("kb", "bc") for place in ("unit 1", "a sample", "unit B")]
     wanted += [(name, *ending) for name in MODELS[1:] for ending in ((11, "cell 1"), (12, "cell 1"), (12, "a cell"))]
+    wanted += [(name, 19, "cell 1") for name in MODELS[1:]] + [(name, 19, "a cell") for name in MODELS]
     for ending in wanted:
         assert said[("ending", *ending)], ending
     assert said["updates", "kb"] == said["updates", "bc"] == 1
-    for word in ("toward", "away"):
-        assert said["cells", f"pixels halfway between two f32s, rounded {word}"]
+    for word, kind in itertools.product(("toward", "away"), ("f32s", "i16s")):
+        assert said["cells", f"pixels halfway between two {kind}, rounded {word}"]
+    assert said["cells", "i16s that are 32767"] and said["cells", "i16s that are -32768"]
 
 
 # ---- the self-test
@@ -804,21 +927,25 @@ def test_by_hand():
 def test_endings():
     """Each refusing case ends where its list says. The unit that refuses leaves record and table as they were, however
     often it is tried; and an allowance that ends ahead of it doesn't meet it."""
-    tried = [(*ending, False) for ending in ENDINGS + OWN_REFUSALS]
-    tried += [(number, refused, case, False) for number, refused, _, case in UNSETTLED_THEN_REFUSED]
-    tried += [(*ending, True) for ending in strict_endings() + STRICT_REGIONS]
-    for number, refused, case, strict in tried:
+    tried = [(*ending, False, F32) for ending in ENDINGS + OWN_REFUSALS]
+    tried += [(number, refused, case, False, F32) for number, refused, _, case in UNSETTLED_THEN_REFUSED]
+    tried += [(*ending, True, F32) for ending in strict_endings() + STRICT_REGIONS]
+    tried += [(*ending, False, I16) for ending in REFUSED_SAMPLES + REFUSED_REGIONS + REFUSED_CELLS_16]
+    tried += [(*ending, False, I16) for ending in REFUSED_WIDE_16 + ZERO_EDGES]
+    tried += [(*ending, True, I16) for ending in strict_endings()]
+    tried += [(19, unit, shape(about_the_edge(shape)[1]), False, I16) for unit, _, shape in SHAPES]
+    for number, refused, case, strict, cells in tried:
         job, table = started(case, strict)
-        assert turn(job, table, refused - 1)[:2] == (RUNNING, 0), case
-        _, _, job = turn(*started(case, strict), refused - 1)
+        assert turn(job, table, refused - 1, cells)[:2] == (RUNNING, 0), case
+        _, _, job = turn(*started(case, strict), refused - 1, cells)
         assert job.done == refused - 1
         before = list(table)
-        assert unit(job) == (number, None, None), (case, unit(job))
+        assert unit(job, cells) == (number, None, None), (case, unit(job, cells))
         for allowance in (1, 2, LARGE):
-            assert turn(job, table, allowance) == (REFUSED, number, job) and table == before
-        assert turn(job, table, 0) == (RUNNING, 0, job)
+            assert turn(job, table, allowance, cells) == (REFUSED, number, job) and table == before
+        assert turn(job, table, 0, cells) == (RUNNING, 0, job)
         again, other = started(case, strict)
-        assert turn(again, other, LARGE) == (REFUSED, number, job) and other == before
+        assert turn(again, other, LARGE, cells) == (REFUSED, number, job) and other == before
         assert not strict or (job.unsettled, job.first) == (0, 0)
     print("refused units:", len(tried))
 
@@ -841,17 +968,17 @@ def test_unsettled():
     print("unsettled samples:", len(UNSETTLED) + len(UNSETTLED_THEN_REFUSED))
 
 
-def ending(case, strict):
+def ending(case, strict, cells):
     """Where a job ends by the definition: the units done and the number. Of a strict job that is the first sample whose
     flag says no, unless one before it has no point."""
     model, w, h, params = case
     job, table = started(case)
-    _, number, end = turn(job, table, LARGE)
+    _, number, end = turn(job, table, LARGE, cells)
     _, first = tallies(flags((model, tuple(params)), w, h))
     return (first - 1, 18) if strict and first else (end.done, number)
 
 
-def hold_split(case, strict, rng):
+def hold_split(case, strict, cells, rng):
     """Demand 3: allowances of any kind, zeros among them. Done is the smaller of their sum and F; the cells done are
     those of the Rust's function, all others untouched; the updates are the sum over the samples done, count and first
     those of their flags."""
@@ -859,9 +986,9 @@ def hold_split(case, strict, rng):
     camera = model, tuple(params)
     job, one_go = started(case, strict)
     untouched = list(one_go)
-    status, number, end = turn(job, one_go, LARGE)
-    assert (end.done, number) == ending(case, strict)
-    rust_number, rust_region, rust_table = distort_table(camera, w, h)
+    status, number, end = turn(job, one_go, LARGE, cells)
+    assert (end.done, number) == ending(case, strict, cells)
+    rust_number, rust_region, rust_table = distort_table(camera, w, h, cells)
     if number != 18:
         assert rust_number == number
     if number == 0:
@@ -876,11 +1003,11 @@ def hold_split(case, strict, rng):
     while True:
         allowance = (0, 1, 2, rng.below(9), rng.below(total(w, h)))[rng.below(5)]
         spent += allowance
-        told, refusal, job = turn(job, table, allowance)
+        told, refusal, job = turn(job, table, allowance, cells)
         assert job.done == min(spent, end.done) and job.updates == sum(each[: job.done]) and job.strict == strict
         assert (job.unsettled, job.first) == tallies(told_flags[: job.done])
-        cells = 2 * max(job.done - border(w, h), 0)
-        assert table[:cells] == one_go[:cells] and table[cells:] == untouched[cells:]
+        places = 2 * max(job.done - border(w, h), 0)
+        assert table[:places] == one_go[:places] and table[places:] == untouched[places:]
         assert call_refused(job, table) == 0
         if spent > end.done or job.done == total(w, h):
             assert (told, refusal) == (status, number)
@@ -892,9 +1019,9 @@ def hold_split(case, strict, rng):
 
 def test_splits():
     rng, tried = Splitmix(90), Counter()
-    for case in cases():
-        for strict in (False, True):
-            tried[*hold_split(case, strict, rng), "strict" if strict else "not strict"] += 1
+    for case, strict, cells in itertools.product(cases() + TIES_16, (False, True), CELLS):
+        words = "strict" if strict else "not strict", "f32" if cells is F32 else "i16"
+        tried[*hold_split(case, strict, cells, rng), *words] += 1
     print("split into turns:", dict(tried))
 
 
@@ -1045,6 +1172,35 @@ def test_narrow():
     print("narrowed:", tried)
 
 
+def test_thirty_seconds():
+    """By fractions, by the platform and by whole numbers; then by what is asked for: no other multiple of 1/32 is nearer,
+    and of two as near it is the even one. And both kinds of one table: they differ by 1/64 and the f32's own rounding at
+    most."""
+    rng, tried = Splitmix(92), 0
+    some = [rng.bits(64) for _ in range(500)]
+    some += [(rng.bits(1) << 63) + (rng.below(30) + 1023 - 18 << 52) + rng.bits(52) for _ in range(4000)]
+    some += [(b >> 42 << 42) for b in some] + [pattern(n / 64 * s) for n in range(65500, 65600) for s in (1, -1)]
+    for z in filter(math.isfinite, map(value, some)):
+        number = thirty_seconds(z)
+        assert number == exact_thirty_seconds(pattern(z)), z
+        if number is None:
+            assert not -32768.5 <= 32 * z < 32767.5
+            continue
+        off = abs(32 * Fraction(z) - number)
+        assert in_sixteen_bits(z) == number and (off < Fraction(1, 2) or off == Fraction(1, 2) and number % 2 == 0)
+        tried += 1
+    compared = 0
+    for case in [LISTED] + TIES + TIES_16 + [(model, 64, 48, params) for model, params in ORDINARY]:
+        tables = [built(question_of(case, LARGE, False, cells)) for cells in CELLS]
+        assert tables[0][:3] == tables[1][:3] and tables[0][0] == FINISHED
+        for single, sixteen in zip(tables[0][3], tables[1][3]):
+            z = Fraction(value32(single))
+            rounding = max(abs(z) / 2**24, Fraction(1, 2**150))
+            assert abs(z - Fraction(sixteen, 32)) <= Fraction(1, 64) + rounding, (z, sixteen)
+            compared += 1
+    print("in thirty-seconds:", tried, "numbers of both kinds of table compared:", compared)
+
+
 def test_lines():
     """Bad lines are bad, and the last of them wouldn't be with its end. And one answer in full."""
     bad = bad_lines()
@@ -1064,6 +1220,11 @@ def test_lines():
     assert reply(line)[1] == "refused\t8\t9\t0\t0\t0" and reply(line)[-1] == untouched
     line = question_line(AFFINE, 1, 2, 0, patterns(LISTED[3])) + "\n"
     assert reply(line) == ["refused\t6"]
+    # in thirty-seconds: -2, 1 and 4 across, -1.5 and 2.5 down
+    line = question_line(AFFINE, 3, 2, 1000, patterns(LISTED[3]), False, I16) + "\n"
+    lines, places = reply(line), [z for down in (-48, 80) for across in (-64, 32, 128) for z in (across, down)]
+    assert lines[1] == "finished\t16\t0\t0\t0"
+    assert [value32(int(z, 16)) for z in lines[-1].split("\t")[1:]] == places
     print("lines: as said")
 
 
@@ -1079,6 +1240,7 @@ def self_test():
     test_impossible()
     test_carried()
     test_narrow()
+    test_thirty_seconds()
     test_lines()
 
 

@@ -26,6 +26,15 @@ extern "C" {
         answer: *mut u8,
         answer_lent: usize,
     ) -> u8;
+    fn lens_turn16(
+        job: *mut u8,
+        job_lent: usize,
+        table: *mut i16,
+        table_lent: usize,
+        allowance: u64,
+        answer: *mut u8,
+        answer_lent: usize,
+    ) -> u8;
     fn lens_lookup(
         table: *const f32,
         table_handed: usize,
@@ -79,6 +88,11 @@ pub fn job_new(model: u8, params: &[u8], size: [u32; 2], strict: u8, job: &mut [
 pub fn turn(job: &mut [u8], table: &mut [u32], allowance: u64, answer: &mut [u8]) -> u8 {
     let (cells, floats) = (table.as_mut_ptr() as *mut f32, table.len());
     unsafe { lens_turn(job.as_mut_ptr(), job.len(), cells, floats, allowance, answer.as_mut_ptr(), answer.len()) }
+}
+
+pub fn turn16(job: &mut [u8], table: &mut [i16], allowance: u64, answer: &mut [u8]) -> u8 {
+    let (cells, numbers) = (table.as_mut_ptr(), table.len());
+    unsafe { lens_turn16(job.as_mut_ptr(), job.len(), cells, numbers, allowance, answer.as_mut_ptr(), answer.len()) }
 }
 
 pub fn lookup(table: &[u32], region: &[u8], size: [u32; 2], at: [f64; 2], answer: &mut [u8]) -> u8 {

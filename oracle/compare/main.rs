@@ -26,7 +26,7 @@ const OPERATIONS: [&str; 4] = ["distort", "undistort", "dx_distort_x", "dx_disto
 const SHOWN: u64 = 20;
 
 /// Room for every refusal's number.
-const NUMBERS: usize = 19;
+const NUMBERS: usize = 20;
 
 /// What the largest angle that has a tangent was before request P7.
 const LIMIT_BEFORE: f64 = 1.5;
@@ -299,7 +299,7 @@ struct Tally {
 }
 
 /// Parts of a comparison, which standard error tells as they begin.
-const PARTS: [&str; 10] = [
+const PARTS: [&str; 11] = [
     "affine",
     "eucm",
     "kb",
@@ -310,6 +310,7 @@ const PARTS: [&str; 10] = [
     "fresh jobs",
     "lists of observations",
     "aimed points",
+    "tables of sixteen bits in turns",
 ];
 
 fn begins(part: usize) {
@@ -340,6 +341,8 @@ fn all_parts(oracle: &mut Oracle, points: u64, tables: u64, printer: &[String]) 
     oracle.lists(points / 50);
     begins(9);
     oracle.aimed(points / 10);
+    begins(10);
+    oracle.turns16(tables);
 }
 
 fn compare(args: &[String]) {

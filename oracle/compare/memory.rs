@@ -34,6 +34,12 @@ impl Junk for u32 {
     }
 }
 
+impl Junk for i16 {
+    fn junk(r: &mut Random) -> i16 {
+        r.bits() as i16
+    }
+}
+
 impl<T: Junk> Lent<T> {
     /// From any place, on any alignment that T has.
     pub fn new(r: &mut Random, length: usize) -> Lent<T> {

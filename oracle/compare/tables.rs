@@ -33,11 +33,11 @@ pub struct Sample {
     pub number: u8,
 }
 
-/// What the Rust's table asked its camera for, in order: each sample, and each cell's number.
+/// What the Rust's table asked its camera for, in order: each sample, and each cell's pixel, before the Rust makes f32s of it.
 #[derive(Default)]
 struct Notes {
     samples: Vec<Sample>,
-    cell_numbers: Vec<u8>,
+    pixels: Vec<Option<[f64; 2]>>,
 }
 
 struct Noting {
@@ -66,15 +66,31 @@ pub fn increments_number(increments: [f64; 2]) -> u8 {
     }
 }
 
+/// The number of the multiple of 1/32 that is nearest to a finite x, of two as near the even one, if sixteen bits hold it. 32 times an
+/// f64 is exact or infinite, and so is what is left of a number above its whole part.
+pub fn nearest_32nd(x: f64) -> Option<i16> {
+    let size = 32.0 * x.abs();
+    let whole = size.floor();
+    let rest = size - whole;
+    let up = rest > 0.5 || rest == 0.5 && whole % 2.0 == 1.0;
+    let number = (whole + up as u8 as f64).copysign(x);
+    if (-32768.0..=32767.0).contains(&number) {
+        Some(number as i16)
+    } else {
+        None
+    }
+}
+
+/// Whether a finite x lies in the middle of two multiples of 1/32.
+pub fn is_tie(x: f64) -> bool {
+    (32.0 * x.abs()).fract() == 0.5
+}
+
 impl Lens for Noting {
     fn distort(&self, point: [f64; 2]) -> [f64; 2] {
         let pixel = self.ask(0, point);
-        let number = match () {
-            _ if !finite(point) || !finite(pixel) => 11,
-            _ if pixel.iter().any(|&x| (x as f32).is_infinite()) => 12,
-            _ => 0,
-        };
-        self.notes.borrow_mut().cell_numbers.push(number);
+        let sound = finite(point) && finite(pixel);
+        self.notes.borrow_mut().pixels.push(if sound { Some(pixel) } else { None });
         pixel
     }
     fn undistort(&self, pixel: [f64; 2]) -> [f64; 2] {
@@ -103,13 +119,27 @@ pub struct Built {
     pub cells: Vec<u32>,
     pub region: [f64; 4],
     increments: [f64; 2],
-    cell_numbers: Vec<u8>,
+    /// Of each cell, unless its point or its pixel isn't finite.
+    pub pixels: Vec<Option<[f64; 2]>>,
+}
+
+fn too_large(pixel: [f64; 2]) -> bool {
+    pixel.iter().any(|&x| (x as f32).is_infinite())
+}
+
+pub fn too_far(pixel: [f64; 2]) -> bool {
+    pixel.iter().any(|&x| nearest_32nd(x).is_none())
 }
 
 impl Built {
     /// How many units come before the first that is refused, and its number: 0 if none is. In a strict job a sample that has
     /// a point is refused if it hasn't settled.
     pub fn end(&self, strict: bool) -> (usize, u8) {
+        self.end_by(strict, 12, too_large)
+    }
+
+    /// The same for cells of a kind: a pixel that it doesn't hold is refused with its number.
+    pub fn end_by(&self, strict: bool, number: u8, unheld: fn([f64; 2]) -> bool) -> (usize, u8) {
         let border = self.samples.len();
         let unsettled = |s: &Sample| strict && !s.settled;
         if let Some(i) = self.samples.iter().position(|s| s.number != 0 || unsettled(s)) {
@@ -120,9 +150,11 @@ impl Built {
         if spread != 0 {
             return (border - 1, spread);
         }
-        let cells = &self.cell_numbers;
-        let i = cells.iter().position(|&n| n != 0).unwrap_or(cells.len());
-        (border + i, cells.get(i).copied().unwrap_or(0))
+        let refused = self.pixels.iter().position(|pixel| pixel.map_or(true, unheld));
+        match refused {
+            Some(i) => (border + i, if self.pixels[i].is_none() { 11 } else { number }),
+            None => (border + self.pixels.len(), 0),
+        }
     }
 }
 
@@ -172,7 +204,7 @@ impl Asked {
         let lens = Noting { model: self.model, params: self.twelve(), notes: notes.clone() };
         let size = ImageSize { width: self.width, height: self.height };
         let table = distort_table(&DynCameraF64 { lens: Box::new(lens), size });
-        let Notes { samples: all, cell_numbers } = notes.take();
+        let Notes { samples: all, pixels } = notes.take();
         let updates_of_rust = all.iter().map(|s| s.updates).sum();
         let mut met = HashSet::new();
         let samples = all.into_iter().filter(|s| met.insert(s.pixel.map(f64::to_bits))).collect();
@@ -180,7 +212,7 @@ impl Asked {
         let places = (0..self.height).flat_map(|v| (0..self.width).map(move |u| (u, v)));
         let cells = places.flat_map(|(u, v)| table.table.pixel(u, v).0.map(f32::to_bits)).collect();
         let region = [lower.x, lower.y, upper.x, upper.y];
-        Built { samples, updates_of_rust, cells, region, increments: table.incr().0, cell_numbers }
+        Built { samples, updates_of_rust, cells, region, increments: table.incr().0, pixels }
     }
 
     /// The whole listing by the Rust's table.

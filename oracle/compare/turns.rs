@@ -3,24 +3,67 @@
 use crate::cases::{valid_camera, Random};
 use crate::judge::{handed, Question};
 use crate::lens;
-use crate::memory::{Lent, STRIP};
+use crate::memory::{Junk, Lent, STRIP};
 use crate::record::{self, Record};
-use crate::tables::{Asked, Built};
+use crate::tables::{is_tie, nearest_32nd, too_far, Asked, Built};
 use crate::{damage, listed, Oracle, NUMBERS};
 use rust_text::linalg::VecF64;
 use rust_text::region::BoxRegion;
 use rust_text::COUNTS;
 
+/// A kind of table: one number of a cell, as the oracle keeps it.
+trait Cell: Junk {
+    /// What memory is spoilt with.
+    const SPOILT: Self;
+    fn turn(job: &mut [u8], table: &mut [Self], allowance: u64, answer: &mut [u8]) -> u8
+    where
+        Self: Sized;
+    /// Of a table by the Rust: its numbers, and `Built::end`.
+    fn cells(built: &Built) -> Vec<Self>
+    where
+        Self: Sized;
+    fn end(built: &Built, strict: bool) -> (usize, u8);
+}
+
+/// An f32, by its bits.
+impl Cell for u32 {
+    const SPOILT: u32 = 0x5a;
+    fn turn(job: &mut [u8], table: &mut [u32], allowance: u64, answer: &mut [u8]) -> u8 {
+        lens::turn(job, table, allowance, answer)
+    }
+    fn cells(built: &Built) -> Vec<u32> {
+        built.cells.clone()
+    }
+    fn end(built: &Built, strict: bool) -> (usize, u8) {
+        built.end(strict)
+    }
+}
+
+/// Thirty-seconds of a pixel, of the pixels that the Rust makes f32s of. Behind the first that isn't held come zeros, which are never
+/// due.
+impl Cell for i16 {
+    const SPOILT: i16 = 0x5a;
+    fn turn(job: &mut [u8], table: &mut [i16], allowance: u64, answer: &mut [u8]) -> u8 {
+        lens::turn16(job, table, allowance, answer)
+    }
+    fn cells(built: &Built) -> Vec<i16> {
+        built.pixels.iter().flat_map(|p| p.unwrap_or([0.0; 2]).map(|x| nearest_32nd(x).unwrap_or(0))).collect()
+    }
+    fn end(built: &Built, strict: bool) -> (usize, u8) {
+        built.end_by(strict, 19, too_far)
+    }
+}
+
 /// What a caller keeps from turn to turn, and the answer's buffer.
 #[derive(Clone, PartialEq)]
-struct Kept {
+struct Kept<T> {
     job: Lent<u8>,
-    table: Lent<u32>,
+    table: Lent<T>,
     answer: Lent<u8>,
 }
 
-impl Kept {
-    fn moved(&self, r: &mut Random) -> Kept {
+impl<T: Cell> Kept<T> {
+    fn moved(&self, r: &mut Random) -> Kept<T> {
         Kept { job: self.job.moved(r), table: self.table.moved(r), answer: self.answer.moved(r) }
     }
 }
@@ -85,17 +128,18 @@ struct Swept {
     first: u32,
 }
 
-struct Build {
+struct Build<T> {
     asked: Asked,
     strict: bool,
     built: Built,
+    cells: Vec<T>,
     /// After so many samples.
     swept: Vec<Swept>,
     /// The units before the first that is refused, and its number or 0.
     end: (usize, u8),
     done: usize,
-    ours: Kept,
-    owed: Kept,
+    ours: Kept<T>,
+    owed: Kept<T>,
 }
 
 /// After each count of samples.
@@ -116,7 +160,7 @@ fn swept(built: &Built) -> Vec<Swept> {
     after
 }
 
-impl Build {
+impl<T: Cell> Build<T> {
     /// The record after the units done.
     fn record(&self) -> Record {
         let border = self.built.samples.len();
@@ -144,7 +188,7 @@ impl Build {
         self.done += allowance.min(left) as usize;
         let places = |done: usize| 2 * done.saturating_sub(border);
         let cells = places(before)..places(self.done);
-        self.owed.table.lend()[cells.clone()].copy_from_slice(&self.built.cells[cells]);
+        self.owed.table.lend()[cells.clone()].copy_from_slice(&self.cells[cells]);
         let refused = self.end.1 != 0 && allowance > left;
         let record = self.record();
         let status = if refused { 2 } else { (record.done == record.all()) as u64 };
@@ -160,7 +204,7 @@ impl Build {
     /// One turn of both. Tells a difference.
     fn turn(&mut self, allowance: u64) -> Result<u8, String> {
         let kept = &mut self.ours;
-        let given = lens::turn(kept.job.lend(), kept.table.lend(), allowance, kept.answer.lend());
+        let given = T::turn(kept.job.lend(), kept.table.lend(), allowance, kept.answer.lend());
         let number = self.advance(allowance);
         self.judged(given, number, &format!("a turn of {}", allowance)).map(|_| number)
     }
@@ -195,7 +239,7 @@ impl Build {
         let seed = r.bits();
         let moved = self.ours.moved(&mut Random(seed));
         self.ours.job.lend().fill(0x5a);
-        self.ours.table.lend().fill(0x5a);
+        self.ours.table.lend().fill(T::SPOILT);
         self.ours = moved;
         self.owed = self.owed.moved(&mut Random(seed));
     }
@@ -208,7 +252,7 @@ impl Build {
         self.ours.job.put(&job);
         self.owed.job.put(&job);
         let kept = &mut self.ours;
-        let given = lens::turn(kept.job.lend(), kept.table.lend(), allowance, kept.answer.lend());
+        let given = T::turn(kept.job.lend(), kept.table.lend(), allowance, kept.answer.lend());
         let judged = self.judged(given, 13, "a job of the release before");
         self.ours.job.put(&right);
         self.owed.job.put(&right);
@@ -235,7 +279,7 @@ impl Build {
         let allowance = if number == 0 { 0 } else { [0, 1, 20, u64::MAX][r.below(4)] };
         let kept = &mut self.ours;
         let (lent_job, table) = (kept.job.lend_of_length(job_length), kept.table.lend_of_length(places));
-        let given = lens::turn(lent_job, table, allowance, kept.answer.lend_of_length(answer_length));
+        let given = T::turn(lent_job, table, allowance, kept.answer.lend_of_length(answer_length));
         if number == 0 {
             let held = Record::read(&job);
             self.owed.job.put(&held.bytes());
@@ -297,7 +341,7 @@ fn damage_of_record(r: &mut Random, held: &Record) -> (usize, usize, u64) {
 }
 
 /// How a build is split into turns.
-fn allowance(r: &mut Random, style: usize, build: &Build) -> u64 {
+fn allowance<T>(r: &mut Random, style: usize, build: &Build<T>) -> u64 {
     let border = build.built.samples.len();
     let all = border + build.asked.width * build.asked.height;
     if r.one_in(6) {
@@ -363,6 +407,24 @@ fn fixed_tables(r: &mut Random) -> Vec<Asked> {
     fixed
 }
 
+/// Tables for sixteen bits: one of 640 by 480; affine ones whose numbers lie in the middle of two thirty-seconds every other time, that
+/// end at 1022.5 and at 1024; and eucm ones next to each other, of which the first is the last that has a table, above and below.
+fn sixteen_tables() -> Vec<Asked> {
+    let of = |model: usize, params: &[f64], width: usize, height: usize| Asked { model, params: params.to_vec(), width, height };
+    let plain = [1.0, 1.0, 0.0, 0.0];
+    let mut fixed = vec![of(2, &[1000.0, 1000.0, 320.0, 280.0, 0.1, 0.01, 0.001, 0.0001], 640, 480)];
+    for (width, height) in [(129, 2), (2, 129), (682, 2), (683, 2), (2, 683)] {
+        fixed.push(of(0, &plain, width, height));
+    }
+    for s in [1649.8442407855762, 1649.8442407855764] {
+        fixed.push(of(1, &[s, 1.0, s, 0.5, 0.5, 1.0], 3, 2));
+    }
+    for s in [2314.9399826874064, 2314.939982687407] {
+        fixed.push(of(1, &[1.0, s, 0.5, -0.75 * s, 0.5, 1.0], 2, 2));
+    }
+    fixed
+}
+
 fn asked(r: &mut Random) -> Asked {
     if r.one_in(8) {
         let all = if r.one_in(3) { unsettled_tables() } else { refused_tables() };
@@ -373,7 +435,7 @@ fn asked(r: &mut Random) -> Asked {
 }
 
 /// A fresh job into junk, and the build that it begins; none if the job is refused.
-fn begun(r: &mut Random, asked: Asked, strict: bool) -> Result<Option<Build>, String> {
+fn begun<T: Cell>(r: &mut Random, asked: Asked, strict: bool) -> Result<Option<Build<T>>, String> {
     let size = [asked.width as u32, asked.height as u32];
     let mut job = Lent::new(r, record::BYTES);
     let mut owed_job = job.clone();
@@ -392,12 +454,12 @@ fn begun(r: &mut Random, asked: Asked, strict: bool) -> Result<Option<Build>, St
     let built = asked.built();
     let table = Lent::new(r, built.cells.len());
     let ours = Kept { job, table, answer: Lent::new(r, record::ANSWER_BYTES) };
-    let (swept, end) = (swept(&built), built.end(strict));
-    Ok(Some(Build { asked, strict, built, swept, end, done: 0, owed: ours.clone(), ours }))
+    let (swept, end, cells) = (swept(&built), T::end(&built, strict), T::cells(&built));
+    Ok(Some(Build { asked, strict, built, cells, swept, end, done: 0, owed: ours.clone(), ours }))
 }
 
 /// All turns of a build, and some more once it can't go on.
-fn in_turns(r: &mut Random, build: &mut Build, tally: &mut Tally) -> Result<(), String> {
+fn in_turns<T: Cell>(r: &mut Random, build: &mut Build<T>, tally: &mut Tally) -> Result<(), String> {
     let all = build.built.samples.len() + build.built.cells.len() / 2;
     // unit by unit only what has few
     let style = if all < 700 { r.below(4) } else { [0, 2, 2, 3][r.below(4)] };
@@ -431,9 +493,9 @@ fn in_turns(r: &mut Random, build: &mut Build, tally: &mut Tally) -> Result<(), 
 }
 
 /// A build from a fresh job to its end, if the job isn't refused and nothing differs.
-fn build(oracle: &mut Oracle, asked: Asked, strict: bool, tally: &mut Tally) -> Option<Build> {
+fn build<T: Cell>(oracle: &mut Oracle, asked: Asked, strict: bool, tally: &mut Tally) -> Option<Build<T>> {
     let r = &mut oracle.random;
-    let outcome = begun(r, asked, strict).and_then(|begun| match begun {
+    let outcome = begun::<T>(r, asked, strict).and_then(|begun| match begun {
         None => Ok(None),
         Some(mut build) => in_turns(r, &mut build, tally).map(|_| Some(build)),
     });
@@ -451,7 +513,7 @@ fn build(oracle: &mut Oracle, asked: Asked, strict: bool, tally: &mut Tally) -> 
 }
 
 impl Unsettled {
-    fn note(&mut self, build: &Build) {
+    fn note<T>(&mut self, build: &Build<T>) {
         let border = build.built.samples.len();
         let swept = build.swept[build.done.min(border)];
         if build.done >= border {
@@ -463,7 +525,7 @@ impl Unsettled {
     }
 
     /// Of a strict build, and of the same that isn't.
-    fn note_strict(&mut self, strict: &Build, other: &Build) {
+    fn note_strict<T>(&mut self, strict: &Build<T>, other: &Build<T>) {
         let (done, number) = strict.end;
         self.strict[(number == 0) as usize] += 1;
         self.before_8 += ([other.end.1, number] == [8, 18]) as u64;
@@ -481,7 +543,7 @@ fn corner_updates(asked: &Asked) -> u64 {
 
 impl Corners {
     /// Tells a difference: the Rust's sweep takes exactly the corners' updates more than ours, of which the job tells.
-    fn note(&mut self, build: &Build) -> Result<(), String> {
+    fn note<T>(&mut self, build: &Build<T>) -> Result<(), String> {
         if build.done < build.built.samples.len() {
             return Ok(());
         }
@@ -503,14 +565,14 @@ impl Corners {
 /// first if it is finished.
 fn both(oracle: &mut Oracle, asked: Asked, tally: &mut Tally) -> Option<Table> {
     let size = [asked.width as u32, asked.height as u32];
-    let first = build(oracle, asked.clone(), false, tally)?;
+    let first = build::<u32>(oracle, asked.clone(), false, tally)?;
     if let Err(what) = tally.corners.note(&first) {
         oracle.differs(what);
     }
     tally.unsettled.note(&first);
     let unsettled = first.built.samples.iter().take(first.end.0 + 1).any(|s| !s.settled);
     if unsettled || oracle.random.one_in(4) {
-        if let Some(strict) = build(oracle, asked, true, tally) {
+        if let Some(strict) = build::<u32>(oracle, asked, true, tally) {
             tally.unsettled.note_strict(&strict, &first);
         }
     }
@@ -520,7 +582,65 @@ fn both(oracle: &mut Oracle, asked: Asked, tally: &mut Tally) -> Option<Table> {
     Some(Table { cells: first.ours.table.held().to_vec(), region: first.built.region, size })
 }
 
+/// Cells of sixteen bits that were compared: how many, and of their numbers those of ties, and the first and the last that there is.
+#[derive(Default)]
+struct Sixteen {
+    cells: u64,
+    ties: u64,
+    least: u64,
+    most: u64,
+}
+
+impl Sixteen {
+    fn note(&mut self, build: &Build<i16>) {
+        let cells = build.done.saturating_sub(build.built.samples.len());
+        self.cells += cells as u64;
+        let done = build.built.pixels[..cells].iter().flatten().flatten();
+        self.ties += done.filter(|&&x| is_tie(x)).count() as u64;
+        let numbers = &build.cells[..2 * cells];
+        self.least += numbers.iter().filter(|&&n| n == i16::MIN).count() as u64;
+        self.most += numbers.iter().filter(|&&n| n == i16::MAX).count() as u64;
+    }
+}
+
 impl Oracle {
+    /// Builds tables of sixteen bits, every fourth strict.
+    pub fn turns16(&mut self, tables: u64) {
+        let (mut tally, mut sixteen) = (Tally::default(), Sixteen::default());
+        let mut all = sixteen_tables();
+        all.extend((0..tables).map(|_| asked(&mut self.random)));
+        for asked in all {
+            let strict = self.random.one_in(4);
+            if let Some(build) = build::<i16>(self, asked, strict, &mut tally) {
+                sixteen.note(&build);
+            }
+        }
+        println!(
+            "turns of sixteen bits: {} tables, {} finished, {} of these 640 by 480; {} turns, {} units, {} of them cells; numbers that \
+             were ties {}, -32768: {}, 32767: {}; tables refused at a unit {}",
+            tally.tables,
+            tally.finished,
+            tally.largest,
+            tally.turns,
+            tally.units,
+            sixteen.cells,
+            sixteen.ties,
+            sixteen.least,
+            sixteen.most,
+            listed(&tally.units_refused)
+        );
+        println!(
+            "turns of sixteen bits before any unit: refused {}; damaged records taken {}; jobs of the release before {}",
+            listed(&tally.calls_refused),
+            tally.taken,
+            tally.of_before
+        );
+        self.met("ties, -32768, 32767", &[sixteen.ties, sixteen.least, sixteen.most], &[0, 1, 2]);
+        self.met("turns of sixteen bits refused at a unit", &tally.turns_refused, &[8, 10, 11, 16, 18, 19]);
+        self.met("turns of sixteen bits before any unit", &tally.calls_refused, &[1, 4, 5, 6, 7, 13]);
+        self.met("finished tables of sixteen bits, 640 by 480", &[0, tally.largest], &[1]);
+    }
+
     /// Builds tables, and hands each that is finished to `then`.
     pub fn turns(&mut self, tables: u64, mut then: impl FnMut(&mut Oracle, Table)) {
         let mut tally = Tally::default();

@@ -1,9 +1,10 @@
-// What one cell of a table holds: the pixel of its point, as two f32, or why there is none.
+// What one cell of a table holds: the pixel of its point, as two f32 or as two numbers of sixteen bits,
+// or why there is none.
 ghost use mathlib.Core.Path.{_≡_};
 ghost use mathlib.Core.Bool.{_&&_};
 ghost use lib.Ieee.Scale.{finite};
 ghost use Rattle.camera.specs.Camera.{distort-judged};
-ghost use Rattle.cell.specs.Cell.{f32, of-pixel, cell-by, told};
+ghost use Rattle.cell.specs.Cell.{unrounded, f32, i16, of-pixel, cell-by, told, told16};
 use camera::Camera;
 use lens::Distorted;
 use lens::Pixel;
@@ -11,10 +12,17 @@ use lens::Point;
 use lens::Refusal;
 use region::Increments;
 use region::Region;
+use thirty_seconds::Multiple;
 
-// What a cell holds, or why it holds nothing.
+// What a cell of f32s holds, or why it holds nothing.
 pub enum Cell {
     Holds(f32, f32),
+    Refused(Refusal),
+}
+
+// What a cell of sixteen-bit numbers holds, in thirty-seconds of a pixel, or why it holds nothing.
+pub enum Cell16 {
+    Holds(i16, i16),
     Refused(Refusal),
 }
 
@@ -48,24 +56,46 @@ fn narrow_pixel(pixel: Pixel) -> Cell
     Cell::Refused(Refusal::CellInfinite)
 }
 
-// What a point that is finite gives its cell.
-fn cell_of(camera: Camera, point: Point) -> Cell
-    ensures { λ r. ⌜ told r ≡ of-pixel f32 (distort-judged camera point) ⌝ }
+// A pixel as a cell of sixteen-bit numbers: 19 if one of it is too far.
+fn round_pixel(pixel: Pixel) -> Cell16
+    ensures { λ r. ⌜ told16 r ≡ i16 pixel ⌝ }
 {
-    match camera::distort_judged(camera, point) {
+    if let Multiple::Is(a) = thirty_seconds::thirty_seconds(pixel.0) {
+        if let Multiple::Is(b) = thirty_seconds::thirty_seconds(pixel.1) {
+            return Cell16::Holds(a, b);
+        }
+    }
+    Cell16::Refused(Refusal::TooFar)
+}
+
+// The pixel of the cell in column u and row v. Its point is judged before anything is made of it.
+fn pixel_at(camera: Camera, region: Region, by: Increments, u: usize, v: usize) -> Distorted
+    ensures { λ r. ⌜ of-pixel unrounded r ≡ cell-by (distort-judged camera) unrounded region by u v ⌝ }
+{
+    let x = region.left + region::float(u) * by.0;
+    let y = region.top + region::float(v) * by.1;
+    if lens::both_finite(x, y) {
+        return camera::distort_judged(camera, Point(x, y));
+    }
+    Distorted::Refused(Refusal::AnswerNotFinite)
+}
+
+// The cell of f32s in column u and row v.
+pub fn cell_at(camera: Camera, region: Region, by: Increments, u: usize, v: usize) -> Cell
+    ensures { λ r. ⌜ told r ≡ cell-by (distort-judged camera) f32 region by u v ⌝ }
+{
+    match pixel_at(camera, region, by, u, v) {
         Distorted::Refused(refusal) => Cell::Refused(refusal),
         Distorted::At(pixel) => narrow_pixel(pixel),
     }
 }
 
-// The cell in column u and row v. Its point is judged before anything is made of it.
-pub fn cell_at(camera: Camera, region: Region, by: Increments, u: usize, v: usize) -> Cell
-    ensures { λ r. ⌜ told r ≡ cell-by (distort-judged camera) f32 region by u v ⌝ }
+// The cell of sixteen-bit numbers in column u and row v.
+pub fn cell_at16(camera: Camera, region: Region, by: Increments, u: usize, v: usize) -> Cell16
+    ensures { λ r. ⌜ told16 r ≡ cell-by (distort-judged camera) i16 region by u v ⌝ }
 {
-    let x = region.left + region::float(u) * by.0;
-    let y = region.top + region::float(v) * by.1;
-    if lens::both_finite(x, y) {
-        return cell_of(camera, Point(x, y));
+    match pixel_at(camera, region, by, u, v) {
+        Distorted::Refused(refusal) => Cell16::Refused(refusal),
+        Distorted::At(pixel) => round_pixel(pixel),
     }
-    Cell::Refused(Refusal::AnswerNotFinite)
 }

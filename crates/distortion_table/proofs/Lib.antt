@@ -1,4 +1,5 @@
 pub mod Calls
+pub mod ByParts
 pub mod Laws
 pub mod Parts
 pub mod Taking

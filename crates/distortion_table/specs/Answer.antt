@@ -11,16 +11,16 @@ use Rattle.border.specs.Border.{all-units}
 use Rattle.turns.specs.Turns.{Said, finished, refused, running, Turn}
 use Rattle.plans.specs.Plan.{Plan, State}
 use Rattle.plans.specs.Calls as plan
-use Rattle.table_plans.specs.Tables.{f32-table}
+use Rattle.table_plans.specs.Tables.{Kind, f32s, table-of}
 use Rattle.job.specs.Job.{fresh-job}
 use Rattle.job.specs.declared.Job.{Job}
 use Rattle.distortion_table.specs.declared.Status.{Status}
 use Rattle.distortion_table.specs.declared.Status.the-variants as status
 use Rattle.distortion_table.specs.declared.Turned.{Turned}
 
--- the plan of a record's table, and the state of its build
-abbrev pub plan-of : Job → Plan Float
-plan-of job = f32-table (job .camera) (job .width) (job .height) (job .strict)
+-- the plan of a record's table, of some kind of cell, and the state of its build
+abbrev pub plan-of : {X : Type 0} → Kind X → Job → Plan X
+plan-of kind job = table-of kind (job .camera) (job .width) (job .height) (job .strict)
 
 abbrev pub state-of : {X : Type 0} → Job → List X → State X
 state-of job cells = record { at = job .at; cells = cells }
@@ -46,8 +46,8 @@ answer job t = record {
   cells = t .state .cells;
 }
 
-abbrev pub turn-of : Job → List Float → ℕ → Answer Float
-turn-of job cells allowance = answer job (plan.turn-of (plan-of job) allowance (state-of job cells))
+abbrev pub turn-of : {X : Type 0} → Kind X → Job → List X → ℕ → Answer X
+turn-of kind job cells allowance = answer job (plan.turn-of (plan-of kind job) allowance (state-of job cells))
 
 -- what the code's answer says
 abbrev pub told-status : Status → Said
@@ -64,4 +64,4 @@ abbrev pub enough : ℕ
 enough = all-units most most
 
 abbrev pub whole-table : Camera → ℕ → ℕ → List Float → Answer Float
-whole-table camera width height cells = turn-of (fresh-job camera width height false) cells enough
+whole-table camera width height cells = turn-of f32s (fresh-job camera width height false) cells enough

@@ -3,11 +3,10 @@ use mathlib.Core.Path.{_≡_}
 use mathlib.Core.Bool.{Bool}
 use mathlib.Core.List.{List}
 use Prim.Native.Nat.{ℕ}
-use lib.Ieee.{Float}
 use Rattle.camera.specs.declared.Camera.{Camera}
 use Rattle.plans.specs.Built.{Built}
 use Rattle.plans.specs.Plan.{Plan, State}
-use Rattle.table_plans.specs.Tables.{f32-table}
+use Rattle.table_plans.specs.Tables.{Kind, table-of}
 use Rattle.job.specs.declared.Job.{Job}
 use Rattle.distortion_table.specs.Answer.{Answer, plan-of, state-of}
 
@@ -20,8 +19,8 @@ abbrev pub handed-back : {X : Type 0} → Answer X → Held X
 handed-back answer = record { job = answer .job; cells = answer .cells }
 
 -- the plan of its table, and the state of the build
-abbrev pub held-plan : Held Float → Plan Float
-held-plan held = plan-of (held .job)
+abbrev pub held-plan : {X : Type 0} → Kind X → Held X → Plan X
+held-plan kind held = plan-of kind (held .job)
 
 abbrev pub held-state : {X : Type 0} → Held X → State X
 held-state held = state-of (held .job) (held .cells)
@@ -29,10 +28,11 @@ held-state held = state-of (held .job) (held .cells)
 -- ---- what a build owes: camera, size and mark are kept, and the rest as the plan of their table has it
 
 pub record BuiltJob
-    (camera : Camera) (width height : ℕ) (strict : Bool) (table : List Float) (A : ℕ) (last : Held Float)
+    {X : Type 0} (kind : Kind X) (camera : Camera) (width height : ℕ) (strict : Bool)
+    (table : List X) (A : ℕ) (last : Held X)
     : Type 0 where
   pub same-camera : last .job .camera ≡ camera
   pub same-width : last .job .width ≡ width
   pub same-height : last .job .height ≡ height
   pub same-strict : last .job .strict ≡ strict
-  pub built : Built (f32-table camera width height strict) table A (held-state last)
+  pub built : Built (table-of kind camera width height strict) table A (held-state last)

@@ -1,21 +1,20 @@
 -- What the parts of a turn's code ask and give; no caller meets these. Definitions only.
-use mathlib.Core.Path.{_≡_}
-use mathlib.Core.Bool.{Bool}
+use mathlib.Core.Bool.{cond}
 use mathlib.Core.List.{List}
-use Prim.Native.Nat.{ℕ, _+_, _-_, _*_, _≤_, _<_, min}
-use lib.Ieee.{Float}
-use lib.ListN.{length}
-use Rattle.region.specs.Size.{Sized}
-use Rattle.camera.specs.declared.Camera.{Camera}
+use Prim.Native.Nat.{ℕ, _+_, _-_, _*_, _^_, _≤_, _<_, min}
+use lib.Dec.{ltb}
+use Rattle.lens.specs.Judgement.{decided}
+use Rattle.lens.specs.Refusal.{number}
 use Rattle.border.specs.Border.{samples, all-units}
-use Rattle.turns.specs.Turns.{Turn, turn}
+use Rattle.turns.specs.Turns.{Said, finished, refused, running, Turn}
 use Rattle.plans.specs.Loops.{Filling}
-use Rattle.plans.specs.Plan.{State, next}
 use Rattle.plans.specs.declared.Progress.{Progress}
-use Rattle.table_plans.specs.Tables.{f32-table}
-use Rattle.sweep.specs.Sweep.{told-refusal}
+use Rattle.sweep.specs.Sweep.{run, told-refusal}
+use Rattle.job.specs.Job.{admitted}
 use Rattle.job.specs.declared.Job.{Job}
 use Rattle.distortion_table.specs.Answer.{told-status}
+use Rattle.distortion_table.specs.declared.Due.{Due}
+use Rattle.distortion_table.specs.declared.Due.the-variants.{Over, Cells}
 use Rattle.distortion_table.specs.declared.Ended.{Ended}
 use Rattle.distortion_table.specs.declared.Filled.{Filled}
 use Rattle.distortion_table.specs.declared.Turned.{Turned}
@@ -24,9 +23,6 @@ use Rattle.distortion_table.specs.declared.Turned.{Turned}
 
 abbrev pub told-filled : {X : Type 0} → Filled → List X → Turn (Filling X)
 told-filled f cells = record { state = record { done = f .done; cells = cells }; said = told-refusal (f .refusal) }
-
-abbrev pub told-ended : {X : Type 0} → Ended → List X → Turn (State X)
-told-ended e cells = record { state = record { at = e .at; cells = cells }; said = told-status (e .status) }
 
 abbrev pub handed : Job → Ended → Turned
 handed job e = record {
@@ -40,22 +36,41 @@ handed job e = record {
   };
 }
 
--- ---- a turn's cells
+-- ---- a turn up to its cells: over, or a build that has come so far, of so many units in all, with the number of the
+-- first of the turn's cells and how many these are
 
--- of so many cells behind `all` samples, those that are a turn's with `left` of its allowance left
-pub record Share (cells all done left first count : ℕ) : Type 0 where
-  pub here : done ≡ all + first
-  pub within : first ≤ cells
-  pub counted : count ≡ min left (cells - first)
+pub data ToDo : Type 0 where
+  over : Said → Progress → ToDo
+  cells : Progress → ℕ → ℕ → ℕ → ToDo
 
--- the border is behind it, or the allowance is spent
-pub record Cellwise {X : Type 0} (width height : ℕ) (at : Progress) (left : ℕ) (cells : List X) : Type 0 where
-  pub size : Sized width height
-  pub not-past : at .done ≤ all-units width height
-  pub spent : at .done < samples width height → left ≡ 0
-  pub places : length cells ≡ 2 * (width * height)
+abbrev pub told-due : Due → ToDo
+told-due (Over e) = over (told-status (e .status)) (e .at)
+told-due (Cells r) = cells (r .at) (r .all) (r .first) (r .count)
 
--- what they make of a state, whatever the strict mark: it has no say in cells
-abbrev pub CellsTurn : Camera → ℕ → ℕ → ℕ → State Float → Turn (State Float) → Type 0
-CellsTurn camera width height left s t =
-    (strict : Bool) → t ≡ turn (next (f32-table camera width height strict)) left s
+-- its border units are done, and so many of its allowance are left
+abbrev pub behind-border : ℕ → ℕ → ℕ → Progress → ToDo
+behind-border width height left at =
+    let border = samples width height in
+    let all = all-units width height in
+    cond (ltb (at .done) border) (over running at) (cells at all (at .done - border) (min left (all - at .done)))
+
+abbrev pub after-border : ℕ → ℕ → ℕ → Said → Progress → ToDo
+after-border width height left (refused n) at = over (refused n) at
+after-border width height left running at = behind-border width height left at
+after-border width height left finished at = behind-border width height left at
+
+-- the border units that the allowance goes to
+abbrev pub by-border : Job → ℕ → ToDo
+by-border job allowance =
+    let left = allowance - min allowance (samples (job .width) (job .height) - job .at .done) in
+    let swept = run (job .camera) (job .width) (job .height) (job .strict) allowance (job .at) in
+    after-border (job .width) (job .height) left (swept .said) (swept .state)
+
+-- the record is judged before them
+abbrev pub to-do : Job → ℕ → ℕ → ToDo
+to-do job places allowance =
+    decided (admitted job places) (λ r. over (refused (number r)) (job .at)) (by-border job allowance)
+
+-- so many cells from the first on have their places in a table of that length
+abbrev pub InPlace : ℕ → ℕ → ℕ → ℕ → Type 0
+InPlace width first count places = (0 < width) × (first + count < 2 ^ 31) × (2 * first + 2 * count ≤ places)

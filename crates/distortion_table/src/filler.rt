@@ -1,24 +1,27 @@
-// The cells of a table: runs of cells into the part of the table that is lent.
+// The cells of a table of f32s: runs of cells into the part of the table that is lent.
 ghost use mathlib.Core.Path.{_≡_};
 ghost use Prim.Native.Nat.{_+_, _*_, _^_, _≤_, _<_};
 ghost use lib.ListN.{length};
-ghost use Rattle.region.specs.Region.{increments};
 ghost use Rattle.camera.specs.Camera.{distort-judged};
 ghost use Rattle.turns.specs.Turns.{turn, met};
 ghost use Rattle.plans.specs.Loops.{filled, Lent};
 ghost use Rattle.cell.specs.Cell.{f32, cell-by};
+ghost use Rattle.table_plans.specs.Tables.{f32s};
 ghost use Rattle.sweep.specs.Sweep.{told-refusal};
-ghost use Rattle.distortion_table.specs.Parts.{told-filled};
+ghost use Rattle.distortion_table.specs.Answer.{plan-of};
+ghost use Rattle.distortion_table.specs.Parts.{told-filled, InPlace};
 use crate::Filled;
 use crate::Place;
+use crate::Run;
 use camera::Camera;
 use cell::Cell;
+use job::Job;
 use lens::Judgement;
 use region::Increments;
 use region::Region;
 
-// The place after a place, row by row.
-fn next_place(place: Place, width: usize) -> Place
+// The place after a place, row by row, whatever a cell holds.
+pub(crate) fn next_place(place: Place, width: usize) -> Place
     requires { ⌜ (place .u < width) × (place .v < 2 ^ 32) ⌝ }
     ensures { λ r. ⌜ (r .u < width) × (r .v * width + r .u ≡ place .v * width + place .u + 1) ⌝ }
 {
@@ -76,24 +79,28 @@ fn fill(
     }
 }
 
-// So many cells, from the one numbered first on: the part of the table that begins with it is lent to the filler, and
-// what is ahead of it is not.
-pub(crate) fn lend(
-    table: &mut [f32],
-    camera: Camera,
-    region: Region,
-    width: usize,
-    height: usize,
-    first: usize,
-    count: usize,
-) -> Filled
-    requires { ⌜ (0 < width) × (first + count < 2 ^ 31) × (2 * first + 2 * count ≤ length (now table)) ⌝ }
+// A turn's cells: the part of the table that begins with the first is lent to the filler, and what is ahead of it is
+// not.
+pub(crate) fn lend(table: &mut [f32], job: Job, run: Run) -> Filled
+    requires { ⌜ InPlace (job .width) (run .first) (run .count) (length (now table)) ⌝ }
     ensures { λ r. ⌜
-        Lent (cell-by (distort-judged camera) f32 region (increments region width height)) width first count
+        Lent (plan-of f32s job .cell (run .at .region)) (job .width) (run .first) (run .count)
         (now (table .entry)) (r .done) (told-refusal (r .refusal)) (now (table .exit))
         ⌝ }
 {
-    let by = region::increments_of(region, width, height);
+    let camera = job.camera;
+    let width = job.width;
+    let region = run.at.region;
+    let by = region::increments_of(region, width, job.height);
+    let first = run.first;
     let start = 2 * first;
-    fill(&mut table[start..], camera, region, by, width, first, count)
+    fill(
+        &mut table[start..],
+        camera,
+        region,
+        by,
+        width,
+        first,
+        run.count,
+    )
 }

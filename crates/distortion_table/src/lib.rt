@@ -2,20 +2,17 @@
 // pixel outside it, a sample at a time; twice the box around the points found is the table's region. Then each cell is
 // filled with the pixel of its point, row by row. A sample is a unit of work, and so is a cell.
 ghost use mathlib.Core.Path.{_≡_};
-ghost use Prim.Native.Nat.{_+_, _-_, _*_, _≤_, min};
-ghost use lib.ListN.{length};
-ghost use Rattle.lens.specs.declared.Judgement.the-variants.{Taken};
+ghost use Prim.Native.Nat.{_+_, _≤_};
 ghost use Rattle.region.specs.Size.{Sized};
-ghost use Rattle.border.specs.Border.{samples, all-units};
-ghost use Rattle.turns.specs.Turns.{turn};
-ghost use Rattle.plans.specs.Plan.{with-done, next};
 ghost use Rattle.plans.specs.Loops.{reached, after-run};
-ghost use Rattle.job.specs.Job.{admitted};
-ghost use Rattle.distortion_table.specs.Answer.{plan-of, state-of, turn-of, told-status, told-turned, whole-table};
+ghost use Rattle.plans.specs.Plan.{with-done};
+ghost use Rattle.table_plans.specs.Tables.{f32s, i16s};
 ghost use Rattle.sweep.specs.Sweep.{told-refusal};
-ghost use Rattle.distortion_table.specs.Parts.{told-ended, handed, Share, Cellwise, CellsTurn};
+ghost use Rattle.distortion_table.specs.Answer.{turn-of, told-status, told-turned, whole-table};
+ghost use Rattle.distortion_table.specs.Parts.{told-due, behind-border, by-border, to-do, handed};
 
 mod filler;
+mod filler16;
 
 use camera::Camera;
 use job::Job;
@@ -35,16 +32,25 @@ struct Filled {
     pub refusal: Judgement,
 }
 
-// Which cells are a turn's: the number of the first, and how many.
+// A turn's cells, once its border units are done: how far the build has come by then, all units of the table, the
+// number of the first cell, and how many.
 struct Run {
+    pub at: Progress,
+    pub all: usize,
     pub first: usize,
     pub count: usize,
 }
 
-// How a turn of an admitted record ends, and how far it has come by then.
+// How a turn ends, and how far the build has come by then.
 struct Ended {
     pub status: Status,
     pub at: Progress,
+}
+
+// What is left of a turn when its border units are done: nothing, or cells.
+enum Due {
+    Over(Ended),
+    Cells(Run),
 }
 
 // What a turn says at its end.
@@ -60,15 +66,64 @@ pub struct Turned {
     pub job: Job,
 }
 
-// Which cells are a turn's, once the border is behind it.
-fn cells_due(width: usize, height: usize, all: usize, done: usize, left: usize) -> Run
-    requires { ⌜ Sized width height × (all ≤ done) × (done ≤ all + width * height) ⌝ }
-    ensures { λ r. ⌜ Share (width * height) all done left (r .first) (r .count) ⌝ }
+// What is left of a turn whose border units are done, so many of its allowance being left.
+fn cells_due(width: usize, height: usize, at: Progress, left: usize) -> Due
+    requires { ⌜ Sized width height ⌝ }
+    ensures { λ r. ⌜ told-due r ≡ behind-border width height left at ⌝ }
 {
-    let first = done - all;
-    Run {
-        first,
-        count: job::least(left, width * height - first),
+    let border = border::samples(width as u32, height as u32);
+    let all = border + width * height;
+    let done = at.done;
+    if done < border {
+        return Due::Over(Ended {
+            status: Status::Running,
+            at,
+        });
+    }
+    let count = sweep::due(done, all, left);
+    Due::Cells(Run {
+        at,
+        all,
+        first: done - border,
+        count,
+    })
+}
+
+// The border units of a turn whose record is admitted, and what is left of it.
+fn border_due(job: Job, allowance: usize) -> Due
+    requires { ⌜ Sized (job .width) (job .height) ⌝ }
+    ensures { λ r. ⌜ told-due r ≡ by-border job allowance ⌝ }
+{
+    let camera = job.camera;
+    let at = job.at;
+    let width = job.width;
+    let height = job.height;
+    let border = border::samples(width as u32, height as u32);
+    let count = sweep::due(at.done, border, allowance);
+    let stop = sweep::sweep(camera, width, height, job.strict, at, allowance);
+    let refusal = stop.refusal;
+    let after = stop.at;
+    match refusal {
+        Judgement::Refused(r) => Due::Over(Ended {
+            status: Status::Refused(r),
+            at: after,
+        }),
+        Judgement::Taken => cells_due(width, height, after, allowance - count),
+    }
+}
+
+// A turn up to its cells, whatever these hold: the record is judged, and its border units are done. `places` is the
+// length of the table.
+fn up_to_cells(job: Job, places: usize, allowance: usize) -> Due
+    ensures { λ r. ⌜ told-due r ≡ to-do job places allowance ⌝ }
+{
+    let at = job.at;
+    match job::admitted(job, places) {
+        Judgement::Refused(refusal) => Due::Over(Ended {
+            status: Status::Refused(refusal),
+            at,
+        }),
+        Judgement::Taken => border_due(job, allowance),
     }
 }
 
@@ -118,99 +173,48 @@ fn reached(done: usize, all: usize) -> Status
     }
 }
 
-// A turn's end behind a run of cells: with so many units of `all` done, unless something refused.
-fn end_at(at: Progress, done: usize, all: usize, refusal: Judgement) -> Ended
+// A turn's end behind its cells: with those done that were filled, unless one refused.
+fn end(run: Run, filled: Filled) -> Ended
+    requires { ⌜ run .at .done + filled .done ≤ run .all ⌝ }
     ensures { λ r. ⌜
-        (r .at ≡ with-done at done)
-        × (told-status (r .status) ≡ after-run (told-refusal refusal) (reached done all))
+        (r .at ≡ with-done (run .at) (run .at .done + filled .done))
+        × (told-status (r .status)
+        ≡ after-run (told-refusal (filled .refusal)) (reached (run .at .done + filled .done) (run .all)))
         ⌝ }
 {
+    let at = run.at;
+    let done = at.done + filled.done;
     let after = with_done(at, done);
+    let refusal = filled.refusal;
     match refusal {
         Judgement::Refused(r) => Ended {
             status: Status::Refused(r),
             at: after,
         },
         Judgement::Taken => {
-            let status = reached(done, all);
+            let status = reached(done, run.all);
             Ended { status, at: after }
         }
     }
 }
 
-// A turn's cells, once its border units are done: the strict mark has no say in them.
-fn cells(
-    table: &mut [f32],
-    camera: Camera,
-    width: usize,
-    height: usize,
-    all: usize,
-    at: Progress,
-    left: usize,
-) -> Ended
-    requires { ⌜ (all ≡ samples width height) × Cellwise width height at left (now table) ⌝ }
-    ensures { λ r. ⌜
-        CellsTurn camera width height left record { at = at; cells = now (table .entry) }
-        (told-ended r (now (table .exit)))
-        ⌝ }
-{
-    let done = at.done;
-    if done < all {
-        return Ended {
-            status: Status::Running,
-            at,
-        };
-    }
-    let run = cells_due(width, height, all, done, left);
-    let filled = filler::lend(
-        table,
-        camera,
-        at.region,
-        width,
-        height,
-        run.first,
-        run.count,
-    );
-    let refusal = filled.refusal;
-    end_at(at, done + filled.done, all + width * height, refusal)
-}
-
-// A turn of a record that is admitted.
-fn work(job: Job, table: &mut [f32], allowance: usize) -> Ended
-    requires { ⌜ admitted job (length (now table)) ≡ Taken ⌝ }
-    ensures { λ r. ⌜
-        told-ended r (now (table .exit))
-        ≡ turn (next (plan-of job)) allowance (state-of job (now (table .entry)))
-        ⌝ }
-{
-    let camera = job.camera;
-    let width = job.width;
-    let height = job.height;
-    let at = job.at;
-    let all = border::samples(width as u32, height as u32);
-    let count = sweep::due(at.done, all, allowance);
-    let stop = sweep::sweep(camera, width, height, job.strict, at, allowance);
-    let refusal = stop.refusal;
-    let after = stop.at;
-    match refusal {
-        Judgement::Refused(r) => Ended {
-            status: Status::Refused(r),
-            at: after,
-        },
-        Judgement::Taken => cells(table, camera, width, height, all, after, allowance - count),
-    }
-}
-
 // One turn: so many units, or fewer if one refuses or none is left.
 pub fn turn(job: Job, table: &mut [f32], allowance: usize) -> Turned
-    ensures { λ r. ⌜ told-turned r (now (table .exit)) ≡ turn-of job (now (table .entry)) allowance ⌝ }
+    ensures { λ r. ⌜ told-turned r (now (table .exit)) ≡ turn-of f32s job (now (table .entry)) allowance ⌝ }
 {
-    match job::admitted(job, table.len()) {
-        Judgement::Refused(refusal) => Turned {
-            status: Status::Refused(refusal),
-            job,
-        },
-        Judgement::Taken => handed(job, work(job, table, allowance)),
+    match up_to_cells(job, table.len(), allowance) {
+        Due::Over(ended) => handed(job, ended),
+        Due::Cells(run) => handed(job, end(run, filler::lend(table, job, run))),
+    }
+}
+
+// The same of a table of sixteen-bit numbers.
+pub fn turn16(job: Job, table: &mut [i16], allowance: usize) -> Turned
+    ensures { λ r. ⌜ told-turned r (now (table .exit)) ≡ turn-of i16s job (now (table .entry)) allowance ⌝ }
+{
+    match up_to_cells(job, table.len(), allowance) {
+        Due::Over(ended) => handed(job, ended),
+        Due::Cells(run) => handed(job, end(run, filler16::lend(table, job, run))),
     }
 }
 

@@ -95,7 +95,7 @@ pub fn fresh(camera: Camera, width: usize, height: usize, strict: bool) -> Start
 }
 
 // The smaller of two.
-pub fn least(a: usize, b: usize) -> usize
+fn least(a: usize, b: usize) -> usize
     ensures { λ r. ⌜ r ≡ min a b ⌝ }
 {
     if a < b { a } else { b }

@@ -23,7 +23,7 @@ use Rattle.lens.specs.declared.Judgement.the-variants as judged
 use Rattle.lens.specs.Undistorted.{Told, told}
 use Rattle.lens.specs.declared.Pixel.{Pixel}
 use Rattle.lens.specs.declared.Refusal.{Refusal}
-use Rattle.lens.specs.declared.Refusal.the-variants.{UnknownModel, NoParameterJacobian, WrongCount, NotFinite, ZeroFocalLength, WrongSize, WrongLength, IncrementNotPositive, OutsideTable, AngleTooLarge, AnswerNotFinite, CellInfinite, ImpossibleRecord, NotTheForm, RayNotForward, SampleUnsettled}
+use Rattle.lens.specs.declared.Refusal.the-variants.{UnknownModel, NoParameterJacobian, WrongCount, NotFinite, ZeroFocalLength, WrongSize, WrongLength, IncrementNotPositive, OutsideTable, AngleTooLarge, AnswerNotFinite, CellInfinite, ImpossibleRecord, NotTheForm, RayNotForward, SampleUnsettled, TooFar}
 use Rattle.lens.specs.declared.Settled.{Settled}
 use Rattle.lens.specs.declared.Undistorted.{Undistorted}
 use Rattle.lens.specs.declared.Undistorted.the-variants.{At, Refused}
@@ -40,16 +40,16 @@ use Rattle.lens.proofs.finite_pixel.Reads as finite-pixel-contract
 
 -- ---- refusals
 
--- by their numbers, from 1 to 14; behind them stand 16 and 18, and no refusal has 15 or 17
+-- by their numbers, from 1 to 14; behind them stand 16, 18 and 19, and no refusal has 15 or 17
 refusals : List Refusal
 refusals =
     UnknownModel ∷ NoParameterJacobian ∷ WrongCount ∷ NotFinite ∷ ZeroFocalLength ∷ WrongSize ∷ WrongLength
     ∷ IncrementNotPositive ∷ OutsideTable ∷ AngleTooLarge ∷ AnswerNotFinite ∷ CellInfinite ∷ ImpossibleRecord ∷ NotTheForm ∷ []
 
 abbrev numbered : ℕ → Refusal
-numbered n = cond (eqb n 18) SampleUnsettled (getD refusals (n - 1) RayNotForward)
+numbered n = cond (eqb n 19) TooFar (cond (eqb n 18) SampleUnsettled (getD refusals (n - 1) RayNotForward))
 
-listed : (r : Refusal) → (1 ≤ number r) × (number r ≤ 18) × (numbered (number r) ≡ r)
+listed : (r : Refusal) → (1 ≤ number r) × (number r ≤ 19) × (numbered (number r) ≡ r)
 unfolding refusals
 listed UnknownModel = (lit≤ tt, lit≤ tt, refl)
 listed NoParameterJacobian = (lit≤ tt, lit≤ tt, refl)
@@ -67,6 +67,7 @@ listed ImpossibleRecord = (lit≤ tt, lit≤ tt, refl)
 listed NotTheForm = (lit≤ tt, lit≤ tt, refl)
 listed RayNotForward = (lit≤ tt, lit≤ tt, refl)
 listed SampleUnsettled = (lit≤ tt, lit≤ tt, refl)
+listed TooFar = (lit≤ tt, lit≤ tt, refl)
 
 -- n numbers from s on
 abbrev counted : ℕ → ℕ → List ℕ
@@ -82,17 +83,18 @@ counted-at s (suc n) (suc k) d h = counted-at (suc s) n k d (le-of-suc-le-suc h)
 pub number-one-to-one : (a b : Refusal) → number a ≡ number b → a ≡ b
 number-one-to-one a b e = sym (listed a .2) ∙ ap numbered e ∙ listed b .2
 
--- A refusal's number is one of 1 to 18.
-pub number-within : (r : Refusal) → (1 ≤ number r) × (number r ≤ 18)
+-- A refusal's number is one of 1 to 19.
+pub number-within : (r : Refusal) → (1 ≤ number r) × (number r ≤ 19)
 number-within r = (listed r .0, listed r .1)
 
--- Each of 1 to 14, 16 and 18 is the number of some refusal.
-pub number-each : (n : ℕ) → 1 ≤ n → (n ≤ 14) ⊎ ((n ≡ 16) ⊎ (n ≡ 18)) → (r : Refusal) × (number r ≡ n)
+-- Each of 1 to 14, 16, 18 and 19 is the number of some refusal.
+pub number-each : (n : ℕ) → 1 ≤ n → (n ≤ 14) ⊎ ((n ≡ 16) ⊎ ((n ≡ 18) ⊎ (n ≡ 19))) → (r : Refusal) × (number r ≡ n)
 unfolding refusals
 number-each n low (inl high) =
     (getD refusals (n - 1) RayNotForward, sym (List·getD-map number refusals (n - 1) RayNotForward) ∙ counted-at 1 14 (n - 1) 16 (omega arith) ∙ omega arith)
 number-each n low (inr (inl e)) = (RayNotForward, sym e)
-number-each n low (inr (inr e)) = (SampleUnsettled, sym e)
+number-each n low (inr (inr (inl e))) = (SampleUnsettled, sym e)
+number-each n low (inr (inr (inr e))) = (TooFar, sym e)
 
 -- What a judgement's number says determines it.
 pub verdict-one-to-one : (a b : Judgement) → verdict a ≡ verdict b → a ≡ b

@@ -92,6 +92,8 @@ pub enum Refusal {
     RayNotForward,
     // a strict job met a border sample that didn't settle
     SampleUnsettled,
+    // too far for a cell of sixteen bits
+    TooFar,
 }
 
 // EPS as a call, so that a contract ties the constant to the definition.
@@ -101,7 +103,7 @@ pub fn eps() -> f64
     EPS
 }
 
-// A refusal's number. By a match, which the check proves by itself; it does not so prove a cast of the enum.
+// A refusal's number.
 pub fn number(refusal: Refusal) -> u8
     ensures { λ r. ⌜ r ≡ number refusal ⌝ }
 {
@@ -122,6 +124,7 @@ pub fn number(refusal: Refusal) -> u8
         Refusal::NotTheForm => 14,
         Refusal::RayNotForward => 16,
         Refusal::SampleUnsettled => 18,
+        Refusal::TooFar => 19,
     }
 }
 

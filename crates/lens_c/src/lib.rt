@@ -12,6 +12,7 @@ ghost use Rattle.answer_bytes.specs.Answer.{distort-bytes, undistort-bytes, dx-
 ghost use Rattle.lookup_bytes.specs.Lookup.{lookup-bytes};
 ghost use Rattle.job_bytes.specs.Bytes.{fresh-bytes};
 ghost use Rattle.observation_bytes.specs.Bytes.{observe-bytes};
+ghost use Rattle.table_plans.specs.Tables.{f32s, i16s};
 ghost use Rattle.turn_bytes.specs.Turn.{handed, turn-bytes};
 
 // The pixel of a point: u and v, 16 bytes.
@@ -140,7 +141,21 @@ pub extern "C" fn lens_turn(
     answer: &mut [u8],
 ) -> u8
     ensures { λ r. ⌜ handed r (now (job .exit)) (now (table .exit)) (now (answer .exit)) ≡
-        turn-bytes (now (job .entry)) (now (table .entry)) allowance (now (answer .entry)) ⌝ }
+        turn-bytes f32s (now (job .entry)) (now (table .entry)) allowance (now (answer .entry)) ⌝ }
 {
     turn_bytes::turn(job, table, allowance, answer)
+}
+
+// The same of a table of sixteen-bit numbers, thirty-seconds of a pixel.
+#[no_mangle]
+pub extern "C" fn lens_turn16(
+    job: &mut [u8],
+    table: &mut [i16],
+    allowance: u64,
+    answer: &mut [u8],
+) -> u8
+    ensures { λ r. ⌜ handed r (now (job .exit)) (now (table .exit)) (now (answer .exit)) ≡
+        turn-bytes i16s (now (job .entry)) (now (table .entry)) allowance (now (answer .entry)) ⌝ }
+{
+    turn_bytes::turn16(job, table, allowance, answer)
 }

@@ -21,6 +21,12 @@ use Rattle.plans.proofs.AtBorder.{swept-counts, swept-there}
 last-left : (left all count : ℕ) → count ≡ min left all → count < all → left - count ≡ 0
 last-left left all count e h = omega (arith, e, h)
 
+-- what a run met is never that all was done
+pub never-finished : (x : Said) → halted x ≡ finished → ⊥
+never-finished finished e = let z : _≡_ {A = ℕ} 0 1 = cc in omega arith
+never-finished (refused r) e = let z : _≡_ {A = ℕ} 0 1 = cc in omega arith
+never-finished running e = let z : _≡_ {A = ℕ} 0 1 = cc in omega arith
+
 -- ---- the sweep, beside an untouched table
 
 module _ {X : Type 0} (p : Plan X) (cells : List X) where
@@ -235,11 +241,6 @@ module _ {X : Type 0} (p : Plan X) (at : Progress) (cells : List X) (left first 
       cells-apart
       ∙ first-running (next p) count (left - count) begin end (cells-run ∙ ap (λ (x : Said). record { state = end; said = x }) e)
       ∙ at-last p end (left - count) (omega arith) (λ h. last-left left (p .sweep .width * p .sweep .height - first) count counted (omega (arith, all-filled e)))
-
-  never-finished : (x : Said) → halted x ≡ finished → ⊥
-  never-finished finished e = let z : _≡_ {A = ℕ} 0 1 = cc in omega arith
-  never-finished (refused r) e = let z : _≡_ {A = ℕ} 0 1 = cc in omega arith
-  never-finished running e = let z : _≡_ {A = ℕ} 0 1 = cc in omega arith
 
   abbrev ends-with : ℕ → Said → Turn (State X)
   ends-with n x = record { state = record { at = with-done at n; cells = after }; said = after-run x (reached n (all-units (p .sweep))) }

@@ -30,8 +30,8 @@ use Rattle.plans.specs.Plan.{nowhere, next}
 use Rattle.plans.specs.Plan as plan
 use Rattle.plans.proofs.Laws.{start-good}
 use Rattle.plans.proofs.Reaching.{turn-keeps}
-use Rattle.table_plans.specs.Tables.{f32-table}
-use Rattle.table_plans.proofs.Sound.{opened, f32-sound}
+use Rattle.table_plans.specs.Tables.{f32s, f32-table}
+use Rattle.table_plans.proofs.Sound.{opened, f32-fit, f32-sound}
 use Rattle.turns.specs.Turns.{Said, finished, refused, running, turn}
 use Rattle.job.specs.declared.Job.{Job}
 use Rattle.job.specs.declared.Started.{Started}
@@ -44,7 +44,7 @@ use Rattle.printer.proofs.Short.{refused-short, table-short, region-lon
 abbrev Short : List (List ℕ) → Type 0
 Short lines = length (joined lines) ≤ most-printed
 
-refusal-short : (n : ℕ) → n ≤ 18 → Short (refusal-lines n)
+refusal-short : (n : ℕ) → n ≤ 19 → Short (refusal-lines n)
 unfolding joined
 refusal-short n h = omega (arith, length-append (refused-line n) [], refused-short n (omega arith))
 
@@ -101,7 +101,7 @@ module _ (camera : Camera) (width height : ℕ) (s : Sized width height) where
       let sound = f32-sound camera width height false in
       let after = turn-keeps p sound enough (plan.fresh cells) (start-good p sound (fresh-opens camera width height false job e .0) cells long) in
       let t = turn (next p) enough (plan.fresh cells) in
-      subst (λ (a : Answer Float). Short (shown a)) (sym (answer-is camera width height false (fresh-opens camera width height false job e .0) cells long enough))
+      subst (λ (a : Answer Float). Short (shown a)) (sym (answer-is camera width height false f32s f32-fit (fresh-opens camera width height false job e .0) cells long enough))
       (shown-short (answer (fresh-job camera width height false) t) refl refl (few _ (t .state .at .done) (after .record-of .updates)) (omega (arith, after .long)) (table-told camera width height enough (plan.fresh cells)))
 
   pub sized-short : (job : Job) → fresh camera width height false ≡ begun.With job → Short (sized-lines camera width height)

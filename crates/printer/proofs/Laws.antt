@@ -32,8 +32,8 @@ use Rattle.plans.specs.Plan as plan
 use Rattle.plans.proofs.Fits.{start-numbers-fit, turn-numbers-fit}
 use Rattle.plans.proofs.Laws.{start-good}
 use Rattle.plans.proofs.Reaching.{turn-keeps}
-use Rattle.table_plans.specs.Tables.{opens-for, f32-table}
-use Rattle.table_plans.proofs.Sound.{opened, f32-sound}
+use Rattle.table_plans.specs.Tables.{opens-for, f32s, f32-table}
+use Rattle.table_plans.proofs.Sound.{opened, f32-fit, f32-sound}
 use Rattle.job.specs.Job.{fresh-job, fresh}
 use Rattle.job.specs.declared.Job.{Job}
 use Rattle.job.specs.declared.Started.{Started}
@@ -86,7 +86,7 @@ module _ (input : List ℕ) (camera : Camera) (width height : ℕ) (asks : parse
   long = blank-long (width * height) cells-few
 
   built-is : built ≡ answer (fresh-job camera width height false) last
-  built-is = answer-is camera width height false opens (blank (width * height)) long enough
+  built-is = answer-is camera width height false f32s f32-fit opens (blank (width * height)) long enough
 
   shown-lines : (said : Said) → built .said ≡ said → printed-lines input ≡ shown-as said built
   unfolding printed-lines table-lines sized-lines

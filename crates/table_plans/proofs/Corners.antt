@@ -10,11 +10,10 @@ use Rattle.region.specs.Size.{float, Sized}
 use Rattle.border.specs.Border.{before, outside, pixel, border-twice, samples-twice, samples, border-at, across, along}
 use Rattle.border.proofs.Sides.{around-first, around-other, first-sides, other-sides}
 use Rattle.camera.specs.declared.Camera.{Camera}
-use Rattle.plans.specs.Plan.{Content}
 use Rattle.plans.specs.Thinned.{Thinned, start, same, again, SameTable}
 use Rattle.plans.proofs.Thinned.{same-table}
-use Rattle.table_plans.specs.Tables.{Engine, corners-once, corners-twice, sweep-by, table-by}
-use Rattle.table_plans.proofs.Sound.{Sure, Telling, table-sound}
+use Rattle.table_plans.specs.Tables.{Engine, corners-once, corners-twice, sweep-by, table-by, Kind}
+use Rattle.table_plans.proofs.Sound.{Sure, Fit, table-sound}
 
 -- half a pixel before pixel 0 is outside
 before-zero : before 0 ≡ outside
@@ -119,11 +118,11 @@ module _ (width height : ℕ) (high : 0 < height) where
 
 -- Whatever the engine, the kind of cell and the strict mark, each corner once makes the table that each corner twice makes.
 pub once-as-twice :
-    {X : Type 0} (camera : Camera) (engine : Engine) (width height : ℕ) (strict : Bool) (kind : Pixel → Content X)
-    → Sure engine → Telling kind → Sized width height
-    → SameTable (table-by (sweep-by camera engine (corners-twice width height) strict width height) engine kind)
-    (table-by (sweep-by camera engine (corners-once width height) strict width height) engine kind)
+    {X : Type 0} (camera : Camera) (engine : Engine) (width height : ℕ) (strict : Bool) (kind : Kind X)
+    → Sure engine → Fit kind → Sized width height
+    → SameTable (table-by (sweep-by camera engine (corners-twice width height) strict width height) engine (kind .holds))
+    (table-by (sweep-by camera engine (corners-once width height) strict width height) engine (kind .holds))
 once-as-twice camera engine width height strict kind s t size =
-    same-table (table-by (sweep-by camera engine (corners-twice width height) strict width height) engine kind)
+    same-table (table-by (sweep-by camera engine (corners-twice width height) strict width height) engine (kind .holds))
     (table-sound camera width height engine (corners-twice width height) strict kind s t (λ size. omega arith))
     (samples width height) (border-at width height) (omega (arith, size .high)) (thinned width height (omega (arith, size .high)))

@@ -1,10 +1,9 @@
 -- Which numbers a unit of our tables is refused with. Assumes nothing.
-use mathlib.Core.Path.{_≡_, refl, sym, ap, _∙_, subst}
+use mathlib.Core.Path.{_≡_, refl, sym, ap, subst}
 use mathlib.Core.Bool.{Bool, true, false, cond, false≢true, _&&_, _||_}
-use mathlib.Core.List.{List, [], _∷_}
+use mathlib.Core.List.{List, [], _∷_, _++_}
 use Prim.Native.Nat.{ℕ}
-use native.Mathlib.Omega.{arith}
-use borrow.Author.Tests.{eqb-true}
+use borrow.Author.Tests.{eq-eqb, eqb-true}
 use lib.Dec.{eqb}
 use lib.Ieee.{Float, le}
 use lib.Ieee.Scale.{finite}
@@ -12,7 +11,6 @@ use Rattle.root.specs.Root.{root}
 use Rattle.arctan.specs.Tangent.{tangent}
 use Rattle.arctan.specs.declared.Slope.{Slope}
 use Rattle.arctan.specs.declared.Slope.the-variants.{Is, TooSteep}
-use Rattle.narrow.specs.Narrow.{narrowed}
 use Rattle.lens.specs.Constants.{zeros, eps}
 use Rattle.lens.specs.Refusal.{number}
 use Rattle.lens.specs.declared.Distorted.the-variants as pixels
@@ -36,8 +34,9 @@ use Rattle.plans.specs.Plan.{Content, numbers, none, State, next}
 use Rattle.plans.specs.Calls.{said-number}
 use Rattle.plans.proofs.Numbers.{Told, Refusing, turn-says}
 use Rattle.turns.specs.Turns.{Said, finished, refused, running, turn}
-use Rattle.cell.specs.Cell.{cell-point, f32, of-pixel, cell-by}
-use Rattle.table_plans.specs.Tables.{one-of, unit-numbers, f32-table}
+use Rattle.cell.specs.Cell.{cell-point, of-pixel, cell-by}
+use Rattle.table_plans.specs.Tables.{Kind, table-of, one-of, unit-numbers}
+use Rattle.table_plans.proofs.Sound.{Fit}
 
 -- ---- one of some numbers
 
@@ -55,15 +54,27 @@ by-each P (x ∷ xs) n e p = go (λ h. by-each P xs n h (p .1)) (eqb n x) refl e
     go rest false q h = rest h
 
 -- one of those that refuse a unit
-abbrev pub Known : Bool → ℕ → Type 0
-Known strict n = one-of n (unit-numbers strict) ≡ true
+abbrev pub Known : ℕ → Bool → ℕ → Type 0
+Known refusal strict n = one-of n (unit-numbers refusal strict) ≡ true
 
-module _ (strict : Bool) where
+pub last-of : (n : ℕ) (xs : List ℕ) → one-of n (xs ++ (n ∷ [])) ≡ true
+last-of n [] = ap (λ (b : Bool). b || false) (eq-eqb n n refl)
+last-of n (x ∷ xs) = go (eqb n x) (last-of n xs)
+  where
+    go : (b : Bool) → one-of n (xs ++ (n ∷ [])) ≡ true → (b || one-of n (xs ++ (n ∷ []))) ≡ true
+    go true e = refl
+    go false e = e
+
+last-known : (refusal : ℕ) (strict : Bool) → Known refusal strict refusal
+last-known refusal true = last-of refusal (8 ∷ 10 ∷ 11 ∷ 16 ∷ 18 ∷ [])
+last-known refusal false = last-of refusal (8 ∷ 10 ∷ 11 ∷ 16 ∷ [])
+
+module _ (refusal : ℕ) (strict : Bool) where
   -- ---- a sample: 10, 16 or 11
 
   abbrev FoundKnown : Undistorted → Type 0
   FoundKnown (found.At s) = Unit {0}
-  FoundKnown (found.Refused r) = Known strict (number r)
+  FoundKnown (found.Refused r) = Known refusal strict (number r)
 
   kb-known : (near : Bool) (slope : Slope) (point : Settled) (at : Reached) (rth un vn : Float) → FoundKnown (cond near (found.At point) (kb.outward slope at rth un vn))
   kb-known true slope point at rth un vn = tt
@@ -92,7 +103,7 @@ module _ (strict : Bool) where
 
   abbrev JudgedKnown : Judgement → Type 0
   JudgedKnown judged.Taken = Unit {0}
-  JudgedKnown (judged.Refused r) = Known strict (number r)
+  JudgedKnown (judged.Refused r) = Known refusal strict (number r)
 
   wrong-known : (by : Increments) → JudgedKnown (wrong by)
   unfolding wrong
@@ -103,57 +114,61 @@ module _ (strict : Bool) where
       go false true = tt
       go false false = refl
 
-  -- ---- a cell: 11 or 12
+  -- ---- a cell: 11, or its kind's refusal
 
-  abbrev ContentKnown : Content Float → Type 0
+  abbrev ContentKnown : {X : Type 0} → Content X → Type 0
   ContentKnown (numbers a b) = Unit {0}
-  ContentKnown (none n) = Known strict n
+  ContentKnown (none n) = Known refusal strict n
 
-  f32-known : (pixel : Pixel) → ContentKnown (f32 pixel)
-  f32-known pixel = go (finite (narrowed (pixel .0)) && finite (narrowed (pixel .1)))
+module _ {X : Type 0} (kind : Kind X) (fit : Fit kind) (strict : Bool) where
+  pixel-known : (pixel : Pixel) → ContentKnown (kind .refusal) strict (kind .holds pixel)
+  pixel-known pixel = go (kind .holds pixel) refl
     where
-      go : (h : Bool) → ContentKnown (cond h (numbers (narrowed (pixel .0)) (narrowed (pixel .1))) (none 12))
-      go true = tt
-      go false = refl
+      go : (x : Content X) → kind .holds pixel ≡ x → ContentKnown (kind .refusal) strict x
+      go (numbers a b) e = tt
+      go (none n) e = subst (Known (kind .refusal) strict) (sym (fit .only pixel n e)) (last-known (kind .refusal) strict)
 
-  cell-known : (camera : Camera) (region : Region) (by : Increments) (u v : ℕ) → ContentKnown (cell-by (distort-judged camera) f32 region by u v)
+  cell-known : (camera : Camera) (region : Region) (by : Increments) (u v : ℕ) → ContentKnown (kind .refusal) strict (cell-by (distort-judged camera) (kind .holds) region by u v)
   unfolding cell-by
   cell-known camera region by u v = go (finite (cell-point region by u v .0) && finite (cell-point region by u v .1)) (finite (pixel .0) && finite (pixel .1))
     where
       pixel : Pixel
       pixel = pixel-of camera (cell-point region by u v)
 
-      go : (f g : Bool) → ContentKnown (cond f (of-pixel f32 (cond g (pixels.At pixel) (pixels.Refused AnswerNotFinite))) (none 11))
+      go : (f g : Bool) → ContentKnown (kind .refusal) strict (cond f (of-pixel (kind .holds) (cond g (pixels.At pixel) (pixels.Refused AnswerNotFinite))) (none 11))
       go false g = refl
       go true false = refl
-      go true true = f32-known pixel
+      go true true = pixel-known pixel
 
 -- what holds of 0 and of each of a strict table's numbers holds of a number that is 0 or one of a table's
-pub by-unit : (P : ℕ → Type 0) (strict : Bool) (n : ℕ) → one-of n (0 ∷ unit-numbers strict) ≡ true → Each P (0 ∷ unit-numbers true) → P n
-by-unit P true n h e = by-each P (0 ∷ unit-numbers true) n h e
-by-unit P false n h e = by-each P (0 ∷ unit-numbers false) n h (e .0, (e .1 .0, (e .1 .1 .0, (e .1 .1 .1 .0, (e .1 .1 .1 .1 .0, (e .1 .1 .1 .1 .1 .0, tt))))))
+pub by-unit : (P : ℕ → Type 0) (refusal : ℕ) (strict : Bool) (n : ℕ) → one-of n (0 ∷ unit-numbers refusal strict) ≡ true → Each P (0 ∷ unit-numbers refusal true) → P n
+by-unit P refusal true n h e = by-each P (0 ∷ unit-numbers refusal true) n h e
+by-unit P refusal false n h e = by-each P (0 ∷ unit-numbers refusal false) n h (e .0, (e .1 .0, (e .1 .1 .0, (e .1 .1 .1 .0, (e .1 .1 .1 .1 .0, (e .1 .1 .1 .1 .1 .1 .0, tt))))))
 
 -- ---- a turn
 
-module _ (camera : Camera) (width height : ℕ) (strict : Bool) where
-  refusing : Refusing (f32-table camera width height strict) (Known strict)
+module _ {X : Type 0} (kind : Kind X) (fit : Fit kind) (camera : Camera) (width height : ℕ) (strict : Bool) where
+  abbrev refusal : ℕ
+  refusal = kind .refusal
+
+  refusing : Refusing (table-of kind camera width height strict) (Known refusal strict)
   refusing = record {
-    samples = λ pixel r e. subst (FoundKnown strict) e (finite-known strict (point-of camera pixel) (point-known strict camera pixel));
-    strictly = λ e. ap (λ (b : Bool). one-of 18 (unit-numbers b)) e;
-    increments = λ by r e. subst (JudgedKnown strict) e (wrong-known strict by);
-    cells = λ region u v n e. subst (ContentKnown strict) e (cell-known strict camera region (increments region width height) u v);
+    samples = λ pixel r e. subst (FoundKnown refusal strict) e (finite-known refusal strict (point-of camera pixel) (point-known refusal strict camera pixel));
+    strictly = λ e. ap (λ (b : Bool). one-of 18 (unit-numbers refusal b)) e;
+    increments = λ by r e. subst (JudgedKnown refusal strict) e (wrong-known refusal strict by);
+    cells = λ region u v n e. subst (ContentKnown refusal strict) e (cell-known kind fit strict camera region (increments region width height) u v);
   }
 
-  -- A turn that a unit refuses is refused with 8, 10, 11, 12 or 16, or in a strict job with 18.
-  pub turn-known : (a : ℕ) (s : State Float) → Told (Known strict) (turn (next (f32-table camera width height strict)) a s .said)
-  turn-known = turn-says (f32-table camera width height strict) (Known strict) refusing
+  -- A turn that a unit refuses is refused with 8, 10, 11 or 16, in a strict job with 18, or with what its kind of cell refuses with.
+  pub turn-known : (a : ℕ) (s : State X) → Told (Known refusal strict) (turn (next (table-of kind camera width height strict)) a s .said)
+  turn-known = turn-says (table-of kind camera width height strict) (Known refusal strict) refusing
 
 -- as a number: 0, or one of these
-pub said-known : (strict : Bool) (said : Said) → Told (Known strict) said → one-of (said-number said) (0 ∷ unit-numbers strict) ≡ true
-said-known strict finished h = refl
-said-known strict running h = refl
-said-known strict (refused n) h = go (eqb n 0)
+pub said-known : (refusal : ℕ) (strict : Bool) (said : Said) → Told (Known refusal strict) said → one-of (said-number said) (0 ∷ unit-numbers refusal strict) ≡ true
+said-known refusal strict finished h = refl
+said-known refusal strict running h = refl
+said-known refusal strict (refused n) h = go (eqb n 0)
   where
-    go : (z : Bool) → (z || one-of n (unit-numbers strict)) ≡ true
+    go : (z : Bool) → (z || one-of n (unit-numbers refusal strict)) ≡ true
     go true = refl
     go false = h

@@ -3,9 +3,13 @@ use mathlib.Core.Path.{_≡_, refl, sym, ap, _∙_, subst}
 use mathlib.Core.Bool.{Bool, true, false, cond, _&&_}
 use Prim.Native.Nat.{ℕ, _≤_, _<_}
 use native.Mathlib.Omega.{arith}
+use lib.IntN.{ℤ}
 use lib.Ieee.{Float}
 use lib.Ieee.Scale.{finite}
 use Rattle.narrow.specs.Narrow.{narrowed}
+use Rattle.thirty_seconds.specs.Multiple.{nearest-multiple}
+use Rattle.thirty_seconds.specs.declared.Multiple.{Multiple}
+use Rattle.thirty_seconds.specs.declared.Multiple.the-variants.{Is, TooFar}
 use Rattle.lens.specs.Finite.{all-finite}
 use Rattle.lens.specs.Refusal.{number}
 use Rattle.lens.specs.Undistorted.{told}
@@ -31,16 +35,18 @@ use Rattle.camera.specs.declared.Camera.{Camera}
 use Rattle.camera.proofs.Laws.{updates-limit-judged}
 use Rattle.plans.specs.Plan.{Content, numbers, none}
 use Rattle.plans.specs.Calls.{Sound}
-use Rattle.cell.specs.Cell.{cell-point, f32, of-pixel, cell-by}
-use Rattle.table_plans.specs.Tables.{Engine, engine-of, Border, corners-once, corners-twice, opens-for, sweep-by, table-by, f32-table, f32-table-before}
+use Rattle.cell.specs.Cell.{cell-point, both-held, of-pixel, cell-by}
+use Rattle.table_plans.specs.Tables.{Engine, engine-of, Border, corners-once, corners-twice, opens-for, sweep-by, table-by, Kind, f32s, i16s, table-of, table-before, f32-table, i16-table}
 
--- an engine whose answers are finite and within its limit; a kind of cell whose refusals have a number
+-- an engine whose answers are finite and within its limit
 pub record Sure (engine : Engine) : Type 0 where
   pub limited : (pixel : Pixel) (settled : Settled) → engine .undistort pixel ≡ At settled → settled .updates ≤ engine .limit
   pub points : (pixel : Pixel) (settled : Settled) → engine .undistort pixel ≡ At settled → (finite (settled .point .0) ≡ true) × (finite (settled .point .1) ≡ true)
 
-abbrev pub Telling : {X : Type 0} → (Pixel → Content X) → Type 0
-Telling kind = (pixel : Pixel) → kind pixel ≡ none 0 → ⊥
+-- a kind of cell with one refusal, its own, which has a number
+pub record Fit {X : Type 0} (kind : Kind X) : Type 0 where
+  pub only : (pixel : Pixel) (n : ℕ) → kind .holds pixel ≡ none n → n ≡ kind .refusal
+  pub numbered : 0 < kind .refusal
 
 -- ---- engines and kinds
 
@@ -62,29 +68,40 @@ engine-sure camera = record {
 numbered : {X : Type 0} (r : ℕ) → 0 < r → _≡_ {A = Content X} (none r) (none 0) → ⊥
 numbered r h e = let z : r ≡ 0 = cc in omega (arith, h, z)
 
-not-numbers : {X : Type 0} (a b : X) → numbers a b ≡ none 0 → ⊥
-not-numbers a b e = let z : _≡_ {A = ℕ} 0 1 = cc in omega arith
+not-numbers : {X : Type 0} (a b : X) (n m : ℕ) → numbers a b ≡ none n → n ≡ m
+not-numbers a b n m e = let z : _≡_ {A = ℕ} 0 1 = cc in absurd (omega arith)
 
-pub f32-telling : Telling f32
-f32-telling pixel = go (finite (narrowed (pixel .0)) && finite (narrowed (pixel .1)))
+told-by : {X : Type 0} (m n : ℕ) → _≡_ {A = Content X} (none m) (none n) → n ≡ m
+told-by m n e = let z : m ≡ n = cc in sym z
+
+pub f32-fit : Fit f32s
+f32-fit = record { only = λ pixel n. go (narrowed (pixel .0)) (narrowed (pixel .1)) n (finite (narrowed (pixel .0)) && finite (narrowed (pixel .1))); numbered = omega arith }
   where
-    go : (b : Bool) → cond b (numbers (narrowed (pixel .0)) (narrowed (pixel .1))) (none 12) ≡ none 0 → ⊥
-    go true e = not-numbers (narrowed (pixel .0)) (narrowed (pixel .1)) e
-    go false e = numbered {X = Float} 12 (omega arith) e
+    go : (a b : Float) (n : ℕ) (h : Bool) → cond h (numbers a b) (none 12) ≡ none n → n ≡ 12
+    go a b n true e = not-numbers a b n 12 e
+    go a b n false e = told-by {X = Float} 12 n e
 
-module _ {X : Type 0} (engine : Engine) (kind : Pixel → Content X) (t : Telling kind) where
-  telling-pixel : (d : Distorted) → of-pixel kind d ≡ none 0 → ⊥
-  telling-pixel (pixels.At pixel) e = t pixel e
+pub i16-fit : Fit i16s
+i16-fit = record { only = λ pixel n. go n (nearest-multiple (pixel .0)) (nearest-multiple (pixel .1)); numbered = omega arith }
+  where
+    go : (n : ℕ) (a b : Multiple) → both-held a b ≡ none n → n ≡ 19
+    go n (Is a) (Is b) e = not-numbers a b n 19 e
+    go n (Is a) TooFar e = told-by {X = ℤ} 19 n e
+    go n TooFar b e = told-by {X = ℤ} 19 n e
+
+module _ {X : Type 0} (engine : Engine) (kind : Kind X) (t : Fit kind) where
+  telling-pixel : (d : Distorted) → of-pixel (kind .holds) d ≡ none 0 → ⊥
+  telling-pixel (pixels.At pixel) e = omega (arith, t .only pixel 0 e, t .numbered)
   telling-pixel (pixels.Refused r) e = numbered (number r) (number-within r .0) e
 
-  telling-cell : (region : Region) (by : Increments) (u v : ℕ) → cell-by (engine .distort) kind region by u v ≡ none 0 → ⊥
+  telling-cell : (region : Region) (by : Increments) (u v : ℕ) → cell-by (engine .distort) (kind .holds) region by u v ≡ none 0 → ⊥
   unfolding cell-by
   telling-cell region by u v = go (finite (point .0) && finite (point .1))
     where
       point : Point
       point = cell-point region by u v
 
-      go : (b : Bool) → cond b (of-pixel kind (engine .distort point)) (none 11) ≡ none 0 → ⊥
+      go : (b : Bool) → cond b (of-pixel (kind .holds) (engine .distort point)) (none 11) ≡ none 0 → ⊥
       go true e = telling-pixel (engine .distort point) e
       go false e = numbered 11 (omega arith) e
 
@@ -117,15 +134,23 @@ module _ (camera : Camera) (width height : ℕ) where
       let p = passed (all-finite (parameters camera) && all-finite (four region)) (zero-focal camera) (sized width height) h in
       record { numbers = p .0; focal = p .1; taken-size = p .2; size = is-sized width height (p .2) }
 
-  module _ {X : Type 0} (engine : Engine) (border : Border) (strict : Bool) (kind : Pixel → Content X) where
-    pub table-sound : Sure engine → Telling kind → (Sized width height → 0 < border .samples) → Sound (table-by (sweep-by camera engine border strict width height) engine kind)
+  module _ {X : Type 0} (engine : Engine) (border : Border) (strict : Bool) (kind : Kind X) where
+    pub table-sound :
+        Sure engine → Fit kind → (Sized width height → 0 < border .samples)
+        → Sound (table-by (sweep-by camera engine border strict width height) engine (kind .holds))
     table-sound s t h = record {
       steady = record { bordered = λ region o. h (opened region o .size); limited = s .limited; points = s .points; alike = opens-alike };
       refusals = λ region u v. telling-cell engine kind t region (increments region width height) u v;
     }
 
-  pub f32-sound : (strict : Bool) → Sound (f32-table camera width height strict)
-  f32-sound strict = table-sound (engine-of camera) (corners-once width height) strict f32 (engine-sure camera) f32-telling (λ size. omega (arith, size .wide))
+  pub kind-sound : {X : Type 0} (kind : Kind X) → Fit kind → (strict : Bool) → Sound (table-of kind camera width height strict)
+  kind-sound kind fit strict = table-sound (engine-of camera) (corners-once width height) strict kind (engine-sure camera) fit (λ size. omega (arith, size .wide))
 
-  pub before-sound : (strict : Bool) → Sound (f32-table-before camera width height strict)
-  before-sound strict = table-sound (engine-of camera) (corners-twice width height) strict f32 (engine-sure camera) f32-telling (λ size. omega arith)
+  pub before-sound : {X : Type 0} (kind : Kind X) → Fit kind → (strict : Bool) → Sound (table-before kind camera width height strict)
+  before-sound kind fit strict = table-sound (engine-of camera) (corners-twice width height) strict kind (engine-sure camera) fit (λ size. omega arith)
+
+  pub f32-sound : (strict : Bool) → Sound (f32-table camera width height strict)
+  f32-sound = kind-sound f32s f32-fit
+
+  pub i16-sound : (strict : Bool) → Sound (i16-table camera width height strict)
+  i16-sound = kind-sound i16s i16-fit

@@ -3,6 +3,7 @@ use mathlib.Core.Bool.{Bool, false, cond, _&&_, _||_}
 use mathlib.Core.List.{List, [], _∷_}
 use Prim.Native.Nat.{ℕ}
 use lib.Dec.{eqb}
+use lib.IntN.{ℤ}
 use lib.Ieee.{Float}
 use lib.ListN.{getD}
 use Rattle.lens.specs.Finite.{all-finite}
@@ -20,7 +21,7 @@ use Rattle.camera.specs.Camera.{parameters, zero-focal, distort-judged, undisto
 use Rattle.camera.specs.declared.Camera.{Camera}
 use Rattle.border.specs.Border.{outside, pixel, samples, border-at, border-twice, samples-twice}
 use Rattle.plans.specs.Plan.{Content, Sweep, Plan}
-use Rattle.cell.specs.Cell.{f32, cell-by}
+use Rattle.cell.specs.Cell.{f32, i16, cell-by}
 
 -- ---- engines: what finds the point of a pixel and the pixel of a point, and the most updates that it makes
 
@@ -86,20 +87,40 @@ table-by sweep engine kind = record {
 abbrev pub sweep-of : Camera → ℕ → ℕ → Bool → Sweep
 sweep-of camera width height strict = sweep-by camera (engine-of camera) (corners-once width height) strict width height
 
--- the table of f32s
+-- ---- kinds of cell: what a cell holds of its pixel, and the number of the refusal where it can't
+
+pub record Kind (X : Type 0) : Type 0 where
+  pub holds : Pixel → Content X
+  pub refusal : ℕ
+
+abbrev pub f32s : Kind Float
+f32s = record { holds = f32; refusal = 12 }
+
+abbrev pub i16s : Kind ℤ
+i16s = record { holds = i16; refusal = 19 }
+
+-- the table of a kind
+abbrev pub table-of : {X : Type 0} → Kind X → Camera → ℕ → ℕ → Bool → Plan X
+table-of kind camera width height strict =
+    table-by (sweep-of camera width height strict) (engine-of camera) (kind .holds)
+
 abbrev pub f32-table : Camera → ℕ → ℕ → Bool → Plan Float
-f32-table camera width height strict = table-by (sweep-of camera width height strict) (engine-of camera) f32
+f32-table = table-of f32s
 
--- and the one that was built before, with its corners twice
-abbrev pub f32-table-before : Camera → ℕ → ℕ → Bool → Plan Float
-f32-table-before camera width height strict =
-    table-by (sweep-by camera (engine-of camera) (corners-twice width height) strict width height) (engine-of camera) f32
+abbrev pub i16-table : Camera → ℕ → ℕ → Bool → Plan ℤ
+i16-table = table-of i16s
 
--- ---- what refuses a unit of it: 8, 10, 11, 12, 16, and 18 in a strict one
+-- and the one that was built before P11, with its corners twice
+abbrev pub table-before : {X : Type 0} → Kind X → Camera → ℕ → ℕ → Bool → Plan X
+table-before kind camera width height strict =
+    table-by (sweep-by camera (engine-of camera) (corners-twice width height) strict width height) (engine-of camera)
+    (kind .holds)
+
+-- ---- what refuses a unit of it: 8, 10, 11, 16, 18 in a strict one, and what its kind refuses with
 
 abbrev pub one-of : ℕ → List ℕ → Bool
 one-of n [] = false
 one-of n (x ∷ xs) = eqb n x || one-of n xs
 
-abbrev pub unit-numbers : Bool → List ℕ
-unit-numbers strict = 8 ∷ 10 ∷ 11 ∷ 12 ∷ 16 ∷ cond strict (18 ∷ []) []
+abbrev pub unit-numbers : ℕ → Bool → List ℕ
+unit-numbers refusal strict = 8 ∷ 10 ∷ 11 ∷ 16 ∷ cond strict (18 ∷ refusal ∷ []) (refusal ∷ [])

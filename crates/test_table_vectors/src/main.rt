@@ -1,17 +1,20 @@
 // Builds lens tables in turns, as outside vectors ask, which tools/make_table_vectors.py makes from the
 // text of the Rust. The gate runs this on the file stdin, and holds what it writes to the file stdout.
 //
-// A line of the input has 17 fields with tabs between, each of 16 lower-case hexadecimal digits: the
-// model, from 0 to 3, the width, the height, the allowance of every turn, 1 for a strict job or else 0, and
-// then bit patterns of f64s: twelve parameters, of which a model takes as many as it has. The answer is
+// A line of the input has 18 fields with tabs between, each of 16 lower-case hexadecimal digits: the
+// model, from 0 to 3, the width, the height, the allowance of every turn, 1 for a strict job or else 0, 1
+// for cells of sixteen bits or 0 for f32s, and then bit patterns of f64s: twelve parameters, of which a
+// model takes as many as it has. The answer is
 // `fresh`, or `refused` and a number and nothing more. Then comes a line for each turn, by its status:
 // `running`, `finished`, or `refused` and a number, with the units done, the updates, how many samples did
 // not settle and the position of the first. A turn follows as long as the status is running, but none
 // follows a turn of allowance 0. Then the edges and the region, and every place of the table as it is then,
-// two for each cell: one that was not written has 3f000000, as before the first turn.
+// two for each cell: one that was not written has 3f000000, as before the first turn. A number of sixteen
+// bits is written as an f32: 41800000, which is 16, where none was written.
 // A line that is not of that form, or asks for more cells than there is room for, is answered by `bad`.
 // The last line says how many were answered.
 use distortion_table::Status;
+use distortion_table::Turned;
 use job::Job;
 use job::Started;
 use lens::Refusal;
@@ -24,14 +27,14 @@ ghost use lib.ListN.{length};
 
 // The fields of a line, and its bytes: a field has 16 digits, and a tab or the line's end after them.
 // All lines are of one length, so that one is read at a time, and there may be any number of them.
-const FIELDS: usize = 17;
+const FIELDS: usize = 18;
 
-const LINE: usize = 289;
+const LINE: usize = 306;
 
 // The parameters in a line, and the field that the first stands in.
 const PARAMS: usize = camera::numbers::MOST;
 
-const FIRST: usize = 5;
+const FIRST: usize = 6;
 
 // The cells that a table may have here, and their places: two for each.
 const ROOM: usize = 3072;
@@ -42,8 +45,10 @@ const PLACES: usize = 6144;
 // tables with so many cells the one of 2 by 1536 has the most: 3,080 samples and 3,072 cells.
 const TURNS: usize = 6152;
 
-// What each place holds before the first turn.
+// What each place holds before the first turn: half a pixel.
 const BEFORE: f32 = 0.5;
+
+const BEFORE16: i16 = 16;
 
 // The record after a turn, and whether another turn follows.
 struct Stepped {
@@ -87,6 +92,11 @@ fn say(x: f64) {
 fn say32(x: f32) {
     io::write_all(STDOUT_FILENO, b"\t");
     io::print_hex(STDOUT_FILENO, exact::to_bits32(x) as u64, 8);
+}
+
+// The same of a number of sixteen bits, as the f32 that is the same number.
+fn say16(x: i16) {
+    say32(x as f32);
 }
 
 // Writes a tab and n in decimal.
@@ -133,9 +143,8 @@ fn say_counts(done: usize, updates: u32, unsettled: usize, first: usize) {
     say_end();
 }
 
-// Takes a turn and writes its line.
-fn step(table: &mut [f32], job: Job, allowance: usize) -> Stepped {
-    let turned = distortion_table::turn(job, table, allowance);
+// Writes the line of a turn.
+fn say_turn(turned: Turned, allowance: usize) -> Stepped {
     let status = turned.status;
     let after = turned.job;
     let at = after.at;
@@ -147,6 +156,15 @@ fn step(table: &mut [f32], job: Job, allowance: usize) -> Stepped {
     }
 }
 
+// Takes a turn and writes its line.
+fn step(table: &mut [f32], job: Job, allowance: usize) -> Stepped {
+    say_turn(distortion_table::turn(job, table, allowance), allowance)
+}
+
+fn step16(table: &mut [i16], job: Job, allowance: usize) -> Stepped {
+    say_turn(distortion_table::turn16(job, table, allowance), allowance)
+}
+
 // Takes turn after turn, and gives the last record.
 fn steps(table: &mut [f32], fresh: Job, allowance: usize) -> Job {
     let mut job = fresh;
@@ -154,6 +172,20 @@ fn steps(table: &mut [f32], fresh: Job, allowance: usize) -> Job {
     let mut left = TURNS;
     while more && 0 < left {
         let taken = step(table, job, allowance);
+        job = taken.job;
+        more = taken.more;
+        left -= 1;
+    }
+    job
+}
+
+// The same of cells of sixteen bits.
+fn steps16(table: &mut [i16], fresh: Job, allowance: usize) -> Job {
+    let mut job = fresh;
+    let mut more = true;
+    let mut left = TURNS;
+    while more && 0 < left {
+        let taken = step16(table, job, allowance);
         job = taken.job;
         more = taken.more;
         left -= 1;
@@ -180,16 +212,40 @@ fn say_places(table: &[f32]) {
     }
 }
 
-// Builds the table of a fresh record, and writes what comes of it.
-fn build(table: &mut [f32], fresh: Job, allowance: usize) {
+fn say_places16(table: &[i16]) {
+    let mut i = 0;
+    while i < table.len() {
+        say16(table[i]);
+        i += 1;
+    }
+}
+
+// Writes that a record is made.
+fn say_fresh() {
     say_word(b"fresh");
     say_end();
-    let last = steps(table, fresh, allowance);
+}
+
+// Writes the boxes of the last record, and begins the line of its table.
+fn say_last(last: Job) {
     let at = last.at;
     say_box(b"edges", at.edges);
     say_box(b"region", at.region);
     say_word(b"table");
+}
+
+// Builds the table of a fresh record, and writes what comes of it.
+fn build(table: &mut [f32], fresh: Job, allowance: usize) {
+    say_fresh();
+    say_last(steps(table, fresh, allowance));
     say_places(table);
+    say_end();
+}
+
+fn build16(table: &mut [i16], fresh: Job, allowance: usize) {
+    say_fresh();
+    say_last(steps16(table, fresh, allowance));
+    say_places16(table);
     say_end();
 }
 
@@ -200,12 +256,25 @@ fn blank() -> [f32; PLACES]
     [BEFORE; PLACES]
 }
 
+fn blank16() -> [i16; PLACES]
+    ensures { λ r. ⌜ 6144 ≡ length r ⌝ }
+{
+    [BEFORE16; PLACES]
+}
+
 // Builds it in the first places of a buffer.
 fn build_in(fresh: Job, places: usize, allowance: usize)
     requires { ⌜ places ≤ 6144 ⌝ }
 {
     let mut buffer = blank();
     build(&mut buffer[..places], fresh, allowance);
+}
+
+fn build_in16(fresh: Job, places: usize, allowance: usize)
+    requires { ⌜ places ≤ 6144 ⌝ }
+{
+    let mut buffer = blank16();
+    build16(&mut buffer[..places], fresh, allowance);
 }
 
 // Answers a line that is not of the form.
@@ -216,7 +285,7 @@ fn refuse() {
 
 // Answers a question whose record is made, if there is room for its table. No record is made of a size
 // that the first test refuses, so that only the second ever does.
-fn answer_fresh(fresh: Job, width: usize, height: usize, allowance: usize) {
+fn answer_fresh(fresh: Job, width: usize, height: usize, allowance: usize, sixteen: bool) {
     if region::MOST < width || region::MOST < height {
         refuse();
         return;
@@ -224,6 +293,8 @@ fn answer_fresh(fresh: Job, width: usize, height: usize, allowance: usize) {
     let cells = width * height;
     if ROOM < cells {
         refuse();
+    } else if sixteen {
+        build_in16(fresh, 2 * cells, allowance);
     } else {
         build_in(fresh, 2 * cells, allowance);
     }
@@ -246,14 +317,14 @@ fn answer_question(q: &[u64; FIELDS]) {
             say_end();
         }
         Started::With(job) => {
-            answer_fresh(job, width, height, allowance);
+            answer_fresh(job, width, height, allowance, q[5] == 1);
         }
     }
 }
 
-// Answers a line of numbers, if there is such a model and such a mark.
+// Answers a line of numbers, if there is such a model, such a mark and such a kind of cell.
 fn answer_numbers(q: &[u64; FIELDS]) {
-    if q[0] < 4 && q[4] < 2 {
+    if q[0] < 4 && q[4] < 2 && q[5] < 2 {
         answer_question(q);
     } else {
         refuse();

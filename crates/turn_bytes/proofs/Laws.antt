@@ -6,6 +6,7 @@ use Prim.Native.Nat.{ℕ, _*_}
 use denote.Ref.{now}
 use borrow.Author.Tests.{eqb-true, eqb-false}
 use lib.Dec.{eqb}
+use lib.IntN.{ℤ}
 use lib.Ieee.{Float}
 use lib.ListN.{length}
 use Rattle.exact.specs.Determined.{DeterminedWith}
@@ -15,9 +16,9 @@ use Rattle.plans.specs.Built.{Built}
 use Rattle.plans.specs.Calls.{said-number, judged, allowed, Sound, Build}
 use Rattle.plans.specs.Plan.{Plan, fresh}
 use Rattle.plans.proofs.Laws as plans
-use Rattle.table_plans.specs.Tables.{f32-table, one-of, unit-numbers}
-use Rattle.table_plans.proofs.Numbers.{by-each, by-unit}
-use Rattle.table_plans.proofs.Sound.{f32-sound}
+use Rattle.table_plans.specs.Tables.{Kind, f32s, i16s, table-of, one-of}
+use Rattle.table_plans.proofs.Numbers.{by-each, by-unit, last-of}
+use Rattle.table_plans.proofs.Sound.{Fit, f32-fit, i16-fit, kind-sound}
 use Rattle.job.specs.Job.{fresh-job}
 use Rattle.job.specs.declared.Job.{Job}
 use Rattle.distortion_table.specs.Answer.{plan-of, state-of, turn-of}
@@ -32,56 +33,75 @@ use Rattle.turn_bytes.proofs.Build.{Ready, ByTurnBytes, bytes-serve, Re
 use Rattle.turn_bytes.proofs.Numbers.{before-so, own-taken, taken-so}
 use Rattle.turn_bytes.proofs.Turning.{read-of, none-before, not-taken, taken}
 use Rattle.turn_bytes.proofs.turn.Reads as turn-contract
+use Rattle.turn_bytes.proofs.turn16.Reads as turn16-contract
 
 -- ---- the contract permits one answer
 
 -- What is handed back is a number, a record, a table and an answer.
 pub all-handed :
-    {r r' : ℕ} {j j' a a' : List ℕ} {c c' : List Float} →
+    {X : Type 0} {r r' : ℕ} {j j' a a' : List ℕ} {c c' : List X} →
     handed r j c a ≡ handed r' j' c' a' →
-    (r ≡ r') × (_≡_ {A = List ℕ × List Float × List ℕ} (j, c, a) (j', c', a'))
-all-handed e = (ap (λ (h : Handed). h .code) e, ap (λ (h : Handed). (h .job, h .cells, h .answer)) e)
+    (r ≡ r') × (_≡_ {A = List ℕ × List X × List ℕ} (j, c, a) (j', c', a'))
+all-handed {X} e = (ap (λ (h : Handed X). h .code) e, ap (λ (h : Handed X). (h .job, h .cells, h .answer)) e)
 
 -- Any two numbers that the contract of `turn` permits to one call are equal, and so are any two records, tables and
 -- answers at the return.
 pub turn-determined : DeterminedWith {L = List ℕ × List Float × List ℕ} turn-contract.Post (λ κ s. (now (s .0), now (s .1 .0), now (s .1 .1 .1 .0)))
 turn-determined κ a s s' r r' p q = all-handed (p ∙ sym q)
 
+-- So for `turn16`.
+pub turn16-determined : DeterminedWith {L = List ℕ × List ℤ × List ℕ} turn16-contract.Post (λ κ s. (now (s .0), now (s .1 .0), now (s .1 .1 .1 .0)))
+turn16-determined κ a s s' r r' p q = all-handed (p ∙ sym q)
+
+-- ---- kinds of cell: each law below holds of both
+
+pub record Cells (X : Type 0) : Type 0 where
+  pub kind : Kind X
+  pub fit : Fit kind
+  -- no call is refused with its number before any unit
+  pub apart : one-of (kind .refusal) call-numbers ≡ false
+
+abbrev pub f32-cells : Cells Float
+f32-cells = record { kind = f32s; fit = f32-fit; apart = refl }
+
+abbrev pub i16-cells : Cells ℤ
+i16-cells = record { kind = i16s; fit = i16-fit; apart = refl }
+
 -- ---- the number, and what is written
 
-module _ (bs : List ℕ) (cells : List Float) (allowance : ℕ) (lent : List ℕ) where
+module _ {X : Type 0} (c : Cells X) (bs : List ℕ) (cells : List X) (allowance : ℕ) (lent : List ℕ) where
   abbrev before : ℕ
   before = before-units (record-read bs) (whole bs) cells lent
 
-  abbrev after : Handed
-  after = turn-bytes bs cells allowance lent
+  abbrev after : Handed X
+  after = turn-bytes (c .kind) bs cells allowance lent
 
   -- A call that is refused before any unit writes nothing: record, table and answer are as they were.
   pub refused-untouched : (before ≡ 0 → ⊥) → after ≡ handed before bs cells lent
   unfolding turn-bytes
-  refused-untouched n = not-taken bs cells lent (turn-of (job-at bs) cells allowance) before n
+  refused-untouched n = not-taken bs cells lent (turn-of (c .kind) (job-at bs) cells allowance) before n
 
   -- Any other writes all that its turn answers, also if a unit refuses: record, table and answer are as they are after
   -- the units before that one.
-  pub taken-written : before ≡ 0 → after ≡ written (turn-of (job-at bs) cells allowance)
+  pub taken-written : before ≡ 0 → after ≡ written (turn-of (c .kind) (job-at bs) cells allowance)
   unfolding turn-bytes
-  taken-written z = taken bs cells lent (turn-of (job-at bs) cells allowance) before z
+  taken-written z = taken bs cells lent (turn-of (c .kind) (job-at bs) cells allowance) before z
 
-  -- Its number is 0, 1, 4, 5, 6, 7, 8, 10, 11, 12, 13, 16 or 18.
-  pub number-told : one-of (after .code) (0 ∷ 1 ∷ 4 ∷ 5 ∷ 6 ∷ 7 ∷ 8 ∷ 10 ∷ 11 ∷ 12 ∷ 13 ∷ 16 ∷ 18 ∷ []) ≡ true
+  -- Its number is 0, 1, 4, 5, 6, 7, 8, 10, 11, 13, 16 or 18, or what its kind of cell refuses with: 12 for f32s, 19 for i16s.
+  pub number-told : one-of (after .code) (0 ∷ 1 ∷ 4 ∷ 5 ∷ 6 ∷ 7 ∷ 8 ∷ 10 ∷ 11 ∷ 13 ∷ 16 ∷ 18 ∷ c .kind .refusal ∷ []) ≡ true
   number-told = go (eqb before 0) refl
     where
       Told : ℕ → Type 0
-      Told n = one-of n (0 ∷ 1 ∷ 4 ∷ 5 ∷ 6 ∷ 7 ∷ 8 ∷ 10 ∷ 11 ∷ 12 ∷ 13 ∷ 16 ∷ 18 ∷ []) ≡ true
+      Told n = one-of n (0 ∷ 1 ∷ 4 ∷ 5 ∷ 6 ∷ 7 ∷ 8 ∷ 10 ∷ 11 ∷ 13 ∷ 16 ∷ 18 ∷ c .kind .refusal ∷ []) ≡ true
 
       go : (b : Bool) → eqb before 0 ≡ b → Told (after .code)
       go true e =
           let z : before ≡ 0 = eqb-true before 0 e in
-          subst Told (sym (ap (λ (h : Handed). h .code) (taken-written z)))
-          (by-unit Told (job-at bs .strict) (said-number (turn-of (job-at bs) cells allowance .said)) (taken-so bs cells lent allowance z)
-          (refl, (refl, (refl, (refl, (refl, (refl, (refl, tt))))))))
+          subst Told (sym (ap (λ (h : Handed X). h .code) (taken-written z)))
+          (by-unit Told (c .kind .refusal) (job-at bs .strict) (said-number (turn-of (c .kind) (job-at bs) cells allowance .said)) (taken-so (c .kind) (c .fit) bs cells lent allowance z)
+          (refl, (refl, (refl, (refl, (refl, (refl, (last-of (c .kind .refusal) (0 ∷ 1 ∷ 4 ∷ 5 ∷ 6 ∷ 7 ∷ 8 ∷ 10 ∷ 11 ∷ 13 ∷ 16 ∷ 18 ∷ []), tt))))))))
       go false e =
-          subst Told (sym (ap (λ (h : Handed). h .code) (refused-untouched (eqb-false before 0 e))))
+          subst Told (sym (ap (λ (h : Handed X). h .code) (refused-untouched (eqb-false before 0 e))))
           (by-each Told (0 ∷ call-numbers) before (before-so bs cells lent) (refl, (refl, (refl, (refl, (refl, (refl, (refl, tt))))))))
 
   -- The number alone says whether anything was written: with 1, 4, 5, 6, 7 or 13 record, table and answer are as they
@@ -96,17 +116,17 @@ module _ (bs : List ℕ) (cells : List Float) (allowance : ℕ) (lent : List ℕ
       go true e =
           let z : before ≡ 0 = eqb-true before 0 e in
           absurd
-          (by-unit Unit's (job-at bs .strict) (said-number (turn-of (job-at bs) cells allowance .said)) (taken-so bs cells lent allowance z)
-          (false≢true, (false≢true, (false≢true, (false≢true, (false≢true, (false≢true, (false≢true, tt)))))))
-          (sym (ap (λ (x : Handed). one-of (x .code) call-numbers) (taken-written z)) ∙ h))
+          (by-unit Unit's (c .kind .refusal) (job-at bs .strict) (said-number (turn-of (c .kind) (job-at bs) cells allowance .said)) (taken-so (c .kind) (c .fit) bs cells lent allowance z)
+          (false≢true, (false≢true, (false≢true, (false≢true, (false≢true, (false≢true, (λ h. false≢true (sym (c .apart) ∙ h), tt)))))))
+          (sym (ap (λ (x : Handed X). one-of (x .code) call-numbers) (taken-written z)) ∙ h))
       go false e =
           let u : after ≡ handed before bs cells lent = refused-untouched (eqb-false before 0 e) in
-          (ap (λ (x : Handed). x .job) u, ap (λ (x : Handed). x .cells) u, ap (λ (x : Handed). x .answer) u)
+          (ap (λ (x : Handed X). x .job) u, ap (λ (x : Handed X). x .cells) u, ap (λ (x : Handed X). x .answer) u)
 
   -- where anything is wrong before any unit, that is the call's number
   own-number : (before ≡ 0 → ⊥) → one-of (after .code) call-numbers ≡ true
   own-number n =
-      ap (λ (x : Handed). one-of (x .code) call-numbers) (refused-untouched n)
+      ap (λ (x : Handed X). one-of (x .code) call-numbers) (refused-untouched n)
       ∙ by-each Own (0 ∷ call-numbers) before (before-so bs cells lent)
       (λ h. absurd (h refl), (λ h. refl, (λ h. refl, (λ h. refl, (λ h. refl, (λ h. refl, (λ h. refl, tt)))))))
       n
@@ -145,41 +165,42 @@ module _ (bs : List ℕ) (cells : List Float) (allowance : ℕ) (lent : List ℕ
   taken-intact : one-of (after .code) call-numbers ≡ false → intact bs ≡ true
   taken-intact n = right-bytes (none-wrong n) .1
 
-  taken-leaves : one-of (after .code) call-numbers ≡ false → after .job ≡ record-bytes (turn-of (job-at bs) cells allowance .job)
-  taken-leaves n = ap (λ (x : Handed). x .job) (taken-written (none-wrong n))
+  taken-leaves : one-of (after .code) call-numbers ≡ false → after .job ≡ record-bytes (turn-of (c .kind) (job-at bs) cells allowance .job)
+  taken-leaves n = ap (λ (x : Handed X). x .job) (taken-written (none-wrong n))
 
 -- ---- a damaged job
 
-module _ (b : List ℕ) (rb : RecordBytes b) (cells : List Float) (allowance : ℕ) (lent : List ℕ) where
+-- whatever table, of either kind, the calls have
+module _ {X : Type 0} (c : Cells X) (b : List ℕ) (rb : RecordBytes b) (cells : List X) (allowance : ℕ) (lent : List ℕ) where
   abbrev Refused : Type 0
-  Refused = NotTaken b cells lent (turn-bytes b cells allowance lent)
+  Refused = NotTaken b cells lent (turn-bytes (c .kind) b cells allowance lent)
 
-  module _ (a : List ℕ) (ra : RecordBytes a) (cells₀ : List Float) (allowance₀ : ℕ) (lent₀ : List ℕ) where
+  module _ {Y : Type 0} (c₀ : Cells Y) (a : List ℕ) (ra : RecordBytes a) (cells₀ : List Y) (allowance₀ : ℕ) (lent₀ : List ℕ) where
     -- Of two jobs' bytes that differ within one word of eight bytes at most one is taken, whatever table, allowance and answer
     -- the calls have: if a call takes the one, then any call with the other is refused with 1, 4, 5, 6, 7 or 13, and writes nothing.
     pub damaged-refused :
-        (k : ℕ) → WordApart k a b → one-of (turn-bytes a cells₀ allowance₀ lent₀ .code) call-numbers ≡ false → Refused
+        (k : ℕ) → WordApart k a b → one-of (turn-bytes (c₀ .kind) a cells₀ allowance₀ lent₀ .code) call-numbers ≡ false → Refused
     damaged-refused k apart taken =
-        not-intact-refused b cells allowance lent (one-word-caught a b ra rb k apart (taken-intact a cells₀ allowance₀ lent₀ taken))
+        not-intact-refused c b cells allowance lent (one-word-caught a b ra rb k apart (taken-intact c₀ a cells₀ allowance₀ lent₀ taken))
 
     -- So of two that differ in one byte.
     pub damaged-byte-refused :
-        (place : ℕ) → ByteApart place a b → one-of (turn-bytes a cells₀ allowance₀ lent₀ .code) call-numbers ≡ false → Refused
+        (place : ℕ) → ByteApart place a b → one-of (turn-bytes (c₀ .kind) a cells₀ allowance₀ lent₀ .code) call-numbers ≡ false → Refused
     damaged-byte-refused place apart taken =
-        not-intact-refused b cells allowance lent (one-byte-caught a b ra rb place apart (taken-intact a cells₀ allowance₀ lent₀ taken))
+        not-intact-refused c b cells allowance lent (one-byte-caught a b ra rb place apart (taken-intact c₀ a cells₀ allowance₀ lent₀ taken))
 
   written-damaged : (job : Job) (a : List ℕ) → a ≡ record-bytes job → (k : ℕ) → WordApart k a b → Refused
   written-damaged job a e k apart =
-      not-intact-refused b cells allowance lent
+      not-intact-refused c b cells allowance lent
       (one-word-caught a b (subst RecordBytes (sym e) (written-bytes job)) rb k apart (ap intact e ∙ both (marked (record-bytes job)) (intact (record-bytes job)) (written-whole job) .1))
 
   -- The job that a call left, damaged within a word, is refused by every later call: a call that was taken left it,
   pub damage-after-turn :
-      (bs : List ℕ) (cells₀ : List Float) (allowance₀ : ℕ) (lent₀ : List ℕ) →
-      one-of (turn-bytes bs cells₀ allowance₀ lent₀ .code) call-numbers ≡ false →
-      (k : ℕ) → WordApart k (turn-bytes bs cells₀ allowance₀ lent₀ .job) b → Refused
-  damage-after-turn bs cells₀ allowance₀ lent₀ n =
-      written-damaged (turn-of (job-at bs) cells₀ allowance₀ .job) (turn-bytes bs cells₀ allowance₀ lent₀ .job) (taken-leaves bs cells₀ allowance₀ lent₀ n)
+      {Y : Type 0} (c₀ : Cells Y) (bs : List ℕ) (cells₀ : List Y) (allowance₀ : ℕ) (lent₀ : List ℕ) →
+      one-of (turn-bytes (c₀ .kind) bs cells₀ allowance₀ lent₀ .code) call-numbers ≡ false →
+      (k : ℕ) → WordApart k (turn-bytes (c₀ .kind) bs cells₀ allowance₀ lent₀ .job) b → Refused
+  damage-after-turn c₀ bs cells₀ allowance₀ lent₀ n =
+      written-damaged (turn-of (c₀ .kind) (job-at bs) cells₀ allowance₀ .job) (turn-bytes (c₀ .kind) bs cells₀ allowance₀ lent₀ .job) (taken-leaves c₀ bs cells₀ allowance₀ lent₀ n)
 
   -- or job_bytes' `fresh` with the number 0.
   pub damage-after-fresh :
@@ -192,27 +213,49 @@ module _ (b : List ℕ) (rb : RecordBytes b) (cells : List Float) (allowance : �
 -- ---- demand 3, over bytes
 
 -- a call that the contract of `turn` permits, with an answer's buffer of 48 bytes, whichever it is
-pub data Called : HeldBytes → ℕ → Said → HeldBytes → Type 0 where
+pub data Called : HeldBytes Float → ℕ → Said → HeldBytes Float → Type 0 where
   called :
       (κ : _) (a : _) (r : _) (s : _) → turn-contract.Post κ a r s → length (now (a .1 .1 .1 .0)) ≡ answer-length
       → Called record { job = now (a .0); cells = now (a .1 .0) } (a .1 .1 .0)
       (bytes-said (handed r (now (s .0)) (now (s .1 .0)) (now (s .1 .1 .1 .0)))) record { job = now (s .0); cells = now (s .1 .0) }
 
-by-contract : (h : HeldBytes) (a : ℕ) (said : Said) (k : HeldBytes) → Called h a said k → ByTurnBytes h a said k
+by-contract : (h : HeldBytes Float) (a : ℕ) (said : Said) (k : HeldBytes Float) → Called h a said k → ByTurnBytes f32s h a said k
 by-contract h a said k (called κ args r s post room) =
     record { lent = now (args .1 .1 .1 .0); room = room; leaves = ap left post; says = ap bytes-said post }
 
--- The laws below, of any function whose calls leave and say what `turn-bytes` does.
-module _
-    (Post : HeldBytes → ℕ → Said → HeldBytes → Type 0)
-    (by-turn-bytes : (h : HeldBytes) (a : ℕ) (said : Said) (k : HeldBytes) → Post h a said k → ByTurnBytes h a said k)
-    (model : ℕ) (params : List ℕ) (width height mark : ℕ) (buffer : List ℕ) (begun : fresh-bytes model params width height mark buffer .code ≡ 0)
-    (table : List Float)
-  where
-    abbrev plan : Plan Float
-    plan = f32-table (camera-of model params) width height (eqb mark 1)
+-- and of `turn16`
+pub data Called16 : HeldBytes ℤ → ℕ → Said → HeldBytes ℤ → Type 0 where
+  called16 :
+      (κ : _) (a : _) (r : _) (s : _) → turn16-contract.Post κ a r s → length (now (a .1 .1 .1 .0)) ≡ answer-length
+      → Called16 record { job = now (a .0); cells = now (a .1 .0) } (a .1 .1 .0)
+      (bytes-said (handed r (now (s .0)) (now (s .1 .0)) (now (s .1 .1 .1 .0)))) record { job = now (s .0); cells = now (s .1 .0) }
 
-    abbrev first : HeldBytes
+by-contract16 : (h : HeldBytes ℤ) (a : ℕ) (said : Said) (k : HeldBytes ℤ) → Called16 h a said k → ByTurnBytes i16s h a said k
+by-contract16 h a said k (called16 κ args r s post room) =
+    record { lent = now (args .1 .1 .1 .0); room = room; leaves = ap left post; says = ap bytes-said post }
+
+-- Calls of a function that leave and say what `turn-bytes` does, of some kind of cell.
+pub record Turns (X : Type 0) : Type 1 where
+  pub kind : Kind X
+  pub fit : Fit kind
+  pub Called : HeldBytes X → ℕ → Said → HeldBytes X → Type 0
+  pub by-turn-bytes : (h : HeldBytes X) (a : ℕ) (said : Said) (k : HeldBytes X) → Called h a said k → ByTurnBytes kind h a said k
+
+pub f32-turns : Turns Float
+f32-turns = record { kind = f32s; fit = f32-fit; Called = Called; by-turn-bytes = by-contract }
+
+pub i16-turns : Turns ℤ
+i16-turns = record { kind = i16s; fit = i16-fit; Called = Called16; by-turn-bytes = by-contract16 }
+
+module _
+    {X : Type 0} (t : Turns X)
+    (model : ℕ) (params : List ℕ) (width height mark : ℕ) (buffer : List ℕ) (begun : fresh-bytes model params width height mark buffer .code ≡ 0)
+    (table : List X)
+  where
+    abbrev plan : Plan X
+    plan = table-of (t .kind) (camera-of model params) width height (eqb mark 1)
+
+    abbrev first : HeldBytes X
     first = record { job = fresh-bytes model params width height mark buffer .answer; cells = table }
 
     ready : Ready first
@@ -223,54 +266,37 @@ module _
     job-read : job-at (first .job) ≡ fresh-job (camera-of model params) width height (eqb mark 1)
     job-read = sym (read-of (first .job) (fresh-job (camera-of model params) width height (eqb mark 1)) (fresh-read model params width height mark buffer begun .2) .0)
 
-    plan-is : bytes-plan first ≡ plan
-    plan-is = ap plan-of job-read
+    plan-is : bytes-plan (t .kind) first ≡ plan
+    plan-is = ap (plan-of (t .kind)) job-read
 
-    sound : Sound (bytes-plan first)
-    sound = subst Sound (sym plan-is) (f32-sound (camera-of model params) width height (eqb mark 1))
+    sound : Sound (bytes-plan (t .kind) first)
+    sound = subst Sound (sym plan-is) (kind-sound (camera-of model params) width height (t .kind) (t .fit) (eqb mark 1))
 
     starts : bytes-state first ≡ fresh table
     starts = ap (λ (j : Job). state-of j table) job-read
 
-    module _ (allowances : List ℕ) (last : HeldBytes) (calls : Build HeldBytes Post allowances first last) where
-      pub built-by-bytes : Built plan table (allowed bytes-plan bytes-state allowances first last calls) (bytes-state last)
-      built-by-bytes =
-          subst (λ (p : Plan Float). Built p table (allowed bytes-plan bytes-state allowances first last calls) (bytes-state last)) plan-is
-          (plans.built HeldBytes Ready bytes-plan bytes-state Post (bytes-serve Post by-turn-bytes) first ready sound table starts allowances last calls)
+    module _ (allowances : List ℕ) (last : HeldBytes X) (calls : Build (HeldBytes X) (t .Called) allowances first last) where
+      -- Demand 3, for firmware. Start from the bytes that job_bytes' `fresh` leaves with the number 0, for any model, parameters, size and
+      -- mark, with any table, and call `turn` (`f32-turns`) or `turn16` (`i16-turns`) with any allowances and an answer of 48 bytes, each
+      -- time with the record's bytes and the table that the call before handed back. Then what is read out of the bytes and what stands
+      -- in the table are those of exactly min(A, F) units, as `built-in-turns` of distortion_table has it.
+      pub built-in-bytes : Built plan table (allowed (bytes-plan (t .kind)) bytes-state allowances first last calls) (bytes-state last)
+      built-in-bytes =
+          subst (λ (p : Plan X). Built p table (allowed (bytes-plan (t .kind)) bytes-state allowances first last calls) (bytes-state last)) plan-is
+          (plans.built (HeldBytes X) Ready (bytes-plan (t .kind)) bytes-state (t .Called) (bytes-serve (t .kind) (t .fit) (t .Called) (t .by-turn-bytes)) first ready sound table starts allowances last calls)
 
-      -- Where the table has the size's length, every call is admitted: its number is 0, or 8, 10, 11, 12 or 16 of a unit, or 18 in a
-      -- strict job, and its answer's six words are what it said, and the units, the updates, the count of unsettled samples and the
-      -- first of them of the record that it left.
-      pub reports-by-bytes :
+      -- Where the table has the size's length, every call is admitted: none is refused with 1, 4, 5, 6, 7 or 13, its number is 0, or 8,
+      -- 10, 11 or 16 of a unit, 18 in a strict job, or 12 of f32s and 19 of i16s, and its answer's six words are what it said, and the
+      -- units, the updates, the count of unsettled samples and the first of them of the record that it left.
+      pub reports-in-bytes :
           length table ≡ 2 * (width * height) → (a : ℕ) (lent : List ℕ) → length lent ≡ answer-length
-          → Reports (eqb mark 1) (turn-bytes (last .job) (last .cells) a lent)
-      reports-by-bytes long a lent room =
-          let serves = bytes-serve Post by-turn-bytes in
-          let r = plans.built-ready HeldBytes Ready bytes-plan bytes-state Post serves first ready sound table starts allowances last calls in
+          → Reports (t .kind .refusal) (eqb mark 1) (turn-bytes (t .kind) (last .job) (last .cells) a lent)
+      reports-in-bytes long a lent room =
+          let serves = bytes-serve (t .kind) (t .fit) (t .Called) (t .by-turn-bytes) in
+          let r = plans.built-ready (HeldBytes X) Ready (bytes-plan (t .kind)) bytes-state (t .Called) serves first ready sound table starts allowances last calls in
           let opens = fresh-opens-zero model params width height mark buffer begun in
-          let taken = ap (λ (p : Plan Float). judged p (fresh table)) plan-is ∙ start-admitted (camera-of model params) width height (eqb mark 1) opens table long in
-          let e = plans.built-admitted HeldBytes Ready bytes-plan bytes-state Post serves first ready sound table starts allowances last calls taken in
-          subst (λ (b : Bool). Reports b (turn-bytes (last .job) (last .cells) a lent)) (ap (λ (p : Plan Float). p .sweep .strict) (r .1 ∙ plan-is))
-          (admitted-reports last (r .0) (ap (λ (p : Plan Float). judged p (bytes-state last)) (r .1) ∙ e) a lent room)
-
--- Demand 3, for firmware. Start from the bytes that job_bytes' `fresh` leaves with the number 0, for any model, parameters,
--- size and mark, with any table, and call `turn` with any allowances and an answer of 48 bytes, each time with the record's bytes and the
--- table that the call before handed back. Then what is read out of the bytes and what stands in the table are those of exactly
--- min(A, F) units, as `built-in-turns` of distortion_table has it.
-pub built-in-bytes :
-    (model : ℕ) (params : List ℕ) (width height mark : ℕ) (buffer : List ℕ) (begun : fresh-bytes model params width height mark buffer .code ≡ 0)
-    (table : List Float) (allowances : List ℕ) (last : HeldBytes)
-    (calls : Build HeldBytes Called allowances record { job = fresh-bytes model params width height mark buffer .answer; cells = table } last)
-    → Built (f32-table (camera-of model params) width height (eqb mark 1)) table
-    (allowed bytes-plan bytes-state allowances record { job = fresh-bytes model params width height mark buffer .answer; cells = table } last calls)
-    (bytes-state last)
-built-in-bytes = built-by-bytes Called by-contract
-
--- And where the table has the size's length, no call is refused with 1, 4, 5, 6, 7 or 13, and each reports what it left.
-pub reports-in-bytes :
-    (model : ℕ) (params : List ℕ) (width height mark : ℕ) (buffer : List ℕ) (begun : fresh-bytes model params width height mark buffer .code ≡ 0)
-    (table : List Float) (allowances : List ℕ) (last : HeldBytes)
-    → Build HeldBytes Called allowances record { job = fresh-bytes model params width height mark buffer .answer; cells = table } last
-    → length table ≡ 2 * (width * height) → (a : ℕ) (lent : List ℕ) → length lent ≡ answer-length
-    → Reports (eqb mark 1) (turn-bytes (last .job) (last .cells) a lent)
-reports-in-bytes = reports-by-bytes Called by-contract
+          let taken = ap (λ (p : Plan X). judged p (fresh table)) plan-is ∙ start-admitted (camera-of model params) width height (eqb mark 1) (t .kind) (t .fit) opens table long in
+          let e = plans.built-admitted (HeldBytes X) Ready (bytes-plan (t .kind)) bytes-state (t .Called) serves first ready sound table starts allowances last calls taken in
+          subst (λ (b : Bool). Reports (t .kind .refusal) b (turn-bytes (t .kind) (last .job) (last .cells) a lent))
+          (ap (λ (p : Plan X). p .sweep .strict) (r .1 ∙ plan-is))
+          (admitted-reports (t .kind) (t .fit) last (r .0) (ap (λ (p : Plan X). judged p (bytes-state last)) (r .1) ∙ e) a lent room)

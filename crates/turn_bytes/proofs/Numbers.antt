@@ -1,11 +1,10 @@
 -- Which numbers a call can have: those before any unit, and those of a unit. Assumes nothing.
 use mathlib.Core.Path.{_≡_, refl, ap, _∙_}
-use mathlib.Core.Bool.{Bool, true, false, cond, _&&_, _||_}
+use mathlib.Core.Bool.{Bool, true, false, cond, _&&_}
 use mathlib.Core.List.{List, _∷_}
 use Prim.Native.Nat.{ℕ, _*_}
 use native.Mathlib.Omega.{arith}
 use lib.Dec.{eqb, leb, ltb}
-use lib.Ieee.{Float}
 use lib.ListN.{length}
 use Rattle.lens.specs.Finite.{all-finite}
 use Rattle.lens.specs.Judgement.{verdict, decided}
@@ -20,8 +19,9 @@ use Rattle.turns.specs.Turns.{refused, turn}
 use Rattle.plans.specs.Calls.{said-number}
 use Rattle.plans.specs.Calls as plan
 use Rattle.plans.specs.Plan.{next}
-use Rattle.table_plans.specs.Tables.{opens-for, one-of, unit-numbers}
+use Rattle.table_plans.specs.Tables.{opens-for, Kind, one-of, unit-numbers}
 use Rattle.table_plans.proofs.Numbers.{said-known, turn-known}
+use Rattle.table_plans.proofs.Sound.{Fit}
 use Rattle.job.specs.Job.{sweep-for, admitted}
 use Rattle.job.specs.declared.Job.{Job}
 use Rattle.distortion_table.specs.Answer.{plan-of, state-of, turn-of}
@@ -79,7 +79,7 @@ code-so n false h = go (eqb n 0) (ltb n 7)
     go false true = h
     go false false = refl
 
-pub before-so : (bs : List ℕ) (cells : List Float) (lent : List ℕ) → one-of (before-units (record-read bs) (whole bs) cells lent) (0 ∷ call-numbers) ≡ true
+pub before-so : {X : Type 0} (bs : List ℕ) (cells : List X) (lent : List ℕ) → one-of (before-units (record-read bs) (whole bs) cells lent) (0 ∷ call-numbers) ≡ true
 before-so bs cells lent = code-so (own (record-read bs) (whole bs) (length cells)) (eqb (length lent) answer-length) (own-so bs (whole bs) (length cells))
 
 -- ---- a call that is taken
@@ -96,11 +96,12 @@ own-taken bs places h = go (eqb (length bs) record-length) (leb (half bs 0) 3) h
     go true true e = is-right (job-at bs) (whole bs) places e
 
 pub taken-so :
-    (bs : List ℕ) (cells : List Float) (lent : List ℕ) (a : ℕ) →
+    {X : Type 0} (kind : Kind X) → Fit kind → (bs : List ℕ) (cells : List X) (lent : List ℕ) (a : ℕ) →
     before-units (record-read bs) (whole bs) cells lent ≡ 0 →
-    one-of (said-number (turn-of (job-at bs) cells a .said)) (0 ∷ unit-numbers (job-at bs .strict)) ≡ true
-taken-so bs cells lent a z =
+    one-of (said-number (turn-of kind (job-at bs) cells a .said)) (0 ∷ unit-numbers (kind .refusal) (job-at bs .strict)) ≡ true
+taken-so kind fit bs cells lent a z =
     let j : Job = job-at bs in
+    let numbers : List ℕ = 0 ∷ unit-numbers (kind .refusal) (j .strict) in
     let e : admitted j (length cells) ≡ judged.Taken = own-taken bs (length cells) (none-before (record-read bs) (whole bs) cells lent z .0) .0 in
-    ap (λ (v : Judgement). one-of (said-number (decided v (λ r. record { state = state-of j cells; said = refused (number r) }) (turn (next (plan-of j)) a (state-of j cells)) .said)) (0 ∷ unit-numbers (j .strict))) e
-    ∙ said-known (j .strict) (turn (next (plan-of j)) a (state-of j cells) .said) (turn-known (j .camera) (j .width) (j .height) (j .strict) a (state-of j cells))
+    ap (λ (v : Judgement). one-of (said-number (decided v (λ r. record { state = state-of j cells; said = refused (number r) }) (turn (next (plan-of kind j)) a (state-of j cells)) .said)) numbers) e
+    ∙ said-known (kind .refusal) (j .strict) (turn (next (plan-of kind j)) a (state-of j cells) .said) (turn-known kind fit (j .camera) (j .width) (j .height) (j .strict) a (state-of j cells))

@@ -1,34 +1,34 @@
 -- From the parts of a call to what it hands back. Assumes nothing.
-use mathlib.Core.Path.{_≡_, refl, sym, ap, ap₂, _∙_}
+use mathlib.Core.Path.{_≡_, refl, sym, ap, ap₂, _∙_, subst}
 use mathlib.Core.Bool.{Bool, true, false, cond}
 use mathlib.Core.List.{List, [], _∷_, _++_, append-assoc, append-nil}
 use Prim.Native.Nat.{ℕ, _+_, _*_, _≤_}
 use native.Mathlib.Omega.{arith}
 use borrow.Author.Tests.{eq-eqb, ne-eqb, eqb-true, eqb-false}
 use lib.Dec.{eqb, leb}
-use lib.Ieee.{Float}
 use lib.ListN.{length, length-append}
 use Rattle.lens.specs.Judgement.{verdict}
-use Rattle.lens.specs.Refusal.{number}
 use Rattle.lens.specs.declared.Judgement.the-variants as judged
-use Rattle.lens.specs.declared.Refusal.{Refusal}
 use Rattle.lens.specs.declared.Refusal.the-variants.{UnknownModel, WrongLength}
-use Rattle.lens.proofs.Laws.{number-within, verdict-one-to-one}
-use Rattle.border.specs.Border.{all-units}
+use Rattle.lens.proofs.Laws.{verdict-one-to-one}
+use Rattle.region.specs.Size.{Sized}
 use Rattle.plans.specs.Calls.{said-number}
+use Rattle.table_plans.specs.Tables.{Kind}
 use Rattle.job.specs.Job.{admitted}
 use Rattle.job.specs.declared.Job.{Job}
 use Rattle.distortion_table.specs.Answer.{Answer, turn-of, told-status, told-turned}
 use Rattle.distortion_table.specs.declared.Turned.{Turned}
+use Rattle.distortion_table.proofs.Taking.{taking}
 use Rattle.little_endian.specs.Bytes.{bytes, half, put}
 use Rattle.little_endian.proofs.Laws.{length-bytes, put-whole, put-put}
-use Rattle.given.specs.Given.{code, answered}
+use Rattle.given.specs.Given.{answered}
 use Rattle.given.proofs.Laws.{told-zero}
 use Rattle.job_bytes.specs.Bytes.{record-length, record-bytes, record-read, job-at}
 use Rattle.job_bytes.specs.Check.{whole}
 use Rattle.job_bytes.specs.declared.Found.{Found}
 use Rattle.job_bytes.specs.declared.Found.the-variants.{Of, Refused}
-use Rattle.turn_bytes.specs.Turn.{handed, checked, own, answer-length, before-units, status-number, words, report, written, taken-or-not, turn-bytes, turn-held}
+use Rattle.turn_bytes.specs.Turn.{handed, checked, own, answer-length, before-units, words, answer-bytes, written, taken-or-not, Starts, turn-bytes}
+use Rattle.turn_bytes.specs.declared.Start.the-variants.{With, Not}
 
 -- ---- numbers, as they are put one behind the other
 
@@ -80,7 +80,7 @@ read-of bs job h = by-tests bs job (eqb (length bs) record-length) (leb (half bs
 
 -- a call is taken only before an answer of the right length, with a record that has no refusal of its own
 pub none-before :
-    (found : Found) (whole : Bool) (cells : List Float) (lent : List ℕ) →
+    {X : Type 0} (found : Found) (whole : Bool) (cells : List X) (lent : List ℕ) →
     before-units found whole cells lent ≡ 0 →
     (own found whole (length cells) ≡ 0) × (length lent ≡ answer-length)
 unfolding answered
@@ -103,12 +103,6 @@ is-right job whole places e =
     let b = both-right whole (verdict (admitted job places)) e in
     (verdict-one-to-one (admitted job places) judged.Taken (b .0), b .1)
 
-pub is-taken :
-    (job : Job) (whole : Bool) (cells : List Float) (lent : List ℕ) →
-    before-units (Of job) whole cells lent ≡ 0 →
-    admitted job (length cells) ≡ judged.Taken
-is-taken job whole cells lent e = is-right job whole (length cells) (none-before (Of job) whole cells lent e .0) .0
-
 -- the record's own refusal by its parts: n is what all but the check word came to
 module _ (job : Job) (whole : Bool) (places n : ℕ) (e : n ≡ verdict (admitted job places)) where
   by-check : (z : Bool) → eqb n 0 ≡ z → cond z (cond whole 0 13) n ≡ own (Of job) whole places
@@ -123,63 +117,47 @@ module _ (job : Job) (whole : Bool) (places n : ℕ) (e : n ≡ verdict (admitte
   pub own-right : n ≡ 0 → whole ≡ true → 0 ≡ own (Of job) whole places
   own-right h w = ap (λ (t : Bool). cond t 0 13) (sym w) ∙ by-check true (eq-eqb n 0 h)
 
--- the number that is worked out from the parts
-pub as-judged :
-    (job : Job) (bs : List ℕ) (cells : List Float) (lent : List ℕ) {r n : ℕ} →
-    r ≡ code n (eqb (length lent) answer-length) →
-    n ≡ own (Of job) (whole bs) (length cells) →
-    r ≡ before-units (Of job) (whole bs) cells lent
-as-judged job bs cells lent e f = e ∙ ap (λ (k : ℕ). code k (eqb (length lent) answer-length)) f
-
 -- one that is not taken writes nothing, and one that is taken writes all that its turn answers
-module _ (bs : List ℕ) (cells : List Float) (lent : List ℕ) (a : Answer Float) (n : ℕ) where
+module _ {X : Type 0} (bs : List ℕ) (cells : List X) (lent : List ℕ) (a : Answer X) (n : ℕ) where
   pub not-taken : (n ≡ 0 → ⊥) → taken-or-not n bs cells lent a ≡ handed n bs cells lent
   not-taken h = ap (λ (b : Bool). cond b (written a) (handed n bs cells lent)) (ne-eqb n 0 h)
 
   pub taken : n ≡ 0 → taken-or-not n bs cells lent a ≡ written a
   taken h = ap (λ (b : Bool). cond b (written a) (handed n bs cells lent)) (eq-eqb n 0 h)
 
--- ---- a call whose record is read
+-- ---- a call by how it starts, whatever its table holds
 
-module _ (job : Job) (bs : List ℕ) (cells : List Float) (allowance : ℕ) (lent : List ℕ) where
-  pub held-refused : (r : ℕ) → r ≡ before-units (Of job) (whole bs) cells lent → (r ≡ 0 → ⊥) → handed r bs cells lent ≡ turn-held job bs cells allowance lent
-  unfolding turn-held
-  held-refused r e n =
+module _ {X : Type 0} (kind : Kind X) (bs : List ℕ) (cells : List X) (allowance : ℕ) (lent : List ℕ) where
+  pub not-begun : (n : ℕ) → Starts bs (length cells) (length lent) (Not n) → handed n bs cells lent ≡ turn-bytes kind bs cells allowance lent
+  unfolding turn-bytes
+  not-begun n (e, h) =
       ap (λ (k : ℕ). handed k bs cells lent) e
-      ∙ sym (not-taken bs cells lent (turn-of job cells allowance) (before-units (Of job) (whole bs) cells lent) (λ z. n (e ∙ z)))
+      ∙ sym (not-taken bs cells lent (turn-of kind (job-at bs) cells allowance) (before-units (record-read bs) (whole bs) cells lent) (λ z. h (e ∙ z)))
 
-  pub held-taken :
-      (t : Turned) (after : List Float) (r : ℕ) (record-after answer-after : List ℕ) (all : ℕ) →
-      before-units (Of job) (whole bs) cells lent ≡ 0 →
-      told-turned t after ≡ turn-of job cells allowance →
-      all ≡ all-units (job .width) (job .height) →
-      r ≡ said-number (told-status (t .status)) →
-      record-after ≡ record-bytes (t .job) →
-      answer-after ≡ report (status-number (told-status (t .status))) all (t .job .at) →
-      handed r record-after after answer-after ≡ turn-held job bs cells allowance lent
-  unfolding turn-held
-  held-taken t after r record-after answer-after all z e f g h i =
-      let units : all ≡ all-units (t .job .width) (t .job .height) = f ∙ sym (ap (λ (a : Answer Float). all-units (a .job .width) (a .job .height)) e) in
-      ap (λ (n : ℕ). handed n record-after after answer-after) g
-      ∙ ap₂ (λ (b c : List ℕ). handed (said-number (told-status (t .status))) b after c) h i
-      ∙ ap (λ (n : ℕ). handed (said-number (told-status (t .status))) (record-bytes (t .job)) after (report (status-number (told-status (t .status))) n (t .job .at))) units
-      ∙ ap written e
-      ∙ sym (taken bs cells lent (turn-of job cells allowance) (before-units (Of job) (whole bs) cells lent) z)
+  module _ (job : Job) (s : Starts bs (length cells) (length lent) (With job)) where
+    record-is : job ≡ job-at bs
+    record-is = read-of bs job (s .1) .0
 
-  pub as-read : record-read bs ≡ Of job → turn-held job bs cells allowance lent ≡ turn-bytes bs cells allowance lent
-  unfolding turn-held turn-bytes
-  as-read e =
-      ap₂ (λ (f : Found) (j : Job). taken-or-not (before-units f (whole bs) cells lent) bs cells lent (turn-of j cells allowance)) (sym e) (read-of bs job e .0)
+    nothing-wrong : (own (Of job) (whole bs) (length cells) ≡ 0) × (length lent ≡ answer-length)
+    nothing-wrong = let n = none-before (record-read bs) (whole bs) cells lent (s .0) in (sym (ap (λ (f : Found). own f (whole bs) (length cells)) (s .1)) ∙ n .0, n .1)
 
--- ---- a call whose record cannot be read
+    -- what is written into has the right length, and the table the record's size
+    pub lengths : Sized (job .width) (job .height) × (length bs ≡ record-length) × (length lent ≡ answer-length)
+    lengths = (taking job (length cells) (is-right job (whole bs) (length cells) (nothing-wrong .0) .0) .size, read-of bs job (s .1) .1, nothing-wrong .1)
 
-pub unread :
-    (bs : List ℕ) (cells : List Float) (allowance : ℕ) (lent : List ℕ) (refusal : Refusal) (r : ℕ) →
-    record-read bs ≡ Refused refusal →
-    r ≡ code (number refusal) (eqb (length lent) answer-length) →
-    handed r bs cells lent ≡ turn-bytes bs cells allowance lent
-unfolding turn-bytes
-unread bs cells allowance lent refusal r e f =
-    let k : r ≡ before-units (record-read bs) (whole bs) cells lent = f ∙ sym (ap (λ (g : Found). before-units g (whole bs) cells lent) e) in
-    ap (λ (n : ℕ). handed n bs cells lent) k
-    ∙ sym (not-taken bs cells lent (turn-of (job-at bs) cells allowance) (before-units (record-read bs) (whole bs) cells lent) (λ z. omega (arith, none-before (Refused refusal) (whole bs) cells lent (sym f ∙ k ∙ z) .0, number-within refusal .0)))
+    module _ (t : Turned) (after : List X) (e : told-turned t after ≡ turn-of kind job cells allowance) where
+      pub size-kept : Sized (t .job .width) (t .job .height)
+      size-kept = subst (λ (a : Answer X). Sized (a .job .width) (a .job .height)) (sym e) (lengths .0)
+
+      pub begun :
+          (r : ℕ) (record-after answer-after : List ℕ) →
+          (r ≡ said-number (told-status (t .status)))
+          × (record-after ≡ record-bytes (t .job))
+          × (answer-after ≡ answer-bytes (told-status (t .status)) (t .job)) →
+          handed r record-after after answer-after ≡ turn-bytes kind bs cells allowance lent
+      unfolding turn-bytes
+      begun r record-after answer-after g =
+          ap (λ (n : ℕ). handed n record-after after answer-after) (g .0)
+          ∙ ap₂ (λ (b c : List ℕ). handed (said-number (told-status (t .status))) b after c) (g .1) (g .2)
+          ∙ ap written (e ∙ ap (λ (j : Job). turn-of kind j cells allowance) record-is)
+          ∙ sym (taken bs cells lent (turn-of kind (job-at bs) cells allowance) (before-units (record-read bs) (whole bs) cells lent) (s .0))

@@ -5,11 +5,11 @@
 --     0  status: 0 running, 1 finished, 2 refused      24  updates
 --     8  units done                                    32  border samples done that didn't settle
 --    16  units in all                                  40  the position of the first of them, from 1; 0 for none
+use mathlib.Core.Path.{_≡_}
 use mathlib.Core.Bool.{Bool, cond}
 use mathlib.Core.List.{List, [], _∷_, _++_}
 use Prim.Native.Nat.{ℕ}
 use lib.Dec.{eqb}
-use lib.Ieee.{Float}
 use lib.ListN.{length}
 use Rattle.lens.specs.Judgement.{verdict}
 use Rattle.lens.specs.Refusal.{number}
@@ -17,6 +17,7 @@ use Rattle.border.specs.Border.{all-units}
 use Rattle.turns.specs.Turns.{Said, finished, refused, running}
 use Rattle.plans.specs.Calls.{said-number}
 use Rattle.plans.specs.declared.Progress.{Progress}
+use Rattle.table_plans.specs.Tables.{Kind}
 use Rattle.job.specs.Job.{admitted}
 use Rattle.job.specs.declared.Job.{Job}
 use Rattle.distortion_table.specs.Answer.{Answer, turn-of}
@@ -26,15 +27,17 @@ use Rattle.job_bytes.specs.Bytes.{record-bytes, record-read, job-at}
 use Rattle.job_bytes.specs.Check.{whole}
 use Rattle.job_bytes.specs.declared.Found.{Found}
 use Rattle.job_bytes.specs.declared.Found.the-variants.{Of, Refused}
+use Rattle.turn_bytes.specs.declared.Start.{Start}
+use Rattle.turn_bytes.specs.declared.Start.the-variants.{With, Not}
 
 -- what a call gives back: its number, and what it was lent
-pub record Handed : Type 0 where
+pub record Handed (X : Type 0) : Type 0 where
   pub code : ℕ
   pub job : List ℕ
-  pub cells : List Float
+  pub cells : List X
   pub answer : List ℕ
 
-abbrev pub handed : ℕ → List ℕ → List Float → List ℕ → Handed
+abbrev pub handed : {X : Type 0} → ℕ → List ℕ → List X → List ℕ → Handed X
 handed code job cells answer = record { code = code; job = job; cells = cells; answer = answer }
 
 -- ---- before any unit
@@ -54,7 +57,7 @@ abbrev pub answer-length : ℕ
 answer-length = 48
 
 -- the lower of the record's own refusal and 7, which is for an answer of another length
-abbrev pub before-units : Found → Bool → List Float → List ℕ → ℕ
+abbrev pub before-units : {X : Type 0} → Found → Bool → List X → List ℕ → ℕ
 before-units found whole cells lent = code (own found whole (length cells)) (eqb (length lent) answer-length)
 
 -- ---- what a turn writes
@@ -76,21 +79,25 @@ abbrev pub answer-bytes : Said → Job → List ℕ
 answer-bytes said job = report (status-number said) (all-units (job .width) (job .height)) (job .at)
 
 -- with the number of the unit that refused; 0 if none did
-abbrev pub written : Answer Float → Handed
+abbrev pub written : {X : Type 0} → Answer X → Handed X
 written a = handed (said-number (a .said)) (record-bytes (a .job)) (a .cells) (answer-bytes (a .said) (a .job))
 
 -- ---- a call
 
 -- a call that is refused before any unit writes nothing
-abbrev pub taken-or-not : ℕ → List ℕ → List Float → List ℕ → Answer Float → Handed
+abbrev pub taken-or-not : {X : Type 0} → ℕ → List ℕ → List X → List ℕ → Answer X → Handed X
 taken-or-not number bs cells lent answer = cond (eqb number 0) (written answer) (handed number bs cells lent)
 
-unfoldable pub turn-bytes : List ℕ → List Float → ℕ → List ℕ → Handed
-turn-bytes bs cells allowance lent =
+-- of a table of some kind of cell
+unfoldable pub turn-bytes : {X : Type 0} → Kind X → List ℕ → List X → ℕ → List ℕ → Handed X
+turn-bytes kind bs cells allowance lent =
     taken-or-not (before-units (record-read bs) (whole bs) cells lent) bs cells lent
-    (turn-of (job-at bs) cells allowance)
+    (turn-of kind (job-at bs) cells allowance)
 
--- the same of bytes that hold this record
-unfoldable pub turn-held : Job → List ℕ → List Float → ℕ → List ℕ → Handed
-turn-held job bs cells allowance lent =
-    taken-or-not (before-units (Of job) (whole bs) cells lent) bs cells lent (turn-of job cells allowance)
+-- how it starts, whatever the table holds, with a table of so many places and an answer of so many bytes: refused with
+-- a number, or with the record that the bytes hold
+abbrev pub Starts : List ℕ → ℕ → ℕ → Start → Type 0
+Starts bs places room (Not n) =
+    (n ≡ code (own (record-read bs) (whole bs) places) (eqb room answer-length)) × (n ≡ 0 → ⊥)
+Starts bs places room (With job) =
+    (code (own (record-read bs) (whole bs) places) (eqb room answer-length) ≡ 0) × (record-read bs ≡ Of job)

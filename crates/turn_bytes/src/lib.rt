@@ -6,11 +6,13 @@ ghost use Rattle.lens.specs.Judgement.{verdict};
 ghost use Rattle.region.specs.Size.{Sized};
 ghost use Rattle.border.specs.Border.{all-units};
 ghost use Rattle.plans.specs.Calls.{said-number};
+ghost use Rattle.table_plans.specs.Tables.{f32s, i16s};
 ghost use Rattle.distortion_table.specs.Answer.{told-status};
-ghost use Rattle.job_bytes.specs.Bytes.{record-length, record-bytes};
+ghost use Rattle.job_bytes.specs.Bytes.{record-length, record-bytes, record-read};
 ghost use Rattle.job_bytes.specs.Check.{whole};
 ghost use Rattle.job_bytes.specs.declared.Found.the-variants.{Of};
-ghost use Rattle.turn_bytes.specs.Turn.{handed, own, answer-length, status-number, report, turn-held, turn-bytes};
+ghost use Rattle.turn_bytes.specs.Turn.{handed, own, answer-length, status-number, report, answer-bytes, Starts};
+ghost use Rattle.turn_bytes.specs.Turn.{turn-bytes};
 use distortion_table::Status;
 use distortion_table::Turned;
 use job::Job;
@@ -18,6 +20,12 @@ use job_bytes::Found;
 use lens::Judgement;
 use lens::Refusal;
 use plans::Progress;
+
+// How a call starts: with a record, or refused with a number that isn't 0.
+enum Start {
+    With(Job),
+    Not(u8),
+}
 
 // How many bytes an answer has.
 pub const ANSWER: usize = 48;
@@ -75,20 +83,25 @@ fn put_report(status: u64, all: u64, at: Progress, out: &mut [u8])
     little_endian::put(out, 40, 8, at.first as u64);
 }
 
-// Writes what a turn hands back, all being the units in all.
-fn give(turned: Turned, all: u64, job: &mut [u8], answer: &mut [u8]) -> u8
-    requires { ⌜ (length (now job) ≡ record-length) × (length (now answer) ≡ answer-length) ⌝ }
+// Writes what a turn hands back.
+fn give(turned: Turned, job: &mut [u8], answer: &mut [u8]) -> u8
+    requires { ⌜
+        Sized (turned .job .width) (turned .job .height)
+        × (length (now job) ≡ record-length)
+        × (length (now answer) ≡ answer-length)
+        ⌝ }
     ensures { λ r. ⌜
         (r ≡ said-number (told-status (turned .status)))
         × (now (job .exit) ≡ record-bytes (turned .job))
-        × (now (answer .exit) ≡ report (status-number (told-status (turned .status))) all (turned .job .at))
+        × (now (answer .exit) ≡ answer-bytes (told-status (turned .status)) (turned .job))
         ⌝ }
 {
     let said = turned.status;
     let held = turned.job;
     let at = held.at;
+    let all = all_units(held.width, held.height);
     job_bytes::write(held, job);
-    put_report(status_number(said), all, at, answer);
+    put_report(status_number(said), all as u64, at, answer);
     unit_number(said)
 }
 
@@ -106,22 +119,31 @@ fn own(held: Job, job: &[u8], places: usize) -> u8
     lens::number(Refusal::ImpossibleRecord)
 }
 
-// A turn of the record that the bytes hold: 4, 5, 6, 7, 13 before any unit.
-fn turn_held(held: Job, job: &mut [u8], table: &mut [f32], allowance: u64, answer: &mut [u8]) -> u8
-    requires { ⌜ length (now job) ≡ record-length ⌝ }
-    ensures { λ r. ⌜
-        handed r (now (job .exit)) (now (table .exit)) (now (answer .exit))
-        ≡ turn-held held (now (job .entry)) (now (table .entry)) allowance (now (answer .entry))
-        ⌝ }
+// What a record that is read says to a table of so many places and an answer of so many bytes: 4, 5, 6, 7, 13 before
+// any unit.
+fn start_held(held: Job, job: &[u8], places: usize, room: usize) -> Start
+    requires { ⌜ record-read (now job) ≡ Of held ⌝ }
+    ensures { λ r. ⌜ Starts (now (job .entry)) places room r ⌝ }
 {
-    let number = own(held, job, table.len());
-    let code = given::code(number, answer.len() == ANSWER);
+    let number = own(held, job, places);
+    let code = given::code(number, room == ANSWER);
     if code != 0 {
-        return code;
+        return Start::Not(code);
     }
-    let all = all_units(held.width, held.height);
-    let turned = distortion_table::turn(held, table, allowance as usize);
-    give(turned, all as u64, job, answer)
+    Start::With(held)
+}
+
+// How a call starts, whatever the table holds.
+fn begin(job: &[u8], places: usize, room: usize) -> Start
+    ensures { λ r. ⌜ Starts (now (job .entry)) places room r ⌝ }
+{
+    match job_bytes::read(job) {
+        Found::Refused(refusal) => {
+            let code = given::code(lens::number(refusal), room == ANSWER);
+            Start::Not(code)
+        }
+        Found::Of(held) => start_held(held, job, places, room),
+    }
 }
 
 // One turn: as many units as the allowance says, or fewer if one refuses or none is left. Record, table and answer are
@@ -129,11 +151,32 @@ fn turn_held(held: Job, job: &mut [u8], table: &mut [f32], allowance: u64, answe
 pub fn turn(job: &mut [u8], table: &mut [f32], allowance: u64, answer: &mut [u8]) -> u8
     ensures { λ r. ⌜
         handed r (now (job .exit)) (now (table .exit)) (now (answer .exit))
-        ≡ turn-bytes (now (job .entry)) (now (table .entry)) allowance (now (answer .entry))
+        ≡ turn-bytes f32s (now (job .entry)) (now (table .entry)) allowance (now (answer .entry))
         ⌝ }
 {
-    match job_bytes::read(job) {
-        Found::Refused(refusal) => given::code(lens::number(refusal), answer.len() == ANSWER),
-        Found::Of(held) => turn_held(held, job, table, allowance, answer),
+    match begin(job, table.len(), answer.len()) {
+        Start::Not(code) => code,
+        Start::With(held) => give(
+            distortion_table::turn(held, table, allowance as usize),
+            job,
+            answer,
+        ),
+    }
+}
+
+// The same of a table of sixteen-bit numbers.
+pub fn turn16(job: &mut [u8], table: &mut [i16], allowance: u64, answer: &mut [u8]) -> u8
+    ensures { λ r. ⌜
+        handed r (now (job .exit)) (now (table .exit)) (now (answer .exit))
+        ≡ turn-bytes i16s (now (job .entry)) (now (table .entry)) allowance (now (answer .entry))
+        ⌝ }
+{
+    match begin(job, table.len(), answer.len()) {
+        Start::Not(code) => code,
+        Start::With(held) => give(
+            distortion_table::turn16(held, table, allowance as usize),
+            job,
+            answer,
+        ),
     }
 }

@@ -1,40 +1,16 @@
--- `cell::cell_at` meets its contract. Assumes nothing.
-use mathlib.Core.Path.{_≡_, refl, sym, _∙_}
-use mathlib.Core.Bool.{Bool, cond, _&&_}
-use Prim.Native.Nat.{ℕ}
-use lib.Ieee.{Float}
-use lib.Ieee.Scale.{finite}
+-- `cell::cell_at` meets its contract: the cell is made from the pixel (`from-pixel`). Assumes nothing.
+use mathlib.Core.Path.{_∙_}
 use borrow.Author.Needs.{needs}
-use Rattle.exact.specs.F64.{_⊕_, _⊗_}
-use Rattle.region.specs.Size.{float}
-use Rattle.region.specs.declared.Increments.{Increments}
-use Rattle.region.specs.declared.Region.{Region}
-use Rattle.camera.specs.Camera.{distort-judged}
-use Rattle.camera.specs.declared.Camera.{Camera}
-use Rattle.plans.specs.Plan.{none}
-use Rattle.cell.specs.Cell.{f32, of-pixel, cell-by}
+use Rattle.cell.specs.Cell.{f32}
+use Rattle.cell.proofs.Made.{from-pixel}
 use Rattle.cell.proofs.cell_at.Statement.{statement}
 use Rattle.cell.proofs.cell_at.Tie as tie
 
--- by what the test says of the cell's point
-judged-so :
-    (camera : Camera) (region : Region) (by : Increments) (u v : ℕ) {m n : Float} {p : Bool}
-    → m ≡ float u → n ≡ float v → p ≡ (finite (region .left ⊕ m ⊗ by .0) && finite (region .top ⊕ n ⊗ by .1))
-    → cond p (of-pixel f32 (distort-judged camera record { 0 = region .left ⊕ m ⊗ by .0; 1 = region .top ⊕ n ⊗ by .1 })) (none 11)
-    ≡ cell-by (distort-judged camera) f32 region by u v
-unfolding cell-by
-judged-so camera region by u v g h e = rw (e, g, h) refl
-
 returns : tie.Need-returns
-returns c =
-    let a = c .before .before .before .before .before .before .before .before .before .args in
-    c .cell-of .ensures
-    ∙ judged-so (a .camera) (a .region) (a .by) (a .u) (a .v) (c .before .before .before .before .before .before .before .before .float .ensures) (c .before .before .before .before .before .float2 .ensures) (sym (c .before .if1 .taken) ∙ c .before .before .both-finite .ensures)
+returns c = from-pixel f32 _ _ _ _ _ (c .before .refusal .given .1) (c .before .before .before .pixel-at .ensures)
 
 returns-2 : tie.Need-returns-2
-returns-2 c =
-    let a = c .before .before .before .before .before .before .before .before .args in
-    judged-so (a .camera) (a .region) (a .by) (a .u) (a .v) (c .before .before .before .before .before .before .before .float .ensures) (c .before .before .before .before .float2 .ensures) (sym (c .if1 .left) ∙ c .before .both-finite .ensures)
+returns-2 c = c .narrow-pixel .ensures ∙ from-pixel f32 _ _ _ _ _ (c .before .before .pixel .given .1) (c .before .before .before .before .pixel-at .ensures)
 
 pub cell-at-spec : {M : Type 1} → statement M
-cell-at-spec = tie.close (tie.spec (λ c κs. search needs) (λ c κs. search needs) (λ c κs. search needs) (λ c κs. search needs) returns returns-2)
+cell-at-spec = tie.close (tie.spec (λ c κs. search needs) (λ c. search needs) (λ c. search needs) (λ c κs. search needs) returns returns-2)

@@ -6,10 +6,10 @@ use Rattle.test_head_calls.proofs.answer_all.Statement.{statement}
 use Rattle.test_head_calls.proofs.answer_all.Tie as tie
 
 abbrev Inv-loop : tie.InvT-loop
-Inv-loop read₀ lent₀ table₀ lines₀ read lent table lines = Unit {0}
+Inv-loop read₀ lent₀ table₀ table16₀ lines₀ read lent table table16 lines = Unit {0}
 
 abbrev μ-loop : tie.MeasureT-loop
-μ-loop read₀ lent₀ table₀ lines₀ read lent table lines = 18446744073709551615 - lines
+μ-loop read₀ lent₀ table₀ table16₀ lines₀ read lent table table16 lines = 18446744073709551615 - lines
 
 loop-holds : tie.Need-loop-holds Inv-loop μ-loop
 loop-holds c = search needs

@@ -5,10 +5,10 @@ use Rattle.test_head_calls.proofs.turn_each_bit.Statement.{statement}
 use Rattle.test_head_calls.proofs.turn_each_bit.Tie as tie
 
 abbrev Inv-loop : tie.InvT-loop
-Inv-loop q at lent table bit₀ bit = bit ≤ 8
+Inv-loop q at lent table table16 bit₀ bit = bit ≤ 8
 
 abbrev μ-loop : tie.MeasureT-loop
-μ-loop q at lent table bit₀ bit = 8 - bit
+μ-loop q at lent table table16 bit₀ bit = 8 - bit
 
 loop-holds : tie.Need-loop-holds Inv-loop μ-loop
 loop-holds c = search needs

@@ -9,10 +9,10 @@ pub record Far (at count : ℕ) : Type 0 where
   few : count ≤ 512
 
 abbrev Inv-loop : tie.InvT-loop
-Inv-loop q lent table count at₀ t6 at = Far at count
+Inv-loop q lent table table16 count at₀ t7 at = Far at count
 
 abbrev μ-loop : tie.MeasureT-loop
-μ-loop q lent table count at₀ t6 at = count - at
+μ-loop q lent table table16 count at₀ t7 at = count - at
 
 element-copy-out-at-most : tie.Need-element-copy-out-at-most Inv-loop μ-loop
 element-copy-out-at-most c = search needs

@@ -19,6 +19,12 @@ mul-cells c =
 refuse-requires-2 : tie.Need-refuse-requires-2
 refuse-requires-2 c κs = search needs
 
+mul-build-in16 : tie.Need-mul-build-in16
+mul-build-in16 c = search needs
+
+build-in16-requires : tie.Need-build-in16-requires
+build-in16-requires c κs = search needs
+
 mul-build-in : tie.Need-mul-build-in
 mul-build-in c = search needs
 
@@ -31,6 +37,9 @@ returns-2 c = search needs
 returns-3 : tie.Need-returns-3
 returns-3 c = search needs
 
+returns-4 : tie.Need-returns-4
+returns-4 c = search needs
+
 pub answer-fresh-spec : {M : Type 1} → statement M
 answer-fresh-spec =
     tie.close
@@ -39,7 +48,10 @@ answer-fresh-spec =
     returns
     mul-cells
     refuse-requires-2
+    mul-build-in16
+    build-in16-requires
     mul-build-in
     build-in-requires
     returns-2
-    returns-3)
+    returns-3
+    returns-4)
