@@ -1,0 +1,3 @@
+pub mod Edges
+pub mod Units
+pub mod Laws

@@ -1,0 +1,380 @@
+-- Where k4, k5 and k6 are zeros and the short numbers are finite, the full ones are alike: what only the full engine works out are zeros, ones and copies. So the two searches go the same way. Assumes nothing.
+use mathlib.Core.Path.{_≡_, refl, sym, ap, _∙_, subst}
+use mathlib.Core.Bool.{Bool, true, false, cond, _&&_, true≢false, false≢true}
+use Prim.Native.Nat.{ℕ, zero, suc, _+_}
+use lib.Dec.{T}
+use lib.Ieee.{Float, nan, inf, fin, binary64, div, le, ofBits, ofInt, fits}
+use lib.Ieee.Fits.{add-fits, mul-fits}
+use lib.Ieee.Scale.{finite}
+use Rattle.exact.specs.Alike.{_≐_, same}
+use Rattle.exact.specs.F64.{f64, magnitude, _⊕_, _⊖_, _⊗_, _⊘_, isZero}
+use Rattle.exact.proofs.Alike.{≐-refl, its, ≐-sym, ≐-trans, ≐-other, ≐-isZero, ≐-minus, ≐-over, finite-too, ≐-le, _⟨⊕⟩_, _⟨⊖⟩_, _⟨⊗⟩_, zero-plus, plus-zero}
+use Rattle.exact.proofs.Operations.{sum-finite, neg-finite, minus-finite, difference-finite, product-finite, quotient-finite}
+use Rattle.exact.proofs.Swaps.{product-swapped, one-times, squares-unsigned}
+use Rattle.exact.proofs.Zeros.{zero-plus-zero, zero-minus, zero-times, times-zero}
+use Rattle.formula.specs.Term.{rounded, denominators}
+use Rattle.lens.specs.Constants.{ones, int}
+use Rattle.lens.specs.Fits.{Fit}
+use Rattle.lens.specs.Passes.{passes}
+use Rattle.lens.specs.Radius.{squared-radius}
+use Rattle.lens.specs.declared.Point.{Point}
+use Rattle.brown_conrady.specs.BrownConrady as full
+use Rattle.brown_conrady.specs.Formula.{at}
+use Rattle.brown_conrady.specs.declared.BrownConradyParams.{BrownConradyParams}
+use Rattle.brown_conrady.proofs.NoRoot.{last-bits, no-root}
+use Rattle.short_brown_conrady.specs.Answers.{AlikePoints}
+use Rattle.short_brown_conrady.specs.Polynomial as short
+use Rattle.short_brown_conrady.specs.ShortBrownConrady.{no-quotient, distortion, slopes-at, f-xy, small, step-from, pass, start, ended, newton}
+use Rattle.short_brown_conrady.specs.declared.Offset.{Offset}
+use Rattle.short_brown_conrady.specs.declared.Search.{Search}
+use Rattle.short_brown_conrady.proofs.Terms.{kept}
+
+-- ---- the three zeros
+
+pub record Zeros (params : BrownConradyParams) : Type 0 where
+  pub k4 : isZero (params .k4) ≡ true
+  pub k5 : isZero (params .k5) ≡ true
+  pub k6 : isZero (params .k6) ≡ true
+
+pub zeros-of : (params : BrownConradyParams) → no-quotient params ≡ true → Zeros params
+zeros-of params h = go (isZero (params .k4)) (isZero (params .k5)) (isZero (params .k6)) refl refl refl h
+  where
+    go : (a b c : Bool) → isZero (params .k4) ≡ a → isZero (params .k5) ≡ b → isZero (params .k6) ≡ c → (a && b && c) ≡ true → Zeros params
+    go true true true p q r h = record { k4 = p; k5 = q; k6 = r }
+    go true true false p q r h = absurd (false≢true h)
+    go true false c p q r h = absurd (false≢true h)
+    go false b c p q r h = absurd (false≢true h)
+
+-- ---- a zero more and a factor of one, where they stand in the full definitions
+
+one-fits : Fit ones
+unfolding fits ofBits
+one-fits = tt
+
+one-no-zero : isZero ones ≡ false
+unfolding isZero ofBits
+one-no-zero = refl
+
+one-more : (z : Float) → isZero z ≡ true → ones ⊕ z ≡ ones
+one-more z p = ≐-other one-no-zero (plus-zero ones z one-fits p)
+
+more-one : (z : Float) → isZero z ≡ true → z ⊕ ones ≡ ones
+more-one z p = ≐-other one-no-zero (zero-plus z ones p one-fits)
+
+pub one-by : (i u : Float) → i ≡ ones → Fit u → i ⊗ u ≡ u
+one-by i u p f = ap (λ (x : Float). x ⊗ u) p ∙ one-times u f
+
+by-one : (u i : Float) → Fit u → i ≡ ones → u ⊗ i ≡ u
+by-one u i f p = product-swapped u i ∙ one-by i u p f
+
+one-over : (i : Float) → i ≡ ones → ones ⊘ i ≡ ones
+one-over i p = ap (λ (x : Float). ones ⊘ x) p ∙ unfold div ofBits in refl
+
+-- the denominator's two forms: 1 + k4 a + k5 b + k6 c, and with the 1 last
+module _ (k l m a b c : Float) (k4 : isZero k ≡ true) (k5 : isZero l ≡ true) (k6 : isZero m ≡ true) (A : T (finite a)) (B : T (finite b)) (C : T (finite c)) where
+  divisor-one : ones ⊕ k ⊗ a ⊕ l ⊗ b ⊕ m ⊗ c ≡ ones
+  divisor-one =
+      ap (λ (x : Float). x ⊕ l ⊗ b ⊕ m ⊗ c) (one-more (k ⊗ a) (zero-times k a k4 A))
+      ∙ ap (λ (x : Float). x ⊕ m ⊗ c) (one-more (l ⊗ b) (zero-times l b k5 B))
+      ∙ one-more (m ⊗ c) (zero-times m c k6 C)
+
+  last-one : a ⊗ k ⊕ b ⊗ l ⊕ c ⊗ m ⊕ ones ≡ ones
+  last-one =
+      more-one (a ⊗ k ⊕ b ⊗ l ⊕ c ⊗ m)
+      (zero-plus-zero (a ⊗ k ⊕ b ⊗ l) (c ⊗ m) (zero-plus-zero (a ⊗ k) (b ⊗ l) (times-zero a k A k4) (times-zero b l B k5)) (times-zero c m C k6))
+
+-- ---- points that are alike: the short polynomials are
+
+at-alike : (params : BrownConradyParams) (p q : Point) → AlikePoints p q → (n : ℕ) → at params p n ≐ at params q n
+at-alike params p q h zero = h .x
+at-alike params p q h (suc zero) = h .y
+at-alike params p q h (suc (suc n)) = ≐-refl
+
+distortion-kept : (params : BrownConradyParams) (p q : Point) → AlikePoints p q → AlikePoints (distortion params p) (distortion params q)
+unfolding distortion denominators
+distortion-kept params p q h = record { x = kept _ _ (at-alike params p q h) short.xd0 tt; y = kept _ _ (at-alike params p q h) short.yd0 tt }
+
+-- ---- distortion
+
+-- the powers of the squared radius are finite where the first number is
+pub record Powers (p : Point) : Type 0 where
+  pub r2 : T (finite (squared-radius (p .0) (p .1)))
+  pub r4 : T (finite (squared-radius (p .0) (p .1) ⊗ squared-radius (p .0) (p .1)))
+  pub r6 : T (finite (squared-radius (p .0) (p .1) ⊗ squared-radius (p .0) (p .1) ⊗ squared-radius (p .0) (p .1)))
+
+pub powers : (params : BrownConradyParams) (p : Point) → T (finite (distortion params p .0)) → Powers p
+unfolding distortion rounded
+powers params p t =
+    let cdist = product-finite _ _ (sum-finite _ _ (sum-finite _ _ t .0) .0) .1 in
+    let r6 = product-finite _ _ (sum-finite _ _ cdist .1) .1 in
+    let r4 = product-finite _ _ r6 in
+    record { r2 = r4 .1; r4 = r4 .0; r6 = r6 }
+
+scaled-same : (x c i a b : Float) → i ≡ ones → x ⊗ c ⊕ a ⊕ b ≡ x ⊗ c ⊗ i ⊕ a ⊕ b
+scaled-same x c i a b p = ap (λ (v : Float). v ⊕ a ⊕ b) (sym (by-one (x ⊗ c) i (mul-fits binary64 x c) p))
+
+both-same : {x x' y y' : Float} → x ≡ x' → y ≡ y' → _≡_ {A = Point} (record { 0 = x; 1 = y }) (record { 0 = x'; 1 = y' })
+both-same p q = rw (p, q) refl
+
+-- at one point the two are one, bit by bit: a factor of one changes nothing
+pub distortion-same : (params : BrownConradyParams) → Zeros params → (p : Point) → Powers p → distortion params p ≡ full.distortion params p
+unfolding distortion full.distortion rounded ofBits ofInt
+distortion-same params zs p w =
+    let i = one-over _ (divisor-one (params .k4) (params .k5) (params .k6) _ _ _ (zs .k4) (zs .k5) (zs .k6) (w .r2) (w .r4) (w .r6)) in
+    both-same (scaled-same _ _ _ _ _ i) (scaled-same _ _ _ _ _ i)
+
+distortion-alike : (params : BrownConradyParams) → Zeros params → (p q : Point) → AlikePoints p q → T (finite (distortion params p .0)) → AlikePoints (distortion params p) (full.distortion params q)
+distortion-alike params zs p q h t =
+    let k = distortion-kept params p q h in
+    subst (AlikePoints (distortion params p)) (distortion-same params zs q (powers params q (finite-too (k .x) t))) k
+
+-- ---- the slopes
+
+-- on the diagonal the full ones have a zero more and two factors of one
+diagonal : (a b n c15 c5 c6 : Float) → isZero (n ⊗ c15) ≡ true → c5 ≡ ones → c6 ≡ ones → Fit a → Fit b → a ⊕ b ≐ n ⊗ c15 ⊕ c5 ⊗ a ⊕ c6 ⊗ b
+diagonal a b n c15 c5 c6 z p q f g =
+    ≐-trans (same (sym (one-by c5 a p f))) (≐-sym (zero-plus (n ⊗ c15) (c5 ⊗ a) z (mul-fits binary64 c5 a)))
+    ⟨⊕⟩ same (sym (one-by c6 b q g))
+
+-- and off it a zero more and one of those factors
+crossed : (n c16 c19 c5 : Float) → isZero (n ⊗ c19) ≡ true → c5 ≡ ones → c16 ⊗ c19 ≐ n ⊗ c19 ⊕ c16 ⊗ c19 ⊗ c5
+crossed n c16 c19 c5 z p =
+    ≐-trans (same (sym (by-one (c16 ⊗ c19) c5 (mul-fits binary64 c16 c19) p))) (≐-sym (zero-plus (n ⊗ c19) (c16 ⊗ c19 ⊗ c5) z (mul-fits binary64 (c16 ⊗ c19) c5)))
+
+two-finite : T (finite (int 2))
+unfolding ofInt
+two-finite = tt
+
+pub record AlikeSlopes (params : BrownConradyParams) (p q : Point) : Type 0 where
+  pub c7 : full.slopes-at params q .c7 ≡ ones
+  pub ux : slopes-at params p .ux ≐ full.slopes-at params q .ux
+  pub uy : slopes-at params p .uy ≐ full.slopes-at params q .uy
+  pub vx : slopes-at params p .vx ≐ full.slopes-at params q .vx
+  pub vy : slopes-at params p .vy ≐ full.slopes-at params q .vy
+  pub ux-fits : Fit (full.slopes-at params q .ux)
+  pub uy-fits : Fit (full.slopes-at params q .uy)
+  pub vx-fits : Fit (full.slopes-at params q .vx)
+  pub vy-fits : Fit (full.slopes-at params q .vy)
+
+slopes-same :
+    (params : BrownConradyParams) → Zeros params → (p : Point)
+    → T (finite (slopes-at params p .ux)) → T (finite (slopes-at params p .uy)) → T (finite (slopes-at params p .vy)) → AlikeSlopes params p p
+unfolding slopes-at full.slopes-at full.shared-at rounded ofBits ofInt
+slopes-same params zs p s t u =
+    -- what is finite
+    let first = sum-finite _ _ (sum-finite _ _ s .0) in
+    let f0 = product-finite _ _ (first .0) in
+    let f16 = sum-finite _ _ (sum-finite _ _ (f0 .1) .0) in
+    let f10 = product-finite _ _ (product-finite _ _ (f16 .0) .0) .1 in
+    let f11 = product-finite _ _ (product-finite _ _ (f16 .1) .0) .1 in
+    let f2 = product-finite _ _ f10 .1 in
+    let f3 = product-finite _ _ f11 .1 in
+    let f4 = product-finite _ _ (sum-finite _ _ (sum-finite _ _ (first .1) .0) .1) .0 in
+    let f19 = product-finite _ _ (sum-finite _ _ t .0) .1 in
+    let f1 = product-finite _ _ (sum-finite _ _ (sum-finite _ _ u .0) .0) .0 in
+    -- what only the full ones have
+    let c5 = last-one (params .k4) (params .k5) (params .k6) _ _ _ (zs .k4) (zs .k5) (zs .k6) f2 f3 f4 in
+    let c6 = one-by _ _ c5 (add-fits binary64 _ _) ∙ c5 in
+    let c15 =
+    zero-times _ _ (times-zero (int 2) _ two-finite (zero-plus-zero _ _ (zero-plus-zero _ _ (times-zero _ _ f10 (zs .k5)) (times-zero _ _ f11 (zs .k6))) (zs .k4))) (first .1) in
+    let across = crossed _ _ _ _ (zero-times _ _ (zero-minus _ c15) f19) c5 in
+    record {
+      c7 = one-over _ c6;
+      ux = diagonal _ _ _ _ _ _ (times-zero _ _ (neg-finite _ (f0 .0)) c15) c5 c6 (add-fits binary64 _ _) (add-fits binary64 _ _);
+      uy = across ⟨⊕⟩ same (sym (one-by _ _ c6 (add-fits binary64 _ _)));
+      vx = across ⟨⊕⟩ same (sym (one-by _ _ c6 (add-fits binary64 _ _)));
+      vy = diagonal _ _ _ _ _ _ (times-zero _ _ (neg-finite _ f1) c15) c5 c6 (add-fits binary64 _ _) (add-fits binary64 _ _);
+      ux-fits = add-fits binary64 _ _;
+      uy-fits = add-fits binary64 _ _;
+      vx-fits = add-fits binary64 _ _;
+      vy-fits = add-fits binary64 _ _;
+    }
+
+pub slopes-alike :
+    (params : BrownConradyParams) → Zeros params → (p q : Point) → AlikePoints p q
+    → T (finite (slopes-at params p .ux)) → T (finite (slopes-at params p .uy)) → T (finite (slopes-at params p .vy)) → AlikeSlopes params p q
+slopes-alike params zs p q h s t u =
+    let ux : slopes-at params p .ux ≐ slopes-at params q .ux = unfold slopes-at denominators in kept _ _ (at-alike params p q h) short.ux tt in
+    let uy : slopes-at params p .uy ≐ slopes-at params q .uy = unfold slopes-at denominators in kept _ _ (at-alike params p q h) short.uy tt in
+    let vx : slopes-at params p .vx ≐ slopes-at params q .vx = unfold slopes-at denominators in kept _ _ (at-alike params p q h) short.vx tt in
+    let vy : slopes-at params p .vy ≐ slopes-at params q .vy = unfold slopes-at denominators in kept _ _ (at-alike params p q h) short.vy tt in
+    let there = slopes-same params zs q (finite-too ux s) (finite-too uy t) (finite-too vy u) in
+    record {
+      c7 = there .c7;
+      ux = ≐-trans ux (there .ux);
+      uy = ≐-trans uy (there .uy);
+      vx = ≐-trans vx (there .vx);
+      vy = ≐-trans vy (there .vy);
+      ux-fits = there .ux-fits;
+      uy-fits = there .uy-fits;
+      vx-fits = there .vx-fits;
+      vy-fits = there .vy-fits;
+    }
+
+-- ---- a step
+
+record AlikeSteps (params : BrownConradyParams) (distorted p q : Point) : Type 0 where
+  x : step-from params distorted p .by .0 ≐ full.step-from params distorted q .0
+  y : step-from params distorted p .by .1 ≐ full.step-from params distorted q .1
+
+step-alike :
+    (params : BrownConradyParams) → Zeros params → (distorted p q : Point) → AlikePoints p q
+    → T (finite (step-from params distorted p .by .0)) → T (finite (step-from params distorted p .by .1)) → AlikeSteps params distorted p q
+unfolding step-from full.step-from
+step-alike params zs distorted p q h s t =
+    let ahead = sum-finite _ _ s in
+    let fx = product-finite _ _ (ahead .0) in
+    let vy = product-finite _ _ (fx .0) in
+    let uy = product-finite _ _ (product-finite _ _ (ahead .1) .0) in
+    let ux = product-finite _ _ (product-finite _ _ (sum-finite _ _ t .1) .0) in
+    let sent = distortion-alike params zs p q h (difference-finite _ _ (fx .1) .0) in
+    let f0 = sent .x ⟨⊖⟩ its (distorted .0) in
+    let f1 = sent .y ⟨⊖⟩ its (distorted .1) in
+    let slopes = slopes-alike params zs p q h (ux .0) (minus-finite _ (uy .0)) (vy .0) in
+    let a = ≐-trans (slopes .ux) (same (sym (one-by _ _ (slopes .c7) (slopes .ux-fits)))) in
+    let b = ≐-trans (slopes .uy) (same (sym (one-by _ _ (slopes .c7) (slopes .uy-fits)))) in
+    let c = ≐-trans (slopes .vx) (same (sym (one-by _ _ (slopes .c7) (slopes .vx-fits)))) in
+    let d = ≐-trans (slopes .vy) (same (sym (one-by _ _ (slopes .c7) (slopes .vy-fits)))) in
+    let det = a ⟨⊗⟩ d ⟨⊖⟩ b ⟨⊗⟩ c in
+    let z = ≐-over (sym (≐-isZero det) ∙ quotient-finite ones _ (vy .1) .1) (its ones) det in
+    record { x = d ⟨⊗⟩ z ⟨⊗⟩ f0 ⟨⊕⟩ ≐-minus b ⟨⊗⟩ z ⟨⊗⟩ f1; y = ≐-minus c ⟨⊗⟩ z ⟨⊗⟩ f0 ⟨⊕⟩ a ⟨⊗⟩ z ⟨⊗⟩ f1 }
+
+-- ---- the test of a step
+
+abbrev norm-small : Float → Float → Bool
+norm-small x y = full.small (record { 0 = x; 1 = y })
+
+pub small-alike : {x x' y y' : Float} → x ≐ x' → y ≐ y' → norm-small x y ≡ norm-small x' y'
+small-alike {x} {x'} {y} {y'} p q = no-root x y ∙ ≐-le (p ⟨⊗⟩ p ⟨⊕⟩ q ⟨⊗⟩ q) (its (f64 last-bits)) ∙ sym (no-root x' y')
+
+-- a sum of squares that is at most the bound is finite: only -infinity is below it and isn't
+at-most : (q : Float) → le (magnitude q) (f64 last-bits) ≡ true → T (finite q)
+unfolding magnitude le ofBits
+at-most nan h = absurd (false≢true h)
+at-most (inf s) h = absurd (false≢true h)
+at-most (fin s m e) h = tt
+
+bounded : (x y : Float) → le (squared-radius x y) (f64 last-bits) ≡ true → T (finite (squared-radius x y))
+bounded x y h = at-most (squared-radius x y) (ap (λ (q : Float). le q (f64 last-bits)) (squares-unsigned x y) ∙ h)
+
+-- so a small step is finite
+small-finite : (x y : Float) → norm-small x y ≡ true → T (finite x) × T (finite y)
+small-finite x y h =
+    let both = sum-finite (x ⊗ x) (y ⊗ y) (bounded x y (sym (no-root x y) ∙ h)) in
+    (product-finite x x (both .0) .0, product-finite y y (both .1) .0)
+
+-- ---- a pass
+
+-- the full search's own type, which has no name here
+abbrev Asked : {A B : Type 0} → (A → B) → Type 0
+Asked {A} f = A
+
+abbrev FullSearch : Type 0
+FullSearch = Asked full.ended
+
+pub record Reached (at : Search) : Type 0 where
+  pub x : T (finite (at .xy .0))
+  pub y : T (finite (at .xy .1))
+
+record AlikeSearches (at : Search) (to : FullSearch) : Type 0 where
+  xys : AlikePoints (at .xy) (to .xy)
+  counts : at .updates ≡ to .updates
+  ends : at .ended ≡ to .ended
+
+-- what a pass reaches is finite only where it set out from what is, with a finite step
+pub record Behind (params : BrownConradyParams) (distorted : Point) (at : Search) : Type 0 where
+  pub from : Reached at
+  pub x : T (finite (step-from params distorted (at .xy) .by .0))
+  pub y : T (finite (step-from params distorted (at .xy) .by .1))
+
+module _ (params : BrownConradyParams) (distorted : Point) where
+  abbrev by : Search → Offset
+  by at = step-from params distorted (at .xy) .by
+
+  pub behind : (at : Search) → Reached (pass params distorted at) → Behind params distorted at
+  unfolding pass
+  behind at h = go (small (by at)) _ _ refl (λ h. record { x = h .x; y = h .y }) (λ h. (h .x, h .y)) h
+    where
+      go :
+          (b : Bool) (s t : Search) → small (by at) ≡ b → (Reached s → Reached at)
+          → (Reached t → T (finite (at .xy .0 ⊖ by at .0)) × T (finite (at .xy .1 ⊖ by at .1)))
+          → Reached (cond b s t) → Behind params distorted at
+      go true s t e k l h = let f = small-finite _ _ e in record { from = k h; x = f .0; y = f .1 }
+      go false s t e k l h =
+          let x = difference-finite _ _ (l h .0) in
+          let y = difference-finite _ _ (l h .1) in
+          record { from = record { x = x .0; y = y .0 }; x = x .1; y = y .1 }
+
+  pass-alike : Zeros params → (at : Search) (to : FullSearch) → AlikeSearches at to → Reached (pass params distorted at) → AlikeSearches (pass params distorted at) (full.pass params distorted to)
+  pass-alike zs at to h r =
+      let f = behind at r in
+      let s = step-alike params zs distorted (at .xy) (to .xy) (h .xys) (f .x) (f .y) in
+      unfold pass full.pass in
+      go (small (by at)) (full.small (full.step-from params distorted (to .xy))) _ _ _ _ (small-alike (s .x) (s .y))
+      (record { xys = h .xys; counts = h .counts; ends = refl })
+      (record { xys = record { x = h .xys .x ⟨⊖⟩ s .x; y = h .xys .y ⟨⊖⟩ s .y }; counts = ap (λ (n : ℕ). n + 1) (h .counts); ends = refl })
+    where
+      go : (b b' : Bool) (s t : Search) (s' t' : FullSearch) → b ≡ b' → AlikeSearches s s' → AlikeSearches t t' → AlikeSearches (cond b s t) (cond b' s' t')
+      go true true s t s' t' e h k = h
+      go true false s t s' t' e h k = absurd (true≢false e)
+      go false true s t s' t' e h k = absurd (false≢true e)
+      go false false s t s' t' e h k = k
+
+-- ---- all passes
+
+-- where the search ends well, each pass set out well: after the next pass, and from the start
+module _ {S : Type 0} (pass : S → S) (ended : S → Bool) (Ok : S → Type 0) (back : (s : S) → Ok (pass s) → Ok s) where
+  from-start : (n : ℕ) (s : S) → Ok (passes pass ended n s) → Ok s
+  unfolding passes
+  from-start zero s h = h
+  from-start (suc n) s h = back s (go (ended (pass s)) (from-start n (pass s)) h)
+    where
+      go : (b : Bool) → (Ok (passes pass ended n (pass s)) → Ok (pass s)) → Ok (cond b (pass s) (passes pass ended n (pass s))) → Ok (pass s)
+      go true k h = h
+      go false k h = k h
+
+  pub from-next : (n : ℕ) (s : S) (b : Bool) → Ok (cond b (pass s) (passes pass ended n (pass s))) → Ok (pass s)
+  from-next n s true h = h
+  from-next n s false h = from-start n (pass s) h
+
+-- two searches whose passes keep a relation, as long as what the first ends at is good: they end at what is related
+module _ {S F : Type 0} (pass : S → S) (ended : S → Bool) (pass' : F → F) (ended' : F → Bool) (Ok : S → Type 0) (Rel : S → F → Type 0)
+    (back : (s : S) → Ok (pass s) → Ok s) (ends : (s : S) (f : F) → Rel s f → ended s ≡ ended' f) (one : (s : S) (f : F) → Rel s f → Ok (pass s) → Rel (pass s) (pass' f)) where
+  passes-alike : (n : ℕ) (s : S) (f : F) → Rel s f → Ok (passes pass ended n s) → Rel (passes pass ended n s) (passes pass' ended' n f)
+  unfolding passes
+  passes-alike zero s f r h = r
+  passes-alike (suc n) s f r h =
+      let t = one s f r (from-next pass ended Ok back n s (ended (pass s)) h) in
+      go (ended (pass s)) (ended' (pass' f)) (ends (pass s) (pass' f) t) t (passes-alike n (pass s) (pass' f) t) h
+    where
+      go :
+          (b b' : Bool) → b ≡ b' → Rel (pass s) (pass' f) → (Ok (passes pass ended n (pass s)) → Rel (passes pass ended n (pass s)) (passes pass' ended' n (pass' f)))
+          → Ok (cond b (pass s) (passes pass ended n (pass s))) → Rel (cond b (pass s) (passes pass ended n (pass s))) (cond b' (pass' f) (passes pass' ended' n (pass' f)))
+      go true true e t k h = t
+      go true false e t k h = absurd (true≢false e)
+      go false true e t k h = absurd (false≢true e)
+      go false false e t k h = k h
+
+-- ---- Newton
+
+newton-alike : (params : BrownConradyParams) → Zeros params → (distorted : Point) → Reached (newton params distorted) → AlikeSearches (newton params distorted) (full.newton params distorted)
+newton-alike params zs distorted h =
+    passes-alike (pass params distorted) ended (full.pass params distorted) full.ended Reached AlikeSearches (λ s r. behind params distorted s r .from) (λ s f r. r .ends) (pass-alike params distorted zs) full.limit (start distorted) (full.start distorted)
+    (record { xys = record { x = ≐-refl; y = ≐-refl }; counts = refl; ends = refl }) h
+
+-- where what Newton leaves is finite, so is the point where it ended
+pub record Ended (params : BrownConradyParams) (distorted : Point) : Type 0 where
+  pub reached : Reached (newton params distorted)
+  pub xys : AlikePoints (newton params distorted .xy) (full.newton params distorted .xy)
+  pub updates : newton params distorted .updates ≡ full.newton params distorted .updates
+  pub flag : small (f-xy params distorted (newton params distorted .xy)) ≡ full.flag params distorted (full.newton params distorted .xy)
+
+pub newton-ended : (params : BrownConradyParams) → Zeros params → (distorted : Point) → T (finite (f-xy params distorted (newton params distorted .xy) .0)) → Ended params distorted
+newton-ended params zs distorted t =
+    let p = newton params distorted .xy in
+    let sent = difference-finite _ _ t .0 in
+    let both = sum-finite _ _ (powers params p sent .r2) in
+    let r : Reached (newton params distorted) = record { x = product-finite _ _ (both .0) .0; y = product-finite _ _ (both .1) .0 } in
+    let s = newton-alike params zs distorted r in
+    let to = distortion-alike params zs p (full.newton params distorted .xy) (s .xys) sent in
+    record { reached = r; xys = s .xys; updates = s .counts; flag = small-alike (to .x ⟨⊖⟩ its (distorted .0)) (to .y ⟨⊖⟩ its (distorted .1)) }

@@ -1,0 +1,4 @@
+pub mod Terms
+pub mod Full
+pub mod Path
+pub mod Laws

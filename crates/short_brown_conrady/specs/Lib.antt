@@ -1,0 +1,4 @@
+pub mod Polynomial
+pub mod ShortBrownConrady
+pub mod Path
+pub mod Answers
