@@ -26,7 +26,7 @@ static const size_t counts[4] = {4, 6, 8, 12};
 
 static float table[FLOATS];
 static int16_t sixteen[FLOATS];
-static uint8_t job[LENS_JOB_BYTES], job16[LENS_JOB_BYTES], answer[200];
+static uint8_t job[LENS_JOB_BYTES], job16[LENS_JOB_BYTES], answer[LENS_JACOBIAN_BYTES];
 static lens_observation list[2] = {{.pixel_u = 1}, {.pixel_u = 2}};
 static uint8_t model, no;
 
@@ -42,8 +42,8 @@ static uint8_t nothing(void) { return 0; }
 
 static void distort(void) { no = CALL(lens_distort)(model, bytes(), length(), 0.1, 0.2, answer, 16); }
 static void undistort(void) { no = CALL(lens_undistort)(model, bytes(), length(), 1, 2, answer, 24); }
-static void by_point(void) { no = CALL(lens_dx_distort_x)(model, bytes(), length(), 0.1, 0.2, answer, 200); }
-static void by_params(void) { no = CALL(lens_dx_distort_params)(model, bytes(), length(), 0.1, 0.2, answer, 200); }
+static void by_point(void) { no = CALL(lens_dx_distort_x)(model, bytes(), length(), 0.1, 0.2, answer, LENS_JACOBIAN_BYTES); }
+static void by_params(void) { no = CALL(lens_dx_distort_params)(model, bytes(), length(), 0.1, 0.2, answer, LENS_JACOBIAN_BYTES); }
 static void job_new(void) { no = CALL(lens_job_new)(model, bytes(), length(), SIDE, SIDE, 0, job, sizeof job); }
 static void turn(void) { no = CALL(lens_turn)(job, sizeof job, table, FLOATS, UINT64_MAX, answer, LENS_TURN_BYTES); }
 static void turn16(void) { no = CALL(lens_turn16)(job16, sizeof job16, sixteen, FLOATS, UINT64_MAX, answer, LENS_TURN_BYTES); }

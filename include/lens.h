@@ -128,12 +128,12 @@ static inline const uint8_t *lens_bytes_of(const double *doubles) {
 #define LENS_POINT_SETTLED 20
 #define LENS_POINT_BYTES 24
 
-/* A Jacobian: 24 doubles, of which row u is the first n and row v the next n, and the rest zeros; then n, the count of
+/* A Jacobian: 32 doubles, of which row u is the first n and row v the next n, and the rest zeros; then n, the count of
  * columns, a uint64_t. */
 #define LENS_JACOBIAN_ROW_U 0
 #define LENS_JACOBIAN_ROW_V(n) (8 * (n))
-#define LENS_JACOBIAN_COLUMNS 192
-#define LENS_JACOBIAN_BYTES 200
+#define LENS_JACOBIAN_COLUMNS 256
+#define LENS_JACOBIAN_BYTES 264
 
 /* The pixel of the point (x, y) on the plane z = 1. answer_length: LENS_PIXEL_BYTES.
  * Returns 0, 1, 3, 4, 5, 7 or 11. */

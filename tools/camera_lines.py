@@ -15,7 +15,7 @@ ROW = range(301)  # the n of a row
 FILL = 0xA5
 ROOT, TANGENT, OBSERVE, PUT, ARCTANGENT = range(4, 9)  # after the four operations
 BY_LENT, BY_HANDED, BY_BOTH, BY_MODEL = 16, 32, 48, 64  # added for a row
-SIZES = (16, 24, 200, 200)  # of the operations' answers
+SIZES = (16, 24, 264, 264)  # of the operations' answers
 
 
 def heading(words):

@@ -154,7 +154,7 @@ def self_test():
     lens = struct.pack("<4d", 600, 600, 1, 0.5)
     assert call(DISTORT, 0, lens, 16, 0.5, -0.25) == (0, struct.pack("<2d", 301, -149.5))
     assert call(UNDISTORT, 0, lens, 24, 301.0, -149.5) == (0, struct.pack("<2d", 0.5, -0.25) + bytes([0, 0, 0, 0, 1, 0, 0, 0]))
-    assert call(BY_POINT, 0, lens, 200, 0.5, -0.25)[1][192:] == bytes([2, 0, 0, 0, 0, 0, 0, 0])
+    assert call(BY_POINT, 0, lens, 264, 0.5, -0.25)[1][256:] == bytes([2, 0, 0, 0, 0, 0, 0, 0])
     assert call(DISTORT, 4, b"", 0, math.nan, 0.0) == (1, None)
     assert call(BY_PARAMS, 3, b"", 0, math.nan, 0.0) == (3, None)
     assert call(DISTORT, 3, lens, 0, math.nan, 0.0) == (3, None)

@@ -1,4 +1,6 @@
-"""The four lens models, in another language than ours: what the vectors are made with.
+"""The lens models, in another language than ours: what the vectors are made with.
+
+    python3 tools/lens_models.py --self-test   holds bc12 to bc and to difference quotients, and says what it found
 
 From the text of the Rust, each operation by itself and under its names, so that the two can be read
 side by side: nothing is shared that the Rust doesn't share. What it leaves open (refusals, updates,
@@ -8,7 +10,9 @@ by agreement, so their whole-number text is copied here. A Python float is an f6
 and never stop; `div` and `root` say what / and sqrt are where Python would stop instead.
 """
 import math
+import random
 import struct
+import sys
 
 EPS = 1e-6
 MODELS = ("affine", "eucm", "kb", "bc")
@@ -16,7 +20,7 @@ OPERATIONS = ("distort", "undistort", "dx_distort_x", "dx_distort_params")
 AFFINE, EUCM, KB, BC = range(4)
 DISTORT, UNDISTORT, BY_POINT, BY_PARAMS = range(4)
 COUNTS = (4, 6, 8, 12)  # parameters of each model
-ENTRIES = 24  # of a Jacobian, whatever its columns
+ENTRIES = 32  # of a Jacobian, whatever its columns
 
 
 def bits(x):
@@ -409,13 +413,13 @@ def norm(x, y):
     return root(x * x + y * y)
 
 
-def bc_undistort_impl(coefficients, u, v):
+def bc_undistort_impl(coefficients, u, v, distortion=bc_distortion_impl, jacobian=bc_newton_jacobian):
     x, y = u, v
     updates = 0
     for _ in range(50):
-        fu, fv = bc_distortion_impl(coefficients, x, y)
+        fu, fv = distortion(coefficients, x, y)
         fu, fv = fu - u, fv - v
-        a, b, c, d = bc_newton_jacobian(coefficients, x, y)
+        a, b, c, d = jacobian(coefficients, x, y)
         s = div(1.0, a * d - b * c)
         step_x = d * s * fu + -b * s * fv
         step_y = -c * s * fu + a * s * fv
@@ -424,7 +428,7 @@ def bc_undistort_impl(coefficients, u, v):
         x = x - step_x
         y = y - step_y
         updates += 1
-    fu, fv = bc_distortion_impl(coefficients, x, y)
+    fu, fv = distortion(coefficients, x, y)
     return x, y, updates, norm(fu - u, fv - v) <= EPS
 
 
@@ -490,6 +494,56 @@ def bc_dx_distort_params(params, x, y):
     return tuple(rows)
 
 
+# ---- bc12: OpenCV's text has the prism's terms behind bc's, left to right. No Rust has it
+
+
+def bc12_distortion(coefficients, x, y):
+    s1, s2, s3, s4 = coefficients[8:]
+    xd0, yd0 = bc_distortion_impl(coefficients[:8], x, y)
+    r2 = x * x + y * y
+    return xd0 + s1 * r2 + s2 * (r2 * r2), yd0 + s3 * r2 + s4 * (r2 * r2)
+
+
+def bc12_prism_slopes(coefficients, x, y):
+    """Of what the prism adds: u by x and y, v by x and y."""
+    s1, s2, s3, s4 = coefficients[8:]
+    r2 = x * x + y * y
+    u = 2.0 * (s1 + 2.0 * s2 * r2)
+    v = 2.0 * (s3 + 2.0 * s4 * r2)
+    return u * x, u * y, v * x, v * y
+
+
+def bc12_newton_jacobian(coefficients, x, y):
+    ours = bc_newton_jacobian(coefficients[:8], x, y)
+    return tuple(a + t for a, t in zip(ours, bc12_prism_slopes(coefficients, x, y)))
+
+
+def bc12_distort(params, x, y):
+    return affine_distort(params[:4], *bc12_distortion(params[4:], x, y))
+
+
+def bc12_undistort(params, u, v):
+    distorted = affine_undistort(params[:4], u, v)
+    return bc_undistort_impl(params[4:], *distorted, bc12_distortion, bc12_newton_jacobian)
+
+
+def bc12_dx_distort_x(params, x, y):
+    ux, uy, vx, vy = bc12_prism_slopes(params[4:], x, y)
+    (a, b), (c, d) = bc_dx_distort_x(params[:12], x, y)
+    return [a + ux * params[0], b + uy * params[0]], [c + vx * params[1], d + vy * params[1]]
+
+
+def bc12_dx_distort_params(params, x, y):
+    u, v = bc_dx_distort_params(params[:12], x, y)
+    u[0], v[1] = bc12_distortion(params[4:], x, y)
+    r2 = x * x + y * y
+    r4 = r2 * r2
+    return u + [r2 * params[0], r4 * params[0], 0.0, 0.0], v + [0.0, 0.0, r2 * params[1], r4 * params[1]]
+
+
+BC12_FUNCTIONS = (bc12_distort, bc12_undistort, bc12_dx_distort_x, bc12_dx_distort_params)
+
+
 def direct(undistort):
     """A model that finds the point without a search: 0 updates, and the flag says yes."""
     return lambda params, u, v: undistort(params, u, v) + (0, True)
@@ -522,3 +576,105 @@ def answer(model, operation, params, x, y):
     if not all(math.isfinite(z) for z in numbers):
         return 11, None
     return 0, given
+
+
+# ---- bc12 held to bc and to difference quotients. The other models are tested by the scripts that ask them
+
+
+def same_numbers(xs, ys):
+    """Number by number, NaN to NaN, the sign of a zero aside."""
+    return len(xs) == len(ys) and all(x == y or (x != x and y != y) for x, y in zip(xs, ys))
+
+
+def flat(operation, given):
+    return tuple(given[0] + given[1]) if operation >= BY_POINT else tuple(given)
+
+
+def held_to_bc(functions, rng, count):
+    """How many answers of each operation were bc's with the prism at zero, updates and flag too; None if one wasn't
+    where bc answers."""
+    told = [0, 0, 0]
+    for n in range(count):
+        far = 10.0 ** rng.choice([0, 0, 0, 1, 3, 80, 160]) if n % 2 else 1.0
+        params = [rng.uniform(200, 900), -rng.uniform(200, 900), rng.uniform(-9, 9), 0.0]
+        params += [rng.choice([0.0, -0.0, rng.uniform(-1, 1), rng.uniform(-1e-3, 1e-3)]) for _ in range(8)]
+        params += [rng.choice([0.0, -0.0]) for _ in range(4)]
+        at = [rng.choice([0.0, -0.0, rng.uniform(-1, 1) * far]) for _ in range(2)]
+        for operation in (DISTORT, UNDISTORT, BY_POINT):
+            asked = at if operation != UNDISTORT else [500 * z for z in at]
+            number, given = answer(BC, operation, params[:12], *asked)
+            if number == 0:
+                if not same_numbers(flat(operation, given), flat(operation, functions[operation](params, *asked))):
+                    return None
+                told[operation] += 1
+    return told
+
+
+def farthest_from_quotients(functions, rng, count):
+    """How far an entry of either Jacobian is from its difference quotient at most, in parts of the row's largest."""
+    worst = 0.0
+    for _ in range(count):
+        params = [rng.uniform(200, 900), -rng.uniform(200, 900), rng.uniform(-9, 9), rng.uniform(-9, 9)]
+        params += [rng.uniform(-0.1, 0.1) for _ in range(12)]
+        at = [rng.uniform(-1, 1), rng.uniform(-1, 1)]
+        for operation, moved in ((BY_PARAMS, params), (BY_POINT, at)):
+            rows = functions[operation](params, *at)
+            for place in range(len(moved)):
+                kept, h = moved[place], 2.0**-20
+                moved[place] = kept + h
+                above = functions[DISTORT](params, *at)
+                moved[place] = kept - h
+                below = functions[DISTORT](params, *at)
+                moved[place] = kept
+                for row, a, b in zip(rows, above, below):
+                    worst = max(worst, abs(row[place] - (a - b) / (2 * h)) / max(map(abs, row)))
+    return worst
+
+
+def there_and_back(functions, rng, count):
+    """How many points undistort finds again, of those whose pixel an ordinary prism gives, and by how many updates in
+    all. The flag may say no: the last step isn't taken, so that what is left may be a little above EPS."""
+    found = total = 0
+    for _ in range(count):
+        params = [600.0, 600.0, 320.0, 240.0] + [rng.uniform(-0.05, 0.05) for _ in range(8)]
+        params += [rng.uniform(-0.02, 0.02) for _ in range(4)]
+        x, y = rng.uniform(-0.5, 0.5), rng.uniform(-0.5, 0.5)
+        a, b, updates, _ = functions[UNDISTORT](params, *functions[DISTORT](params, x, y))
+        found += abs(a - x) < 1e-5 and abs(b - y) < 1e-5
+        total += updates
+    return found, total
+
+
+def self_test():
+    def tried(functions):
+        rng = random.Random(12)
+        told = held_to_bc(functions, rng, 20_000)
+        return told, farthest_from_quotients(functions, rng, 300), there_and_back(functions, rng, 1_000)
+
+    told, worst, (found, total) = tried(BC12_FUNCTIONS)
+    assert told and min(told) > 5_000 and worst < 1e-8 and found == 1_000, (told, worst, found)
+    # and each wrong model is told from it
+    distort, undistort, by_point, by_params = BC12_FUNCTIONS
+
+    def swapped(params):
+        return [*params[:13], params[14], params[13], params[15]]
+
+    def bare(params, u, v):
+        slopes = lambda coefficients, x, y: bc_newton_jacobian(coefficients[:8], x, y)
+        return bc_undistort_impl(params[4:], *affine_undistort(params[:4], u, v), bc12_distortion, slopes)
+
+    def shifted(params, x, y):
+        return distort([*params[:12], *(s + 1e-3 for s in params[12:])], x, y)
+
+    assert tried((shifted, undistort, by_point, by_params))[0] is None
+    assert tried((lambda p, x, y: distort(swapped(p), x, y), undistort, by_point, by_params))[1] > 1e-4
+    assert tried((distort, bare, by_point, by_params))[2][1] > total + 100
+    print(f"bc12 with a prism of zeros: bc's answers {told[0]}, {told[1]}, {told[2]} times, by operation")
+    print(f"bc12's Jacobians: at most {worst:.1e} of a row from their difference quotients")
+    print(f"bc12 there and back: {found} of 1000 points, by {total} updates")
+
+
+if __name__ == "__main__":
+    if sys.argv[1:] != ["--self-test"]:
+        sys.exit(__doc__)
+    self_test()

@@ -188,7 +188,7 @@ impl Question {
                 given.bytes[16..20].copy_from_slice(&trace.updates.to_le_bytes());
                 given.bytes[20..24].copy_from_slice(&[trace.settled() as u8, 0, 0, 0]);
             }
-            _ => given.bytes[192..200].copy_from_slice(&(answer.columns as u64).to_le_bytes()),
+            _ => given.bytes[256..264].copy_from_slice(&(answer.columns as u64).to_le_bytes()),
         }
         given
     }

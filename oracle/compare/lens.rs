@@ -51,7 +51,7 @@ extern "C" {
 }
 
 /// The bytes of each operation's answer.
-pub const LENGTHS: [usize; 4] = [16, 24, 200, 200];
+pub const LENGTHS: [usize; 4] = [16, 24, 264, 264];
 
 pub fn call(operation: usize, model: u8, params: &[u8], at: [f64; 2], answer: &mut [u8]) -> u8 {
     let f = [lens_distort, lens_undistort, lens_dx_distort_x, lens_dx_distort_params][operation];

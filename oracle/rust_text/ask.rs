@@ -29,7 +29,7 @@ impl Angles for Platform {
 /// Row by row with `columns` in each row; a point or pixel is one column.
 #[derive(Clone, Copy)]
 pub struct Answer {
-    pub numbers: [f64; 24],
+    pub numbers: [f64; 32],
     pub columns: usize,
 }
 
@@ -44,7 +44,7 @@ fn pair<A>(v: SVector<Num<A>, 2>) -> Answer {
 }
 
 fn rows<A, const C: usize>(m: SMatrix<Num<A>, 2, C>) -> Answer {
-    let mut numbers = [0.0; 24];
+    let mut numbers = [0.0; 32];
     for (place, entry) in numbers.iter_mut().zip(m.0.iter().flatten()) {
         *place = entry.0;
     }

@@ -66,17 +66,17 @@ entry-number (x ∷ l) (suc i) d e h = entry-number l i d (both (finite x) (all-
 -- ---- so many of them are put
 
 pub record Entered (out₀ : List ℕ) (entries : List Float) (out : List ℕ) (i : ℕ) : Type 0 where
-  pub count : length entries ≡ 24
+  pub count : length entries ≡ 32
   pub sound : all-finite entries ≡ true
   pub so-far : Floatwise out₀ 0 entries out i
 
-pub none-entered : (out : List ℕ) (entries : List Float) → (192 ≤ length out) × ((length entries ≡ 24) × (all-finite entries ≡ true)) → Entered out entries out 0
+pub none-entered : (out : List ℕ) (entries : List Float) → (256 ≤ length out) × ((length entries ≡ 32) × (all-finite entries ≡ true)) → Entered out entries out 0
 none-entered out entries h = record { count = h .1 .0; sound = h .1 .1; so-far = no-float out 0 entries (omega (arith, h .1 .0, h .0)) }
 
 pub next-entered :
     (out₀ : List ℕ) (entries : List Float) (out : List ℕ) (i : ℕ) (d : Float) (after : List ℕ) →
     Entered out₀ entries out i →
-    i < 24 →
+    i < 32 →
     after ≡ put (8 * i) (bytes 8 (toBits binary64 (getD entries i d))) out →
     Entered out₀ entries after (i + 1)
 next-entered out₀ entries out i d after p h e =
@@ -93,7 +93,7 @@ next-entered out₀ entries out i d after p h e =
     }
 
 pub all-entered :
-    (out₀ : List ℕ) (entries : List Float) (out : List ℕ) (i : ℕ) → Entered out₀ entries out i → 24 ≤ i → out ≡ put 0 (floats entries) out₀
+    (out₀ : List ℕ) (entries : List Float) (out : List ℕ) (i : ℕ) → Entered out₀ entries out i → 32 ≤ i → out ≡ put 0 (floats entries) out₀
 all-entered out₀ entries out i p h =
     every-float out₀ 0 entries out i (p .so-far) (omega (arith, h, p .count))
     ∙ sym (fitting 0 (floats entries) out₀ (omega (arith, p .so-far .fits, length-floats entries)))

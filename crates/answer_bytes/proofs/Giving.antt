@@ -45,13 +45,13 @@ point-put s lent e =
 
 pub jacobian-put :
     (j : Jacobian) (lent : List ℕ) →
-    length (j .entries) ≡ 24 →
-    length lent ≡ 200 →
-    put 192 (bytes 8 (j .columns)) (put 0 (floats (j .entries)) lent) ≡ jacobian-bytes j
+    length (j .entries) ≡ 32 →
+    length lent ≡ 264 →
+    put 256 (bytes 8 (j .columns)) (put 0 (floats (j .entries)) lent) ≡ jacobian-bytes j
 jacobian-put j lent n e =
     let la : length (floats (j .entries)) ≡ 8 * length (j .entries) = length-floats (j .entries) in
     let lb : length (bytes 8 (j .columns)) ≡ 8 = length-bytes 8 (j .columns) in
-    put-put 0 (floats (j .entries)) (bytes 8 (j .columns)) lent 192 (omega (arith, la, n)) (omega (arith, la, lb, n, e))
+    put-put 0 (floats (j .entries)) (bytes 8 (j .columns)) lent 256 (omega (arith, la, n)) (omega (arith, la, lb, n, e))
     ∙ put-whole (floats (j .entries) ++ bytes 8 (j .columns)) lent (omega (arith, la, lb, n, e, length-append (floats (j .entries)) (bytes 8 (j .columns))))
 
 -- ---- a call, from its parts

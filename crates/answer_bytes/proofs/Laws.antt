@@ -71,7 +71,7 @@ pub refused-untouched :
     × Untouched (dx-distort-params-bytes model params x y lent) lent
 unfolding distort-bytes undistort-bytes dx-distort-x-bytes dx-distort-params-bytes
 refused-untouched model params lent x y =
-    (refused-kept 16 _ _ lent, refused-kept 24 _ _ lent, refused-kept 200 _ _ lent, refused-kept 200 _ _ lent)
+    (refused-kept 16 _ _ lent, refused-kept 24 _ _ lent, refused-kept 264 _ _ lent, refused-kept 264 _ _ lent)
 
 -- ---- from a camera to its answer in the buffer
 
@@ -104,20 +104,20 @@ module _ (model : ℕ) (params lent : List ℕ) (x y : Float) (known : model ≤
       by-camera (λ (a : Asked). undistorted a record { 0 = x; 1 = y }) (λ (d : Undistorted). given-point (told d) lent) (points.At s) e
       ∙ filled 24 0 (point-bytes s) lent refl f
 
-  -- Where it answers a Jacobian, 200 bytes are that, by the point and by the parameters.
+  -- Where it answers a Jacobian, 264 bytes are that, by the point and by the parameters.
   pub dx-distort-x-answered :
       dx-distort-x camera record { 0 = x; 1 = y } .number ≡ 0 →
-      length lent ≡ 200 →
+      length lent ≡ 264 →
       dx-distort-x-bytes model params x y lent ≡ given 0 (jacobian-bytes (dx-distort-x camera record { 0 = x; 1 = y } .jacobian))
   unfolding dx-distort-x-bytes
-  dx-distort-x-answered e f = is-read (λ (a : Asked). give-jacobian (slopes a record { 0 = x; 1 = y }) lent) ∙ filled 200 _ _ lent e f
+  dx-distort-x-answered e f = is-read (λ (a : Asked). give-jacobian (slopes a record { 0 = x; 1 = y }) lent) ∙ filled 264 _ _ lent e f
 
   pub dx-distort-params-answered :
       dx-distort-params camera record { 0 = x; 1 = y } .number ≡ 0 →
-      length lent ≡ 200 →
+      length lent ≡ 264 →
       dx-distort-params-bytes model params x y lent ≡ given 0 (jacobian-bytes (dx-distort-params camera record { 0 = x; 1 = y } .jacobian))
   unfolding dx-distort-params-bytes
-  dx-distort-params-answered e f = is-read (λ (a : Asked). give-jacobian (parameter-slopes a record { 0 = x; 1 = y }) lent) ∙ filled 200 _ _ lent e f
+  dx-distort-params-answered e f = is-read (λ (a : Asked). give-jacobian (parameter-slopes a record { 0 = x; 1 = y }) lent) ∙ filled 264 _ _ lent e f
 
 -- ---- what a caller reads out of an answer's bytes
 
@@ -162,7 +162,7 @@ module _ (s : Settled) where
       drop-at (floats numbers ++ bytes 4 (s .updates)) tail 20
       (omega (arith, length-append (floats numbers) (bytes 4 (s .updates)), length-floats numbers, length-bytes 4 (s .updates)))
 
--- Out of a Jacobian's, its k-th number at 8k, and the count of columns at 192.
+-- Out of a Jacobian's, its k-th number at 8k, and the count of columns at 256.
 pub entry-read :
     (j : Jacobian) (k : ℕ) (d : Float) →
     k < length (j .entries) →
@@ -170,8 +170,8 @@ pub entry-read :
     float (jacobian-bytes j) (8 * k) ≡ getD (j .entries) k d
 entry-read j k d h ok = float-at (j .entries) k d (bytes 8 (j .columns)) h ok
 
-pub columns-read : (j : Jacobian) → length (j .entries) ≡ 24 → j .columns < 256 ^ 8 → word (jacobian-bytes j) 192 ≡ j .columns
+pub columns-read : (j : Jacobian) → length (j .entries) ≡ 32 → j .columns < 256 ^ 8 → word (jacobian-bytes j) 256 ≡ j .columns
 columns-read j n h =
-    ap (λ (l : List ℕ). value (take 8 l)) (drop-at (floats (j .entries)) (bytes 8 (j .columns)) 192 (omega (arith, length-floats (j .entries), n)))
+    ap (λ (l : List ℕ). value (take 8 l)) (drop-at (floats (j .entries)) (bytes 8 (j .columns)) 256 (omega (arith, length-floats (j .entries), n)))
     ∙ ap value (take-all 8 (bytes 8 (j .columns)) (omega (arith, length-bytes 8 (j .columns))))
     ∙ value-bytes 8 (j .columns) h

@@ -33,11 +33,11 @@ point-bytes settled =
     floats (settled .point .0 ∷ settled .point .1 ∷ []) ++ bytes 4 (settled .updates)
     ++ flag-number (settled .flag) ∷ 0 ∷ 0 ∷ 0 ∷ []
 
--- the 24 entries row by row, the columns
+-- the 32 entries row by row, the columns
 abbrev pub jacobian-bytes : Jacobian → List ℕ
 jacobian-bytes jacobian = floats (jacobian .entries) ++ bytes 8 (jacobian .columns)
 
--- ---- an answer and its number, before a lent buffer of 16, 24 or 200 bytes
+-- ---- an answer and its number, before a lent buffer of 16, 24 or 264 bytes
 
 abbrev pub give-pixel : ℕ → Pixel → List ℕ → Given
 give-pixel number pixel lent = answered 16 number (pixel-bytes pixel) lent
@@ -46,7 +46,7 @@ abbrev pub give-point : ℕ → Settled → List ℕ → Given
 give-point number settled lent = answered 24 number (point-bytes settled) lent
 
 abbrev pub give-jacobian : Differentiated → List ℕ → Given
-give-jacobian d lent = answered 200 (d .number) (jacobian-bytes (d .jacobian)) lent
+give-jacobian d lent = answered 264 (d .number) (jacobian-bytes (d .jacobian)) lent
 
 -- ---- the camera's operation, or why there is no camera
 

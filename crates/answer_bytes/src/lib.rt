@@ -210,7 +210,7 @@ fn parameter_slopes(model: u8, params: &[u8], point: Point) -> Differentiated
 
 // Puts the bit patterns of finite numbers at the start: none is a NaN, so that the compiler copies them as they are.
 fn put_entries(answer: &mut [u8], entries: &[f64; lens::ENTRIES])
-    requires { ⌜ (192 ≤ length (now answer)) × ((length (now entries) ≡ 24) × (all-finite (now entries) ≡ true)) ⌝ }
+    requires { ⌜ (256 ≤ length (now answer)) × ((length (now entries) ≡ 32) × (all-finite (now entries) ≡ true)) ⌝ }
     ensures { λ _. ⌜ now (answer .exit) ≡ put 0 (floats (now (entries .entry))) (now (answer .entry)) ⌝ }
 {
     let mut i = 0;
@@ -224,17 +224,17 @@ fn give_jacobian(told: Differentiated, answer: &mut [u8]) -> u8
     requires { ⌜ (told .number ≡ 0 → all-finite (told .jacobian .entries) ≡ true) ⌝ }
     ensures { λ r. ⌜ given r (now (answer .exit)) ≡ give-jacobian told (now (answer .entry)) ⌝ }
 {
-    let code = given::code(told.number, answer.len() == 200);
+    let code = given::code(told.number, answer.len() == 264);
     if code == 0 {
         let jacobian = told.jacobian;
         let entries = jacobian.entries;
         put_entries(answer, &entries);
-        little_endian::put(answer, 192, 8, jacobian.columns as u64);
+        little_endian::put(answer, 256, 8, jacobian.columns as u64);
     }
     code
 }
 
-// The derivative of distort by the point: 24 numbers row by row, then how many columns, 200 bytes.
+// The derivative of distort by the point: 32 numbers row by row, then how many columns, 264 bytes.
 pub fn dx_distort_x(model: u8, params: &[u8], x: f64, y: f64, answer: &mut [u8]) -> u8
     ensures { λ r. ⌜ given r (now (answer .exit)) ≡
         dx-distort-x-bytes model (now (params .entry)) x y (now (answer .entry)) ⌝ }

@@ -1,9 +1,7 @@
 -- What a caller may rely on, of the definitions of specs/ and of the contracts of src/. Assumes nothing.
 use mathlib.Core.Path.{_≡_, refl, sym, _∙_}
-use mathlib.Core.Bool.{Bool, true, false, cond}
 use mathlib.Core.List.{List, [], _∷_, map}
-use Prim.Native.Nat.{ℕ, suc, _≤_}
-use native.Mathlib.Omega.{arith}
+use Prim.Native.Nat.{ℕ, _≤_}
 use lib.Dec.{T}
 use lib.IntN.{pos}
 use lib.Ieee.{binary64, add, sub, mul, div, neg, le, ofBits, ofInt}
@@ -21,27 +19,45 @@ use Rattle.lens.specs.Radius.{squared-radius}
 use Rattle.lens.specs.Undistorted.{direct}
 use Rattle.lens.specs.declared.Pixel.{Pixel}
 use Rattle.lens.specs.declared.Point.{Point}
-use Rattle.lens.proofs.Passes.{passes-most}
 use Rattle.affine.specs.Affine as affine
 use Rattle.brown_conrady.specs.AsWritten.{dx-distort-x-as-written}
-use Rattle.brown_conrady.specs.BrownConrady.{camera, affine-params, distortion, distort, shared-at, slopes-at, dx-distort-x, f-xy, solve, small, step-from, pass, limit, start, ended, undistort}
+use Rattle.brown_conrady.specs.BrownConrady.{camera, affine-params, distortion, distort, shared-at, slopes-at, dx-distort-x, f-xy, solve, small, step-from, pass-by, undistort}
 use Rattle.brown_conrady.specs.Formula as formula
 use Rattle.brown_conrady.specs.Formula.{at, coordinates, parameters, cdist2, dx-distort-params}
 use Rattle.brown_conrady.specs.declared.BrownConradyParams.{BrownConradyParams}
 use Rattle.brown_conrady.specs.declared.Offset.{Offset}
-use Rattle.brown_conrady.specs.declared.Search.{Search}
 use Rattle.brown_conrady.proofs.NoRoot.{no-root}
 use Rattle.brown_conrady.proofs.SecondCopy.{same-copy}
+use Rattle.brown_conrady.proofs.Steps.{most-updates}
+use Rattle.brown_conrady.proofs.affine_params.Reads as affine-params-contract
+use Rattle.brown_conrady.proofs.parts_at.Reads as parts-at-contract
+use Rattle.brown_conrady.proofs.distortion.Reads as distortion-contract
+use Rattle.brown_conrady.proofs.slopes_at.Reads as slopes-at-contract
+use Rattle.brown_conrady.proofs.small.Reads as small-contract
+use Rattle.brown_conrady.proofs.solve.Reads as solve-contract
 use Rattle.brown_conrady.proofs.distort.Reads as distort-contract
 use Rattle.brown_conrady.proofs.undistort.Reads as undistort-contract
 use Rattle.brown_conrady.proofs.dx_distort_x.Reads as dx-distort-x-contract
 use Rattle.brown_conrady.proofs.dx_distort_params.Reads as dx-distort-params-contract
 
--- Any two answers to one call that the contract of an operation permits are equal, for each of the four.
+-- Any two answers to one call that the contract of an operation permits are equal, for each of the four,
 pub determined :
     Determined distort-contract.Post × Determined undistort-contract.Post
     × Determined dx-distort-x-contract.Post × Determined dx-distort-params-contract.Post
 determined = (λ κ a s s' r r' p q. p ∙ sym q, λ κ a s s' r r' p q. p ∙ sym q, λ κ a s s' r r' p q. p ∙ sym q, λ κ a s s' r r' p q. p ∙ sym q)
+
+-- and for each of the parts that bc12 shares.
+pub parts-determined :
+    Determined affine-params-contract.Post × Determined parts-at-contract.Post × Determined distortion-contract.Post
+    × Determined slopes-at-contract.Post × Determined small-contract.Post × Determined solve-contract.Post
+parts-determined = (
+  λ κ a s s' r r' p q. p ∙ sym q,
+  λ κ a s s' r r' p q. p ∙ sym q,
+  λ κ a s s' r r' p q. p ∙ sym q,
+  λ κ a s s' r r' p q. p ∙ sym q,
+  λ κ a s s' r r' p q. p ∙ sym q,
+  λ κ a s s' r r' p q. p ∙ sym q,
+)
 
 -- A norm is at most EPS exactly where its square, as rounded before the root is taken, is at most the f64 nearest to 1e-12. So the code takes no root.
 pub small-squared : (offset : Offset) → small offset ≡ le (squared-radius (offset .0) (offset .1)) (f64 0x3d71_9799_812d_ea11)
@@ -92,7 +108,8 @@ unfolding denominators
 one-denominator = (refl, refl)
 
 module _ {ρ : ℕ → Fraction} (numbers : Numbers ρ) (defined : ¬ (exact ρ cdist2 ≈ whole 0)) where
-  derived : (vs : List ℕ) (a : Term) (s : List Term) → T (tests cdist2 (gradient vs a) s) → Alike ρ (gradient vs a) s
+  -- a gradient is a list of terms if the solver finds each alike
+  pub derived : (vs : List ℕ) (a : Term) (s : List Term) → T (tests cdist2 (gradient vs a) s) → Alike ρ (gradient vs a) s
   derived vs a s = rows numbers cdist2 tt defined (gradient vs a) s
 
   -- Wherever cdist2 isn't zero, each entry of dx_distort_params is the formal derivative of its row's coordinate of the pixel by its column's parameter: all twelve columns of both rows,
@@ -112,23 +129,11 @@ module _ {ρ : ℕ → Fraction} (numbers : Numbers ρ) (defined : ¬ (exact ρ 
 
 -- ---- how many updates
 
-abbrev updates : Search → ℕ
-updates at = at .updates
-
--- a pass makes at most one
-one : (params : BrownConradyParams) (distorted : Point) (at : Search) → updates (pass params distorted at) ≤ suc (updates at)
-unfolding pass
-one params distorted at = go (small (step-from params distorted (at .xy))) _ _ (omega arith) (omega arith)
-  where
-    go : (b : Bool) (s t : Search) → updates s ≤ suc (updates at) → updates t ≤ suc (updates at) → updates (cond b s t) ≤ suc (updates at)
-    go true s t p q = p
-    go false s t p q = q
-
 -- Every undistort takes at most 50 updates.
 pub updates-limit : (params : BrownConradyParams) (pixel : Pixel) → undistort params pixel .updates ≤ 50
 updates-limit params pixel =
     let distorted = affine.undistort (affine-params params) pixel .point in
-    passes-most (pass params distorted) ended updates (one params distorted) limit (start distorted)
+    most-updates (step-from params distorted) distorted
 
 -- The numbers to check by hand. The camera 1 1 0 0 sends (1, 1) to (3, 5) with p1 = 1 and the rest 0, and to (5, 3) with p2 = 1 instead. With all
 -- coefficients 0 it sends the pixel (3, 4) back to (3, 4), with 0 updates and the flag yes; and its derivative by the parameters at (1, 2) has r2 = 5, a1 = 4, a2 = 7, a3 = 13.
@@ -143,5 +148,5 @@ pub by-hand :
     ≡ twoRows
     (int 1 ∷ int 0 ∷ int 1 ∷ int 0 ∷ int 5 ∷ int 25 ∷ int 4 ∷ int 7 ∷ int 125 ∷ minus (int 5) ∷ minus (int 25) ∷ minus (int 125) ∷ [])
     (int 0 ∷ int 2 ∷ int 0 ∷ int 1 ∷ int 10 ∷ int 50 ∷ int 13 ∷ int 4 ∷ int 250 ∷ minus (int 10) ∷ minus (int 50) ∷ minus (int 250) ∷ []))
-unfolding passes pass step-from slopes-at shared-at distortion dx-distort-params rounded root le add sub mul div neg ofBits ofInt
+unfolding passes pass-by step-from slopes-at shared-at distortion dx-distort-params rounded root le add sub mul div neg ofBits ofInt
 by-hand = (refl, refl, refl, refl)

@@ -154,14 +154,17 @@ step-from params distorted xy =
     let s = slopes-at params xy in
     solve (s .c7 ⊗ s .ux) (s .c7 ⊗ s .uy) (s .c7 ⊗ s .vx) (s .c7 ⊗ s .vy) (f-xy params distorted xy)
 
--- 137 to 215: one pass, where a small step ends Newton and is not taken
-unfoldable pub pass : BrownConradyParams → Point → Search → Search
-pass params distorted at =
+-- 137 to 215: one pass of a Newton whose step at a point is `step-at`; a small step ends it and is not taken
+unfoldable pub pass-by : (Point → Offset) → Search → Search
+pass-by step-at at =
     let xy = at .xy in
-    let step = step-from params distorted xy in
+    let step = step-at xy in
     cond (small step)
     (record { xy = xy; updates = at .updates; ended = true })
     (record { xy = record { 0 = xy .0 ⊖ step .0; 1 = xy .1 ⊖ step .1 }; updates = at .updates + 1; ended = false })
+
+abbrev pub pass : BrownConradyParams → Point → Search → Search
+pass params distorted = pass-by (step-from params distorted)
 
 -- 136: how many updates there may be
 abbrev pub limit : ℕ

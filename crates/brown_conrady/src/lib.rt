@@ -30,7 +30,7 @@ pub struct BrownConradyParams {
 }
 
 // The first four, which are affine's.
-fn affine_params(params: BrownConradyParams) -> AffineParams
+pub fn affine_params(params: BrownConradyParams) -> AffineParams
     ensures { λ r. ⌜ r ≡ affine-params params ⌝ }
 {
     AffineParams {
@@ -43,19 +43,19 @@ fn affine_params(params: BrownConradyParams) -> AffineParams
 
 // What distortion and dx_distort_params share, by the names of the Rust's distortion_impl: powers of the radius, what
 // p1 and p2 multiply, the quotient's numerator, and 1 over its denominator.
-struct Parts {
-    r2: f64,
-    r4: f64,
-    r6: f64,
-    a1: f64,
-    a2: f64,
-    a3: f64,
-    cdist: f64,
-    icdist2: f64,
+pub struct Parts {
+    pub r2: f64,
+    pub r4: f64,
+    pub r6: f64,
+    pub a1: f64,
+    pub a2: f64,
+    pub a3: f64,
+    pub cdist: f64,
+    pub icdist2: f64,
 }
 
 // The same at a point.
-fn parts_at(params: BrownConradyParams, point: Point) -> Parts
+pub fn parts_at(params: BrownConradyParams, point: Point) -> Parts
     ensures { λ r. ⌜ r ≡ parts-at params point ⌝ }
 {
     let x = point.0;
@@ -76,7 +76,7 @@ fn parts_at(params: BrownConradyParams, point: Point) -> Parts
 }
 
 // Where the lens sends a point, on the z=1 plane too: the Rust's distortion_impl.
-fn distortion(params: BrownConradyParams, point: Point) -> Point
+pub fn distortion(params: BrownConradyParams, point: Point) -> Point
     ensures { λ r. ⌜ r ≡ distortion params point ⌝ }
 {
     let s = parts_at(params, point);
@@ -130,16 +130,16 @@ fn shared_at(params: BrownConradyParams, point: Point) -> Shared
 }
 
 // The derivatives of distortion, u and v by x and y: c7 times each of the last four.
-struct Slopes {
-    c7: f64,
-    ux: f64,
-    uy: f64,
-    vx: f64,
-    vy: f64,
+pub struct Slopes {
+    pub c7: f64,
+    pub ux: f64,
+    pub uy: f64,
+    pub vx: f64,
+    pub vy: f64,
 }
 
 // The slopes at a point, for Newton and for dx_distort_x. Each of the two multiplies by c7 (there c17) in its own way.
-fn slopes_at(params: BrownConradyParams, point: Point) -> Slopes
+pub fn slopes_at(params: BrownConradyParams, point: Point) -> Slopes
     ensures { λ r. ⌜ r ≡ slopes-at params point ⌝ }
 {
     let a = point.0;
@@ -169,8 +169,8 @@ pub fn dx_distort_x(params: BrownConradyParams, point: Point) -> Jacobian
     lens::two_columns(c18 * s.ux, c18 * s.uy, c22 * s.vx, c22 * s.vy)
 }
 
-// The derivative of distort by fx, fy, cx, cy, k1, k2, p1, p2, k3, k4, k5 and k6, which fills the record. Spelled out:
-// the loop of `lens::two_rows` costs more than all that is worked out here.
+// The derivative of distort by fx, fy, cx, cy, k1, k2, p1, p2, k3, k4, k5 and k6. Stored one by one: the loop of
+// `lens::two_rows` costs more than all that is worked out here.
 pub fn dx_distort_params(params: BrownConradyParams, point: Point) -> Jacobian
     ensures { λ r. ⌜ r ≡ dx-distort-params params point ⌝ }
 {
@@ -180,39 +180,35 @@ pub fn dx_distort_params(params: BrownConradyParams, point: Point) -> Jacobian
     let v_cdist = point.1 * (s.icdist2 * params.fy);
     let u_cdist2 = -(point.0 * s.cdist * s.icdist2 * (s.icdist2 * params.fx));
     let v_cdist2 = -(point.1 * s.cdist * s.icdist2 * (s.icdist2 * params.fy));
+    let mut entries = [0.0; lens::ENTRIES];
+    entries[0] = d.0;
+    entries[2] = 1.0;
+    entries[4] = u_cdist * s.r2;
+    entries[5] = u_cdist * s.r4;
+    entries[6] = s.a1 * params.fx;
+    entries[7] = s.a2 * params.fx;
+    entries[8] = u_cdist * s.r6;
+    entries[9] = u_cdist2 * s.r2;
+    entries[10] = u_cdist2 * s.r4;
+    entries[11] = u_cdist2 * s.r6;
+    entries[13] = d.1;
+    entries[15] = 1.0;
+    entries[16] = v_cdist * s.r2;
+    entries[17] = v_cdist * s.r4;
+    entries[18] = s.a3 * params.fy;
+    entries[19] = s.a1 * params.fy;
+    entries[20] = v_cdist * s.r6;
+    entries[21] = v_cdist2 * s.r2;
+    entries[22] = v_cdist2 * s.r4;
+    entries[23] = v_cdist2 * s.r6;
     Jacobian {
-        entries: [
-            d.0,
-            0.0,
-            1.0,
-            0.0,
-            u_cdist * s.r2,
-            u_cdist * s.r4,
-            s.a1 * params.fx,
-            s.a2 * params.fx,
-            u_cdist * s.r6,
-            u_cdist2 * s.r2,
-            u_cdist2 * s.r4,
-            u_cdist2 * s.r6,
-            0.0,
-            d.1,
-            0.0,
-            1.0,
-            v_cdist * s.r2,
-            v_cdist * s.r4,
-            s.a3 * params.fy,
-            s.a1 * params.fy,
-            v_cdist * s.r6,
-            v_cdist2 * s.r2,
-            v_cdist2 * s.r4,
-            v_cdist2 * s.r6,
-        ],
+        entries,
         columns: 12,
     }
 }
 
 // From one point to another: the Rust's f_xy and its step.
-struct Offset(f64, f64);
+pub struct Offset(pub f64, pub f64);
 
 // How far the lens misses `distorted` when it sends xy.
 fn f_xy(params: BrownConradyParams, distorted: Point, xy: Point) -> Offset
@@ -228,14 +224,14 @@ const EPS_SQUARED: f64 = 1e-12;
 // Whether an offset's norm is at most EPS: the Rust's test of its step, and of what Newton leaves. The norm is a root,
 // which in software costs more than all else in an update, and the small processor has 3 ms a frame. A squared norm is
 // past EPS_SQUARED exactly where its root is past EPS, so no root is taken.
-fn small(offset: Offset) -> bool
+pub fn small(offset: Offset) -> bool
     ensures { λ r. ⌜ r ≡ small offset ⌝ }
 {
     lens::squared_radius(offset.0, offset.1) <= EPS_SQUARED
 }
 
 // The inverse of the matrix a b above c d, times f.
-fn solve(a: f64, b: f64, c: f64, d: f64, f: Offset) -> Offset
+pub fn solve(a: f64, b: f64, c: f64, d: f64, f: Offset) -> Offset
     ensures { λ r. ⌜ r ≡ solve a b c d f ⌝ }
 {
     let z = 1.0 / (a * d - b * c);
@@ -255,10 +251,10 @@ fn step_from(params: BrownConradyParams, distorted: Point, xy: Point) -> Offset
 pub const LIMIT: u32 = 50;
 
 // Where Newton is, after how many updates, and whether the last pass ended it.
-struct Search {
-    xy: Point,
-    updates: u32,
-    ended: bool,
+pub struct Search {
+    pub xy: Point,
+    pub updates: u32,
+    pub ended: bool,
 }
 
 // One pass: the step is tested before it is taken, and a small one ends Newton where it is.

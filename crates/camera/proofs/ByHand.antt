@@ -2,7 +2,7 @@
 use mathlib.Core.Path.{_≡_, refl, ap, _∙_}
 use mathlib.Core.List.{List, [], _∷_}
 use Prim.Native.Nat.{ℕ}
-use lib.Ieee.{Float, div, neg, ofInt}
+use lib.Ieee.{Float, div, neg, ofBits, ofInt}
 use Rattle.exact.specs.F64.{minus, isZero}
 use Rattle.arctan.specs.Arctangent.{arctangent}
 use Rattle.arctan.specs.Tangent.{tangent}
@@ -113,7 +113,7 @@ pub bcs :
     × (dx-distort-params (bc-camera 0 0) (xy (int 1) (int 2)) ≡ answer
     (int 1 ∷ int 0 ∷ int 1 ∷ int 0 ∷ int 5 ∷ int 25 ∷ int 4 ∷ int 7 ∷ int 125 ∷ minus (int 5) ∷ minus (int 25) ∷ minus (int 125) ∷ [])
     (int 0 ∷ int 2 ∷ int 0 ∷ int 1 ∷ int 10 ∷ int 50 ∷ int 13 ∷ int 4 ∷ int 250 ∷ minus (int 10) ∷ minus (int 50) ∷ minus (int 250) ∷ []))
-unfolding judged all-finite isZero neg ofInt
+unfolding judged all-finite isZero neg ofBits ofInt
 bcs = (
   sends (bc-camera 1 0) (xy (int 1) (int 1)) _ refl (bc-laws.by-hand .0) refl,
   sends (bc-camera 0 1) (xy (int 1) (int 1)) _ refl (bc-laws.by-hand .1) refl,

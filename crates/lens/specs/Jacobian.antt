@@ -8,7 +8,7 @@ use Rattle.lens.specs.declared.Jacobian.{Jacobian}
 
 -- how many numbers the record holds
 abbrev pub entries : ℕ
-entries = 24
+entries = 32
 
 -- the numbers given, then zeros: as many as the record holds
 abbrev pub padded : List Float → List Float

@@ -10,3 +10,4 @@ pub mod Radius
 pub mod Passes
 pub mod Finite
 pub mod Fits
+pub mod Alike

@@ -17,7 +17,7 @@ ghost use Rattle.lens.specs.Finite.{all-finite};
 pub const EPS: f64 = 1e-6;
 
 // How many numbers a Jacobian holds, whatever the model: two rows of the most columns that a model has.
-pub const ENTRIES: usize = 24;
+pub const ENTRIES: usize = 32;
 
 // A point on the z=1 plane, x and y.
 pub struct Point(pub f64, pub f64);

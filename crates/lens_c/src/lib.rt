@@ -33,7 +33,7 @@ pub extern "C" fn lens_undistort(model: u8, params: &[u8], u: f64, v: f64, answe
     answer_bytes::undistort(model, params, u, v, answer)
 }
 
-// The derivative of distort by the point: 24 numbers row by row, then how many columns, 200 bytes.
+// The derivative of distort by the point: 32 numbers row by row, then how many columns, 264 bytes.
 #[no_mangle]
 pub extern "C" fn lens_dx_distort_x(
     model: u8,

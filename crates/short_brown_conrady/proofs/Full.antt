@@ -309,7 +309,7 @@ module _ (params : BrownConradyParams) (distorted : Point) where
   pass-alike zs at to h r =
       let f = behind at r in
       let s = step-alike params zs distorted (at .xy) (to .xy) (h .xys) (f .x) (f .y) in
-      unfold pass full.pass in
+      unfold pass full.pass-by in
       go (small (by at)) (full.small (full.step-from params distorted (to .xy))) _ _ _ _ (small-alike (s .x) (s .y))
       (record { xys = h .xys; counts = h .counts; ends = refl })
       (record { xys = record { x = h .xys .x ⟨⊖⟩ s .x; y = h .xys .y ⟨⊖⟩ s .y }; counts = ap (λ (n : ℕ). n + 1) (h .counts); ends = refl })

@@ -124,7 +124,7 @@ module _ (params : BrownConradyParams) (z : no-quotient params ≡ true) where
           let s = slopes-alike params (zeros-of params z) point point (record { x = ≐-refl; y = ≐-refl }) (product-finite _ _ (h .ux) .1) (product-finite _ _ (h .uy) .1) (product-finite _ _ (h .vy) .1) in
           let c18 : params .fx ≐ full.slopes-at params point .c7 ⊗ params .fx = same (sym (one-by _ _ (s .c7) fx)) in
           let c22 : params .fy ≐ full.slopes-at params point .c7 ⊗ params .fy = same (sym (one-by _ _ (s .c7) fy)) in
-          record { entries = (c18 ⟨⊗⟩ s .ux, (c18 ⟨⊗⟩ s .uy, (c22 ⟨⊗⟩ s .vx, (c22 ⟨⊗⟩ s .vy, all-alike (replicate 20 zeros))))); columns = refl }
+          record { entries = (c18 ⟨⊗⟩ s .ux, (c18 ⟨⊗⟩ s .uy, (c22 ⟨⊗⟩ s .vx, (c22 ⟨⊗⟩ s .vy, all-alike (replicate 28 zeros))))); columns = refl }
 
   -- ---- so refusals are as they were
 

@@ -11,7 +11,7 @@ abbrev Inv-loop : tie.InvT-loop
 Inv-loop out₀ entries i₀ out i = Entered out₀ entries out i
 
 abbrev μ-loop : tie.MeasureT-loop
-μ-loop out₀ entries i₀ out i = 24 - i
+μ-loop out₀ entries i₀ out i = 32 - i
 
 loop-holds : tie.Need-loop-holds Inv-loop μ-loop
 loop-holds c = none-entered _ _ (c .before .pre)

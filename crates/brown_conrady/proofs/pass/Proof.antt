@@ -1,7 +1,7 @@
 -- `brown_conrady::pass` meets its contract: the definition goes the same way at the test. Assumes nothing.
 use mathlib.Core.Path.{refl, sym, _∙_}
 use borrow.Author.Needs.{needs}
-use Rattle.brown_conrady.specs.BrownConrady.{pass}
+use Rattle.brown_conrady.specs.BrownConrady.{pass-by}
 use Rattle.brown_conrady.proofs.pass.Statement.{statement}
 use Rattle.brown_conrady.proofs.pass.Tie as tie
 
@@ -12,14 +12,14 @@ small-requires : tie.Need-small-requires
 small-requires c κs = search needs
 
 returns : tie.Need-returns
-unfolding pass
+unfolding pass-by
 returns c = let s = c .before in rw (← s .before .step-from .ensures, sym (s .small .ensures) ∙ c .if1 .taken) refl
 
 add-t10 : tie.Need-add-t10
 add-t10 c = search needs
 
 returns-2 : tie.Need-returns-2
-unfolding pass
+unfolding pass-by
 returns-2 c =
     let e = c .before .before .before .before .before in
     let s = e .before in

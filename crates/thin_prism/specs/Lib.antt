@@ -1,0 +1,2 @@
+pub mod ThinPrism
+pub mod Formula
