@@ -25,8 +25,8 @@ The stack. What a function pushes and reserves at its deepest, the 8 bytes of it
 as far as it is touched, and at each call what the function called takes at most. An alignment counts as the most it can skip. What the
 caller of a C function passes on the stack isn't in it.
 
-memcpy is the one function from outside, called by the turns alone. Its own instructions and stack are not in the figures; how
-often it can be called is said."""
+memcpy and memset are the functions from outside, called by the turns and by the derivatives. Their own instructions and stack are not
+in the figures; how often they can be called is said."""
 import re, sys
 from dataclasses import dataclass
 from functools import lru_cache
@@ -34,7 +34,7 @@ from functools import lru_cache
 from machine_code import call_of, fail, order, read
 
 MODELS = ["affine", "eucm", "kb", "bc"]
-OUTSIDE = {"memcpy"}
+OUTSIDE = {"memcpy", "memset"}
 
 
 @dataclass

@@ -34,11 +34,11 @@ The loops that the compiler has left in the archive. It has laid out the others 
 EACH = """
 ## Each C function at most
 
-Reckoned in the same way, in instructions, for every input; `lens_lookup` and the functions of one number have no model. For `lens_dx_distort_params` all models' ways are followed whatever the model is. A function from outside can only be memcpy, whose own instructions and stack are not in it; how often it can be called stands beside.
+Reckoned in the same way, in instructions, for every input; `lens_lookup` and the functions of one number have no model. For `lens_dx_distort_params` all models' ways are followed whatever the model is. A function from outside can only be memcpy or memset, whose own instructions and stack are not in it; how often they can be called stands beside.
 
 The stack is in bytes, over all paths, with the 8 of the return address and without what the caller passes on the stack. *Met* is what a call took on a stack that was painted before, of one camera a model (bench/stack.c).
 
-| | affine | eucm | kb | bc | calls of memcpy | stack, met | stack, at most |
+| | affine | eucm | kb | bc | calls of memcpy and memset | stack, met | stack, at most |
 |---|---|---|---|---|---|---|---|
 """
 # Counted through C and not in the bounds: the caller's loop, and a memcpy of at most 224 bytes.

@@ -207,7 +207,8 @@ uint8_t lens_dx_distort_params(uint8_t model, const uint8_t *params, size_t para
 
 /* Which jobs are refused. 1, 4, 5 and 6 are for a job's model, parameters, region (whatever is done) and size. 13 is
  * returned if none of these nor 7 is, and one of the following holds:
- *   - the check word is wrong, as is that of every job of the archive before, whose LENS_JOB_CHECK_START was another;
+ *   - the check word is wrong, as is that of every job of an archive from before corners once (request P11), whose
+ *     LENS_JOB_CHECK_START was another;
  *   - more units are done than there are;
  *   - there are more updates than the samples done can have (none, none, 20 or 50 each, by the model);
  *   - one of the four edges so far is NaN or infinite;
