@@ -71,6 +71,8 @@ LOOPS = [
           why="kannala_brandt::newton, LIMIT = 20 (specs: newton, limit); the updates are counted from 1, and 21 ends it"),
     Limit("camera::undistort_judged", [r"cmp \$0x32,", r"divpd|divsd"], passes=50,
           why="brown_conrady::newton, LIMIT = 50 (specs: newton, limit); a pass that ends it early makes no update"),
+    Limit(["lens_dx_distort_params"], [r"cmp \$0x21,", r"movsd"], lacks=["call"], many=True, passes=16,
+          why="lens::two_rows: 32 numbers, two a pass, the place counted from 1; 33 ends it"),
     Limit("distortion_table::up_to_cells", [r"call camera::undistort_judged"], unit="sample", by="camera::undistort_judged",
           why="sweep::units: one call for each sample that is begun"),
     Limit("lens_turn", [r"call camera::distort_judged"], unit="cell", by="camera::distort_judged",
@@ -329,7 +331,7 @@ class Bounds:
 
     @lru_cache(maxsize=None)
     def copies(self, name, model=None):
-        """How often a function calls memcpy at most."""
+        """How often a function calls one from outside at most."""
         def what(line, called):
             return 0 if not called else 1 if called in OUTSIDE else self.copies(called, model)
         return self.reckon(name, model, None, what)[0]
@@ -403,7 +405,7 @@ class Bounds:
                 state = self.moved(function, line, state)
                 deep(state[0], [])
             if block.leaves:
-                inside, way = self.stack(block.leaves)
+                inside, way = (8, []) if block.leaves in OUTSIDE else self.stack(block.leaves)
                 deep(state[0] + inside - 8, [block.leaves, *way])
             if block.leaves is not None and state[0] != 0:
                 fail(f"{name}+{block.lines[-1].at:x}: leaves with the stack pointer moved by {state[0]}")
@@ -434,7 +436,7 @@ def print_all(bounds):
         for unit in each[0][1]:
             print(f"    each {unit}: {[one[1][unit] for one in each]}")
         if any(bounds.copies(name, model) for model in range(len(MODELS))):
-            print(f"    calls of memcpy at most: {[bounds.copies(name, model) for model in range(len(MODELS))]}")
+            print(f"    calls of memcpy and memset at most: {[bounds.copies(name, model) for model in range(len(MODELS))]}")
     print("stack at most")
     for name in FUNCTIONS:
         most, along = bounds.stack(name)
