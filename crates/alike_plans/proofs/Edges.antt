@@ -19,7 +19,7 @@ use Rattle.lens.specs.declared.Point.{Point}
 use Rattle.lens.specs.declared.Judgement.{Judgement}
 use Rattle.lens.specs.declared.Judgement.the-variants.{Taken, Refused}
 use Rattle.lens.specs.declared.Refusal.the-variants.{IncrementNotPositive}
-use Rattle.short_brown_conrady.specs.Answers.{AlikePoints}
+use Rattle.lens.specs.Alike.{AlikePoints}
 use Rattle.region.specs.Region.{range, increments, flat, wrong}
 use Rattle.region.specs.Size.{float, Sized}
 use Rattle.region.specs.declared.Region.{Region}

@@ -16,7 +16,7 @@ use Rattle.lens.specs.declared.Refusal.the-variants.{SampleUnsettled}
 use Rattle.lens.specs.declared.Undistorted.{Undistorted}
 use Rattle.lens.specs.declared.Undistorted.the-variants.{At, Refused}
 use Rattle.lens.proofs.Laws.{verdict-one-to-one}
-use Rattle.short_brown_conrady.specs.Answers.{AlikeSettled}
+use Rattle.lens.specs.Alike.{AlikeSettled}
 use Rattle.region.specs.Region.{increments, wrong}
 use Rattle.region.specs.Size.{Sized}
 use Rattle.region.specs.declared.Region.{Region}
@@ -76,7 +76,7 @@ told-alike : (u v : Undistorted) → AlikeFound u v → AlikeSettled (told u .se
 told-alike (At a) (At b) h = h
 told-alike (At a) (Refused s) h = absurd h
 told-alike (Refused r) (At b) h = absurd h
-told-alike (Refused r) (Refused s) h = record { points = record { x = ≐-refl; y = ≐-refl }; updates = refl; flag = refl }
+told-alike (Refused r) (Refused s) h = record { point = record { x = ≐-refl; y = ≐-refl }; updates = refl; flag = refl }
 
 module _ (sweep : Sweep) (sample : Pixel → Undistorted) (h : (pixel : Pixel) → AlikeFound (sample pixel) (sweep .sample pixel)) (size : Sized (sweep .width) (sweep .height)) where
   abbrev other : Sweep
@@ -88,7 +88,7 @@ module _ (sweep : Sweep) (sample : Pixel → Undistorted) (h : (pixel : Pixel) �
   pub edges-alike : (n : ℕ) → AlikeRegions (edges-below other n) (edges-below sweep n)
   unfolding edges-below
   edges-alike zero = record { left = ≐-refl; top = ≐-refl; right = ≐-refl; bottom = ≐-refl }
-  edges-alike (suc n) = edges-kept n (edges-below other n) (edges-below sweep n) (settled-at other n .point) (settled-at sweep n .point) (edges-alike n) (settled-alike n .points)
+  edges-alike (suc n) = edges-kept n (edges-below other n) (edges-below sweep n) (settled-at other n .point) (settled-at sweep n .point) (edges-alike n) (settled-alike n .point)
 
   pub updates-same : (n : ℕ) → sum-below (λ k. settled-at other k .updates) n ≡ sum-below (λ k. settled-at sweep k .updates) n
   updates-same = sums-same (λ k. settled-at other k .updates) (λ k. settled-at sweep k .updates) (λ k. settled-alike k .updates)

@@ -6,7 +6,7 @@ use Rattle.exact.specs.Alike.{_≐_}
 use Rattle.lens.specs.declared.Pixel.{Pixel}
 use Rattle.lens.specs.declared.Undistorted.{Undistorted}
 use Rattle.lens.specs.declared.Undistorted.the-variants.{At, Refused}
-use Rattle.short_brown_conrady.specs.Answers.{AlikeSettled}
+use Rattle.lens.specs.Alike.{AlikeSettled}
 use Rattle.region.specs.declared.Region.{Region}
 use Rattle.plans.specs.Plan.{Content, Sweep, Plan}
 use Rattle.plans.specs.declared.Progress.{Progress}

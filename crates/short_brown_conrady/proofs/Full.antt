@@ -22,7 +22,7 @@ use Rattle.brown_conrady.specs.BrownConrady as full
 use Rattle.brown_conrady.specs.Formula.{at}
 use Rattle.brown_conrady.specs.declared.BrownConradyParams.{BrownConradyParams}
 use Rattle.brown_conrady.proofs.NoRoot.{last-bits, no-root}
-use Rattle.short_brown_conrady.specs.Answers.{AlikePoints}
+use Rattle.lens.specs.Alike.{AlikePoints}
 use Rattle.short_brown_conrady.specs.Polynomial as short
 use Rattle.short_brown_conrady.specs.ShortBrownConrady.{no-quotient, distortion, slopes-at, f-xy, small, step-from, pass, start, ended, newton}
 use Rattle.short_brown_conrady.specs.declared.Offset.{Offset}

@@ -24,7 +24,7 @@ use Rattle.affine.specs.Affine as affine
 use Rattle.brown_conrady.specs.BrownConrady as full
 use Rattle.brown_conrady.specs.declared.BrownConradyParams.{BrownConradyParams}
 use Rattle.brown_conrady.proofs.Laws.{updates-limit}
-use Rattle.short_brown_conrady.specs.Answers.{AlikeJacobians, AlikeSettled}
+use Rattle.lens.specs.Alike.{AlikeJacobians, AlikeSettled}
 use Rattle.short_brown_conrady.specs.Path.{distort-numbers, dx-distort-x-numbers, undistort-numbers}
 use Rattle.short_brown_conrady.specs.ShortBrownConrady.{no-quotient, distortion, distort, slopes-at, dx-distort-x, f-xy, small, newton, distorted-of, undistort}
 use Rattle.short_brown_conrady.specs.declared.Offset.{Offset}
@@ -94,10 +94,10 @@ module _ (params : BrownConradyParams) (z : no-quotient params ≡ true) where
       go :
           (b : Bool) → finite (f .0 ⊕ f .1 ⊕ last .det) ≡ b
           → AlikeSettled (cond b (record { point = last .xy; updates = last .updates; flag = small f }) (full.undistort params pixel)) (full.undistort params pixel)
-      go false e = record { points = record { x = ≐-refl; y = ≐-refl }; updates = refl; flag = refl }
+      go false e = record { point = record { x = ≐-refl; y = ≐-refl }; updates = refl; flag = refl }
       go true e =
           let n = newton-ended params (zeros-of params z) distorted (sum-finite _ _ (sum-finite _ _ (subst T (sym e) tt) .0) .0) in
-          record { points = n .xys; updates = n .updates; flag = n .flag }
+          record { point = n .xys; updates = n .updates; flag = n .flag }
 
   -- Dx_distort_x gives the full one's numbers, the sign of a zero aside. That fx and fy are f64s is so of every camera's.
   pub dx-distort-x-short-is-full : Fit (params .fx) → Fit (params .fy) → (point : Point) → AlikeJacobians (dx-distort-x params point) (full.dx-distort-x params point)
@@ -134,7 +134,7 @@ module _ (params : BrownConradyParams) (z : no-quotient params ≡ true) where
       (finite (undistort params pixel .point .0) && finite (undistort params pixel .point .1))
       ≡ (finite (full.undistort params pixel .point .0) && finite (full.undistort params pixel .point .1))
   undistort-refused-alike pixel =
-      let h = undistort-short-is-full pixel .points in
+      let h = undistort-short-is-full pixel .point in
       ap (λ (b : Bool). b && finite (undistort params pixel .point .1)) (≐-finite (h .x)) ∙ ap (λ (b : Bool). finite (full.undistort params pixel .point .0) && b) (≐-finite (h .y))
 
   -- The numbers of dx_distort_x are finite exactly where the full one's are.

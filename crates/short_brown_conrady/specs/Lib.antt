@@ -1,4 +1,3 @@
 pub mod Polynomial
 pub mod ShortBrownConrady
 pub mod Path
-pub mod Answers

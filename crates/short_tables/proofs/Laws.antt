@@ -13,7 +13,7 @@ use Rattle.lens.specs.declared.Undistorted.{Undistorted}
 use Rattle.lens.specs.declared.Undistorted.the-variants.{At, Refused}
 use Rattle.brown_conrady.specs.BrownConrady as full
 use Rattle.brown_conrady.specs.declared.BrownConradyParams.{BrownConradyParams}
-use Rattle.short_brown_conrady.specs.Answers.{AlikeSettled}
+use Rattle.lens.specs.Alike.{AlikeSettled}
 use Rattle.short_brown_conrady.specs.ShortBrownConrady as short
 use Rattle.short_brown_conrady.proofs.Laws.{distort-short-is-full, undistort-short-is-full}
 use Rattle.region.specs.Region.{increments}
@@ -34,7 +34,7 @@ use Rattle.short_tables.specs.ShortTables.{short-engine, full-table, sho
 -- ---- answers that are alike, refused alike
 
 judged-alike : (a b : Settled) → AlikeSettled a b → AlikeFound (finite-point (At a)) (finite-point (At b))
-judged-alike a b h = go (finite (a .point .0) && finite (a .point .1)) (finite (b .point .0) && finite (b .point .1)) (ap₂ _&&_ (≐-finite (h .points .x)) (≐-finite (h .points .y)))
+judged-alike a b h = go (finite (a .point .0) && finite (a .point .1)) (finite (b .point .0) && finite (b .point .1)) (ap₂ _&&_ (≐-finite (h .point .x)) (≐-finite (h .point .y)))
   where
     go : (p q : Bool) → p ≡ q → AlikeFound (cond p (At a) (Refused AnswerNotFinite)) (cond q (At b) (Refused AnswerNotFinite))
     go true true e = h
@@ -54,7 +54,7 @@ sure-alike e f l h s = record {
     go-limited a (Refused r) pixel i k = absurd k
 
     go-points : (a : Settled) (v : Undistorted) (pixel : Pixel) → f .undistort pixel ≡ v → AlikeFound (At a) v → (finite (a .point .0) ≡ true) × (finite (a .point .1) ≡ true)
-    go-points a (At b) pixel i k = let t = s .points pixel b i in (≐-finite (k .points .x) ∙ t .0, ≐-finite (k .points .y) ∙ t .1)
+    go-points a (At b) pixel i k = let t = s .points pixel b i in (≐-finite (k .point .x) ∙ t .0, ≐-finite (k .point .y) ∙ t .1)
     go-points a (Refused r) pixel i k = absurd k
 
 module _ (params : BrownConradyParams) (z : short.no-quotient params ≡ true) where
