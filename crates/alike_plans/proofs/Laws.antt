@@ -18,69 +18,76 @@ use Rattle.alike_plans.specs.AlikePlans.{AlikeFound, AlikeProgress, buil
 use Rattle.alike_plans.proofs.Units.{edges-alike, updates-same, unsettled-same, first-same, region-one, contents-same, units-same, doable-same, done-doable}
 
 -- A plan, and other samples and cells: each sample alike, each cell the same in every region, a table of 2 to 4,096 columns and rows, and a border.
-module _ {X : Type 0} (p : Plan X) (sample : Pixel → Undistorted) (cell : Region → ℕ → ℕ → Content X) (samples-alike : (pixel : Pixel) → AlikeFound (sample pixel) (p .sweep .sample pixel)) (cells-same : (region : Region) (u v : ℕ) → cell region u v ≡ p .cell region u v) (size : Sized (p .sweep .width) (p .sweep .height)) (bordered : 0 < p .sweep .samples) where
-  abbrev q : Plan X
-  q = built-by p sample cell
+module _
+    {X : Type 0} (p : Plan X) (sample : Pixel → Undistorted) (cell : Region → ℕ → ℕ → Content X)
+    (samples-alike : (pixel : Pixel) → AlikeFound (sample pixel) (p .sweep .sample pixel))
+    (cells-same : (region : Region) (u v : ℕ) → cell region u v ≡ p .cell region u v)
+    (size : Sized (p .sweep .width) (p .sweep .height)) (bordered : 0 < p .sweep .samples)
+  where
+    abbrev q : Plan X
+    q = built-by p sample cell
 
-  -- Both can do as many units.
-  pub as-many : doable q ≡ doable p
-  as-many = doable-same p sample cell samples-alike cells-same size bordered
+    -- Both can do as many units.
+    pub as-many : doable q ≡ doable p
+    as-many = doable-same p sample cell samples-alike cells-same size bordered
 
-  -- Of as many units as can be done, the records are alike: the sign of a zero may differ in an edge, and in nothing else, the region among it.
-  pub records-alike : (n : ℕ) → n ≤ doable p → AlikeProgress (progress-of (q .sweep) n) (progress-of (p .sweep) n)
-  unfolding progress-of
-  records-alike n l = record {
-    done = refl;
-    edges = edges-alike (p .sweep) sample samples-alike size (min n (p .sweep .samples));
-    region = go (ltb n (p .sweep .samples)) refl;
-    updates = updates-same (p .sweep) sample samples-alike size (min n (p .sweep .samples));
-    unsettled = unsettled-same (p .sweep) sample samples-alike size (min n (p .sweep .samples));
-    first = first-same (p .sweep) sample samples-alike size (min n (p .sweep .samples));
-  }
-    where
-      go : (b : Bool) → ltb n (p .sweep .samples) ≡ b → cond b nowhere (region-of (q .sweep)) ≡ cond b nowhere (region-of (p .sweep))
-      go true t = refl
-      go false t =
-          region-one p sample cell samples-alike cells-same size bordered n (ltb-false n (p .sweep .samples) t)
-          (λ m k. done-doable p sample cell samples-alike cells-same size bordered m (omega (arith, k, l, as-many)))
+    -- Of as many units as can be done, the records are alike: the sign of a zero may differ in an edge, and in nothing else, the region among it.
+    pub records-alike : (n : ℕ) → n ≤ doable p → AlikeProgress (progress-of (q .sweep) n) (progress-of (p .sweep) n)
+    unfolding progress-of
+    records-alike n l = record {
+      done = refl;
+      edges = edges-alike (p .sweep) sample samples-alike size (min n (p .sweep .samples));
+      region = go (ltb n (p .sweep .samples)) refl;
+      updates = updates-same (p .sweep) sample samples-alike size (min n (p .sweep .samples));
+      unsettled = unsettled-same (p .sweep) sample samples-alike size (min n (p .sweep .samples));
+      first = first-same (p .sweep) sample samples-alike size (min n (p .sweep .samples));
+    }
+      where
+        go : (b : Bool) → ltb n (p .sweep .samples) ≡ b → cond b nowhere (region-of (q .sweep)) ≡ cond b nowhere (region-of (p .sweep))
+        go true t = refl
+        go false t =
+            region-one p sample cell samples-alike cells-same size bordered n (ltb-false n (p .sweep .samples) t)
+            (λ m k. done-doable p sample cell samples-alike cells-same size bordered m (omega (arith, k, l, as-many)))
 
-  -- What a turn says is the same.
-  pub says-same : (from allowance n : ℕ) → n ≤ doable p → says-at q from allowance n ≡ says-at p from allowance n
-  unfolding says-at
-  says-same from allowance n l =
-      ap
-      (λ (r : ℕ). cond (eqb n (all-units (p .sweep))) finished (cond (eqb r 0) running (cond (ltb n (from + allowance)) (refused r) running)))
-      (units-same p sample cell samples-alike cells-same size bordered n (λ m k. done-doable p sample cell samples-alike cells-same size bordered m (omega (arith, k, l, as-many))))
+    -- What a turn says is the same.
+    pub says-same : (from allowance n : ℕ) → n ≤ doable p → says-at q from allowance n ≡ says-at p from allowance n
+    unfolding says-at
+    says-same from allowance n l =
+        ap
+        (λ (r : ℕ). cond (eqb n (all-units (p .sweep))) finished (cond (eqb r 0) running (cond (ltb n (from + allowance)) (refused r) running)))
+        (units-same p sample cell samples-alike cells-same size bordered n
+        (λ m k. done-doable p sample cell samples-alike cells-same size bordered m (omega (arith, k, l, as-many))))
 
-  -- The table of a build by the other plan is one that a build by the first owes, bit by bit, finished or not; the records are alike.
-  pub table-same :
-      (cells : List X) (A : ℕ) (s : State X) → Built q cells A s
-      → Built p cells A (record { at = progress-of (p .sweep) (min A (doable p)); cells = s .cells })
-      × AlikeProgress (s .at) (progress-of (p .sweep) (min A (doable p)))
-  table-same cells A s b = (
-    record {
-      progress = refl;
-      as-long = b .as-long;
-      cells-hold = λ c d l. sym (contents c (omega (arith, done-first, l))) ∙ b .cells-hold c d (omega (arith, done-same, done-first, l));
-      untouched = λ k d l. b .untouched k d (omega (arith, done-same, done-first, l));
-    },
-    subst (λ (r : Progress). AlikeProgress r (progress-of (p .sweep) n)) (sym at-same) (records-alike n (omega arith)),
-  )
-    where
-      n : ℕ
-      n = min A (doable p)
+    -- The table of a build by the other plan is one that a build by the first owes, bit by bit, finished or not; the records are alike.
+    pub table-same :
+        (cells : List X) (A : ℕ) (s : State X) → Built q cells A s
+        → Built p cells A (record { at = progress-of (p .sweep) (min A (doable p)); cells = s .cells })
+        × AlikeProgress (s .at) (progress-of (p .sweep) (min A (doable p)))
+    table-same cells A s b = (
+      record {
+        progress = refl;
+        as-long = b .as-long;
+        cells-hold = λ c d l. sym (contents c (omega (arith, done-first, l))) ∙ b .cells-hold c d (omega (arith, done-same, done-first, l));
+        untouched = λ k d l. b .untouched k d (omega (arith, done-same, done-first, l));
+      },
+      subst (λ (r : Progress). AlikeProgress r (progress-of (p .sweep) n)) (sym at-same) (records-alike n (omega arith)),
+    )
+      where
+        n : ℕ
+        n = min A (doable p)
 
-      at-same : s .at ≡ progress-of (q .sweep) n
-      at-same = b .progress ∙ ap (λ (d : ℕ). progress-of (q .sweep) (min A d)) as-many
+        at-same : s .at ≡ progress-of (q .sweep) n
+        at-same = b .progress ∙ ap (λ (d : ℕ). progress-of (q .sweep) (min A d)) as-many
 
-      done-first : progress-of (p .sweep) n .done ≡ n
-      done-first = unfold progress-of in refl
+        done-first : progress-of (p .sweep) n .done ≡ n
+        done-first = unfold progress-of in refl
 
-      done-same : s .at .done ≡ n
-      done-same = ap (λ (r : Progress). r .done) at-same ∙ unfold progress-of in refl
+        done-same : s .at .done ≡ n
+        done-same = ap (λ (r : Progress). r .done) at-same ∙ unfold progress-of in refl
 
-      contents : (c : ℕ) → c < n - p .sweep .samples → content-at q c ≡ content-at p c
-      contents c l =
-          contents-same p sample cell samples-alike cells-same size bordered
-          (region-one p sample cell samples-alike cells-same size bordered n (omega (arith, l)) (λ m k. done-doable p sample cell samples-alike cells-same size bordered m (omega (arith, k, as-many))))
-          c
+        contents : (c : ℕ) → c < n - p .sweep .samples → content-at q c ≡ content-at p c
+        contents c l =
+            contents-same p sample cell samples-alike cells-same size bordered
+            (region-one p sample cell samples-alike cells-same size bordered n (omega (arith, l))
+            (λ m k. done-doable p sample cell samples-alike cells-same size bordered m (omega (arith, k, as-many))))
+            c

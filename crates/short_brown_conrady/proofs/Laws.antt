@@ -1,4 +1,5 @@
--- What a caller may rely on, of the definitions of specs/ and of the contracts of src/: for a camera whose k4, k5 and k6 are zeros of either sign the short functions stand for
+-- What a caller may rely on, of the definitions of specs/ and of the contracts of src/:
+-- for a camera whose k4, k5 and k6 are zeros of either sign the short functions stand for
 -- brown_conrady's, at every point and pixel. Assumes nothing.
 use mathlib.Core.Path.{_≡_, refl, sym, ap, _∙_, subst}
 use mathlib.Core.Logic.{_⊎_}
@@ -37,21 +38,25 @@ use Rattle.short_brown_conrady.proofs.undistort.Reads as undistort-cont
 use Rattle.short_brown_conrady.proofs.dx_distort_x.Reads as dx-distort-x-contract
 
 -- Any two answers to one call that the contract of a function permits are equal, for each of the four.
-pub determined : Determined no-quotient-contract.Post × Determined distort-contract.Post × Determined undistort-contract.Post × Determined dx-distort-x-contract.Post
+pub determined : Determined no-quotient-contract.Post × Determined distort-contract.Post
+    × Determined undistort-contract.Post × Determined dx-distort-x-contract.Post
 determined = (λ κ a s s' r r' p q. p ∙ sym q, λ κ a s s' r r' p q. p ∙ sym q, λ κ a s s' r r' p q. p ∙ sym q, λ κ a s s' r r' p q. p ∙ sym q)
 
 -- ---- a number that isn't finite, wherever it turns up on the short path, sends the point to the full engine. No bound is asked for beside
 
 -- All numbers of a distort are finite, or the answer is the full engine's.
-pub distort-finite-or-full : (params : BrownConradyParams) (point : Point) → T (all-finite (distort-numbers params point)) ⊎ (distort params point ≡ full.distort params point)
+pub distort-finite-or-full : (params : BrownConradyParams) (point : Point)
+    → T (all-finite (distort-numbers params point)) ⊎ (distort params point ≡ full.distort params point)
 distort-finite-or-full = distort-either
 
 -- So with the derivative,
-pub dx-distort-x-finite-or-full : (params : BrownConradyParams) (point : Point) → T (all-finite (dx-distort-x-numbers params point)) ⊎ (dx-distort-x params point ≡ full.dx-distort-x params point)
+pub dx-distort-x-finite-or-full : (params : BrownConradyParams) (point : Point)
+    → T (all-finite (dx-distort-x-numbers params point)) ⊎ (dx-distort-x params point ≡ full.dx-distort-x params point)
 dx-distort-x-finite-or-full = dx-distort-x-either
 
 -- and with all passes of an undistort.
-pub undistort-finite-or-full : (params : BrownConradyParams) (pixel : Pixel) → T (all-finite (undistort-numbers params pixel)) ⊎ (undistort params pixel ≡ full.undistort params pixel)
+pub undistort-finite-or-full : (params : BrownConradyParams) (pixel : Pixel)
+    → T (all-finite (undistort-numbers params pixel)) ⊎ (undistort params pixel ≡ full.undistort params pixel)
 undistort-finite-or-full = undistort-either
 
 finite-alike : (xs ys : List Float) → AllAlike xs ys → all-finite xs ≡ all-finite ys
@@ -100,7 +105,8 @@ module _ (params : BrownConradyParams) (z : no-quotient params ≡ true) where
           record { point = n .xys; updates = n .updates; flag = n .flag }
 
   -- Dx_distort_x gives the full one's numbers, the sign of a zero aside. That fx and fy are f64s is so of every camera's.
-  pub dx-distort-x-short-is-full : Fit (params .fx) → Fit (params .fy) → (point : Point) → AlikeJacobians (dx-distort-x params point) (full.dx-distort-x params point)
+  pub dx-distort-x-short-is-full : Fit (params .fx) → Fit (params .fy) → (point : Point)
+      → AlikeJacobians (dx-distort-x params point) (full.dx-distort-x params point)
   dx-distort-x-short-is-full fx fy point = go (finite (ux ⊕ uy ⊕ vx ⊕ vy)) refl
     where
       ux : Float
@@ -121,7 +127,8 @@ module _ (params : BrownConradyParams) (z : no-quotient params ≡ true) where
       go false e = record { entries = all-alike (full.dx-distort-x params point .entries); columns = refl }
       go true e =
           let h = entries params point (subst T (sym e) tt) in
-          let s = slopes-alike params (zeros-of params z) point point (record { x = ≐-refl; y = ≐-refl }) (product-finite _ _ (h .ux) .1) (product-finite _ _ (h .uy) .1) (product-finite _ _ (h .vy) .1) in
+          let s = slopes-alike params (zeros-of params z) point point (record { x = ≐-refl; y = ≐-refl })
+          (product-finite _ _ (h .ux) .1) (product-finite _ _ (h .uy) .1) (product-finite _ _ (h .vy) .1) in
           let c18 : params .fx ≐ full.slopes-at params point .c7 ⊗ params .fx = same (sym (one-by _ _ (s .c7) fx)) in
           let c22 : params .fy ≐ full.slopes-at params point .c7 ⊗ params .fy = same (sym (one-by _ _ (s .c7) fy)) in
           record { entries = (c18 ⟨⊗⟩ s .ux, (c18 ⟨⊗⟩ s .uy, (c22 ⟨⊗⟩ s .vx, (c22 ⟨⊗⟩ s .vy, all-alike (replicate 28 zeros))))); columns = refl }
@@ -135,11 +142,13 @@ module _ (params : BrownConradyParams) (z : no-quotient params ≡ true) where
       ≡ (finite (full.undistort params pixel .point .0) && finite (full.undistort params pixel .point .1))
   undistort-refused-alike pixel =
       let h = undistort-short-is-full pixel .point in
-      ap (λ (b : Bool). b && finite (undistort params pixel .point .1)) (≐-finite (h .x)) ∙ ap (λ (b : Bool). finite (full.undistort params pixel .point .0) && b) (≐-finite (h .y))
+      ap (λ (b : Bool). b && finite (undistort params pixel .point .1)) (≐-finite (h .x))
+      ∙ ap (λ (b : Bool). finite (full.undistort params pixel .point .0) && b) (≐-finite (h .y))
 
   -- The numbers of dx_distort_x are finite exactly where the full one's are.
   pub dx-distort-x-refused-alike :
-      Fit (params .fx) → Fit (params .fy) → (point : Point) → all-finite (dx-distort-x params point .entries) ≡ all-finite (full.dx-distort-x params point .entries)
+      Fit (params .fx) → Fit (params .fy) → (point : Point)
+      → all-finite (dx-distort-x params point .entries) ≡ all-finite (full.dx-distort-x params point .entries)
   dx-distort-x-refused-alike fx fy point = finite-alike _ _ (dx-distort-x-short-is-full fx fy point .entries)
 
   -- Undistort takes at most 50 updates, as the full one does.
@@ -152,6 +161,8 @@ abbrev with-k4 : Float → BrownConradyParams
 with-k4 k4 = full.camera (int 1) (int 1) (int 0) (int 0) (int 0) (int 0) (int 0) (int 0) (int 0) k4 (int 0) (int 0)
 
 -- A k4 of +0 or -0 is a zero, and one of 1e-300 is none.
-pub zeros-by-hand : (no-quotient (with-k4 (f64 0)) ≡ true) × (no-quotient (with-k4 (f64 0x8000_0000_0000_0000)) ≡ true) × (no-quotient (with-k4 (f64 0x01a5_6e1f_c2f8_f359)) ≡ false)
+pub zeros-by-hand : (no-quotient (with-k4 (f64 0)) ≡ true)
+    × (no-quotient (with-k4 (f64 0x8000_0000_0000_0000)) ≡ true)
+    × (no-quotient (with-k4 (f64 0x01a5_6e1f_c2f8_f359)) ≡ false)
 unfolding isZero ofBits ofInt
 zeros-by-hand = (refl, refl, refl)

@@ -63,7 +63,8 @@ module _ (params : ThinPrismParams) (point : Point) where
   distort-rounded = refl
 
   -- The derivative by the point is that of the rows u-point and v-point.
-  pub dx-distort-x-rounded : dx-distort-x params point ≡ twoRows (map (rounded (at params point)) formula.u-point) (map (rounded (at params point)) formula.v-point)
+  pub dx-distort-x-rounded : dx-distort-x params point
+      ≡ twoRows (map (rounded (at params point)) formula.u-point) (map (rounded (at params point)) formula.v-point)
   unfolding prism-slopes-at slopes-at shared-at rounded ofInt ofBits
   dx-distort-x-rounded = refl
 
