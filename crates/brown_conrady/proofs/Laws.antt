@@ -21,7 +21,8 @@ use Rattle.lens.specs.declared.Pixel.{Pixel}
 use Rattle.lens.specs.declared.Point.{Point}
 use Rattle.affine.specs.Affine as affine
 use Rattle.brown_conrady.specs.AsWritten.{dx-distort-x-as-written}
-use Rattle.brown_conrady.specs.BrownConrady.{camera, affine-params, distortion, distort, shared-at, slopes-at, dx-distort-x, f-xy, solve, small, step-from, pass-by, undistort}
+use Rattle.brown_conrady.specs.BrownConrady.{camera, affine-params, distortion, distort, shared-at, slopes-at}
+use Rattle.brown_conrady.specs.BrownConrady.{dx-distort-x, f-xy, solve, small, step-from, pass-by, undistort}
 use Rattle.brown_conrady.specs.Formula as formula
 use Rattle.brown_conrady.specs.Formula.{at, coordinates, parameters, cdist2, dx-distort-params}
 use Rattle.brown_conrady.specs.declared.BrownConradyParams.{BrownConradyParams}
@@ -44,7 +45,8 @@ use Rattle.brown_conrady.proofs.dx_distort_params.Reads as dx-distort-p
 pub determined :
     Determined distort-contract.Post × Determined undistort-contract.Post
     × Determined dx-distort-x-contract.Post × Determined dx-distort-params-contract.Post
-determined = (λ κ a s s' r r' p q. p ∙ sym q, λ κ a s s' r r' p q. p ∙ sym q, λ κ a s s' r r' p q. p ∙ sym q, λ κ a s s' r r' p q. p ∙ sym q)
+determined =
+    (λ κ a s s' r r' p q. p ∙ sym q, λ κ a s s' r r' p q. p ∙ sym q, λ κ a s s' r r' p q. p ∙ sym q, λ κ a s s' r r' p q. p ∙ sym q)
 
 -- and for each of the parts that bc12 shares.
 pub parts-determined :
@@ -59,25 +61,32 @@ parts-determined = (
   λ κ a s s' r r' p q. p ∙ sym q,
 )
 
--- A norm is at most EPS exactly where its square, as rounded before the root is taken, is at most the f64 nearest to 1e-12. So the code takes no root.
-pub small-squared : (offset : Offset) → small offset ≡ le (squared-radius (offset .0) (offset .1)) (f64 0x3d71_9799_812d_ea11)
+-- A norm is at most EPS exactly where its square, as rounded before the root is taken, is at most the f64 nearest to
+-- 1e-12. So the code takes no root.
+pub small-squared :
+    (offset : Offset) → small offset ≡ le (squared-radius (offset .0) (offset .1)) (f64 0x3d71_9799_812d_ea11)
 small-squared offset = no-root (offset .0) (offset .1)
 
--- The Rust has the slopes twice, for Newton and in dx_distort_x. Its dx_distort_x, as its text has it, gives the bits that ours gives from
+-- The Rust has the slopes twice, for Newton and in dx_distort_x. Its dx_distort_x, as its text has it, gives the bits
+-- that ours gives from
 -- Newton's copy: for every camera and point, NaN and infinities among the numbers.
-pub second-copy : (params : BrownConradyParams) (point : Point) → dx-distort-x-as-written params point ≡ dx-distort-x params point
+pub second-copy :
+    (params : BrownConradyParams) (point : Point) → dx-distort-x-as-written params point ≡ dx-distort-x params point
 second-copy = same-copy
 
 -- ---- one formula (specs/Formula). Read in f64, its terms are what the code is proved to be
 
 module _ (params : BrownConradyParams) (point : Point) where
   -- The pixel is the reading of the terms u and v.
-  pub distort-rounded : distort params point ≡ record { 0 = rounded (at params point) formula.u; 1 = rounded (at params point) formula.v }
+  pub distort-rounded :
+      distort params point ≡ record { 0 = rounded (at params point) formula.u; 1 = rounded (at params point) formula.v }
   unfolding distortion rounded ofInt ofBits
   distort-rounded = refl
 
   -- The derivative by the point is that of the rows u-point and v-point.
-  pub dx-distort-x-rounded : dx-distort-x params point ≡ twoRows (map (rounded (at params point)) formula.u-point) (map (rounded (at params point)) formula.v-point)
+  pub dx-distort-x-rounded :
+      dx-distort-x params point
+      ≡ twoRows (map (rounded (at params point)) formula.u-point) (map (rounded (at params point)) formula.v-point)
   unfolding slopes-at shared-at rounded ofInt ofBits
   dx-distort-x-rounded = refl
 
@@ -98,7 +107,8 @@ Kept n = exactly (ofInt binary64 (pos n)) ≈ whole n
 -- The numerals of the terms are f64s: none is rounded.
 pub numerals-kept : Kept 0 × Kept 1 × Kept 2 × Kept 3 × Kept 6
 unfolding exactly ofInt over
-numerals-kept = (record { holds = refl }, record { holds = refl }, record { holds = refl }, record { holds = refl }, record { holds = refl })
+numerals-kept =
+    (record { holds = refl }, record { holds = refl }, record { holds = refl }, record { holds = refl }, record { holds = refl })
 
 -- ---- read exactly, its slopes are derivatives, whatever numbers the point and the twelve parameters are
 
@@ -109,23 +119,32 @@ one-denominator = (refl, refl)
 
 module _ {ρ : ℕ → Fraction} (numbers : Numbers ρ) (defined : ¬ (exact ρ cdist2 ≈ whole 0)) where
   -- a gradient is a list of terms if the solver finds each alike
-  pub derived : (vs : List ℕ) (a : Term) (s : List Term) → T (tests cdist2 (gradient vs a) s) → Alike ρ (gradient vs a) s
+  pub derived :
+      (vs : List ℕ) (a : Term) (s : List Term) → T (tests cdist2 (gradient vs a) s) → Alike ρ (gradient vs a) s
   derived vs a s = rows numbers cdist2 tt defined (gradient vs a) s
 
-  -- Wherever cdist2 isn't zero, each entry of dx_distort_params is the formal derivative of its row's coordinate of the pixel by its column's parameter: all twelve columns of both rows,
-  pub params-derived : Alike ρ (gradient parameters formula.u) formula.u-params × Alike ρ (gradient parameters formula.v) formula.v-params
+  -- Wherever cdist2 isn't zero, each entry of dx_distort_params is the formal derivative of its row's coordinate of
+  -- the pixel by its column's parameter: all twelve columns of both rows,
+  pub params-derived :
+      Alike ρ (gradient parameters formula.u) formula.u-params
+      × Alike ρ (gradient parameters formula.v) formula.v-params
   unfolding gradient derivative
   params-derived = (derived parameters formula.u formula.u-params tt, derived parameters formula.v formula.v-params tt)
 
   -- and so is each of dx_distort_x by x or y,
-  pub point-derived : Alike ρ (gradient coordinates formula.u) formula.u-point × Alike ρ (gradient coordinates formula.v) formula.v-point
+  pub point-derived :
+      Alike ρ (gradient coordinates formula.u) formula.u-point
+      × Alike ρ (gradient coordinates formula.v) formula.v-point
   unfolding gradient derivative
   point-derived = (derived coordinates formula.u formula.u-point tt, derived coordinates formula.v formula.v-point tt)
 
   -- and each of the matrix of a Newton step, of the distorted point by x or y.
-  pub step-derived : Alike ρ (gradient coordinates formula.xd0) formula.xd0-point × Alike ρ (gradient coordinates formula.yd0) formula.yd0-point
+  pub step-derived :
+      Alike ρ (gradient coordinates formula.xd0) formula.xd0-point
+      × Alike ρ (gradient coordinates formula.yd0) formula.yd0-point
   unfolding gradient derivative
-  step-derived = (derived coordinates formula.xd0 formula.xd0-point tt, derived coordinates formula.yd0 formula.yd0-point tt)
+  step-derived =
+      (derived coordinates formula.xd0 formula.xd0-point tt, derived coordinates formula.yd0 formula.yd0-point tt)
 
 -- ---- how many updates
 
@@ -135,8 +154,10 @@ updates-limit params pixel =
     let distorted = affine.undistort (affine-params params) pixel .point in
     most-updates (step-from params distorted) distorted
 
--- The numbers to check by hand. The camera 1 1 0 0 sends (1, 1) to (3, 5) with p1 = 1 and the rest 0, and to (5, 3) with p2 = 1 instead. With all
--- coefficients 0 it sends the pixel (3, 4) back to (3, 4), with 0 updates and the flag yes; and its derivative by the parameters at (1, 2) has r2 = 5, a1 = 4, a2 = 7, a3 = 13.
+-- The numbers to check by hand. The camera 1 1 0 0 sends (1, 1) to (3, 5) with p1 = 1 and the rest 0, and to (5, 3)
+-- with p2 = 1 instead. With all
+-- coefficients 0 it sends the pixel (3, 4) back to (3, 4), with 0 updates and the flag yes; and its derivative by the
+-- parameters at (1, 2) has r2 = 5, a1 = 4, a2 = 7, a3 = 13.
 pub by-hand :
     (distort (camera (int 1) (int 1) (int 0) (int 0) (int 0) (int 0) (int 1) (int 0) (int 0) (int 0) (int 0) (int 0)) (xy (int 1) (int 1))
     ≡ uv (int 3) (int 5))

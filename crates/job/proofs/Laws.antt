@@ -40,11 +40,13 @@ admitted-determined κ a s s' r r' p q = verdict-one-to-one r r' (p ∙ sym q)
 
 -- ---- which records are taken
 
--- A record is refused before any unit with 4, 5, 6, 7 or 13 exactly when the table of refusals says so, the first row that holds; 13 is given for the records
--- that no build can have, and no others.
+-- A record is refused before any unit with 4, 5, 6, 7 or 13 exactly when the table of refusals says so, the first row
+-- that holds; 13 is given for the records that no build can have, and no others.
 pub admitted-number : (job : Job) (places : ℕ) → verdict (admitted job places) ≡ first (turn-rows job places)
 admitted-number = rows.admitted-number
 
 -- `fresh` refuses with 4, 5 or 6 exactly when the table says so, the first row that holds; 0 stands for a record.
-pub fresh-number : (camera : Camera) (width height : ℕ) (strict : Bool) → begun-number (told-started (fresh camera width height strict)) ≡ first (fresh-rows camera width height)
+pub fresh-number :
+    (camera : Camera) (width height : ℕ) (strict : Bool)
+    → begun-number (told-started (fresh camera width height strict)) ≡ first (fresh-rows camera width height)
 fresh-number = rows.fresh-number

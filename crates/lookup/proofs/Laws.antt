@@ -25,14 +25,17 @@ use Rattle.lens.specs.declared.Distorted.the-variants.{At, Refused}
 use Rattle.lens.specs.declared.Judgement.the-variants as call
 use Rattle.lens.specs.declared.Pixel.{Pixel}
 use Rattle.lens.specs.declared.Point.{Point}
-use Rattle.lens.specs.declared.Refusal.the-variants.{NotFinite, WrongSize, WrongLength, IncrementNotPositive, OutsideTable, AnswerNotFinite}
+use Rattle.lens.specs.declared.Refusal.the-variants.{NotFinite, WrongSize, WrongLength, IncrementNotPositive}
+use Rattle.lens.specs.declared.Refusal.the-variants.{OutsideTable, AnswerNotFinite}
 use Rattle.lens.proofs.Laws.{told-pixel-one-to-one}
 use Rattle.region.specs.Region.{four, increments, flat, wrong}
 use Rattle.region.specs.Size.{float, sized}
 use Rattle.region.specs.declared.Region.{Region}
 use Rattle.lookup.specs.Asked.{Inside, Whole}
 use Rattle.lookup.specs.Enclosed.{used, lesser, greater, least, greatest, Enclosed, EnclosedWithRoom, Level}
-use Rattle.lookup.specs.Lookup.{index, index-across, index-down, outside, whole-part, fraction, neighbour, spot, between, blended, cell, number-at, pixel-at, looked-up, spread, admitted, lookup}
+use Rattle.lookup.specs.Lookup.{index, index-across, index-down, outside, whole-part, fraction, neighbour, spot}
+use Rattle.lookup.specs.Lookup.{between, blended, cell, number-at, pixel-at, looked-up, spread, admitted}
+use Rattle.lookup.specs.Lookup.{lookup}
 use Rattle.lookup.specs.Owed.{Apart, Singles, around, Answered}
 use Rattle.lookup.specs.Rows.{ahead, lookup-rows}
 use Rattle.lookup.proofs.Among.{cut}
@@ -99,7 +102,8 @@ passed false true true false true h = (refl, refl)
 none :
     (f s m g d o a : Bool)
     → _≡_ {A = ℕ} (cond f 4 (cond (not s) 6 (cond (not m) 7 (cond g 8 (cond (not d) 11 (cond o 9 (cond (not a) 11 0))))))) 0
-    → _≡_ {A = ℕ} (cond f 4 (cond (not s) 6 (cond (not m) 7 (cond g 8 (cond (not d) 11 0))))) 0 × (o ≡ false) × (a ≡ true)
+    → _≡_ {A = ℕ} (cond f 4 (cond (not s) 6 (cond (not m) 7 (cond g 8 (cond (not d) 11 0))))) 0 × (o ≡ false)
+    × (a ≡ true)
 none true s m g d o a h = absurd (omega arith)
 none false false m g d o a h = absurd (omega arith)
 none false true false g d o a h = absurd (omega arith)
@@ -116,7 +120,12 @@ neither false p h = (refl, h)
 apart : {i : Float} {cells : ℕ} → Inside i cells → Apart i cells
 apart {i} {cells} h =
     let c = cut i cells h in
-    record { first = c .among; second = omega (arith, min-le-right (whole-part i + 1) (cells - 1)); not-above = c .not-above; not-below = c .not-below }
+    record {
+      first = c .among;
+      second = omega (arith, min-le-right (whole-part i + 1) (cells - 1));
+      not-above = c .not-above;
+      not-below = c .not-below;
+    }
 
 module _ (table : List Float) (region : Region) (width height : ℕ) (point : Point) where
   abbrev before : ℕ
@@ -150,18 +159,25 @@ module _ (table : List Float) (region : Region) (width height : ℕ) (point : Po
   abbrev there-finite : Bool
   there-finite = finite (there .0) && finite (there .1)
 
-  -- A lookup gives 4, 6, 7, 8, 11, 9 or 11 exactly when the table of refusals says so, in this order, the increments before the indices.
-  pub lookup-number : told-pixel (lookup table region width height point) .number ≡ first (lookup-rows table region width height point)
+  -- A lookup gives 4, 6, 7, 8, 11, 9 or 11 exactly when the table of refusals says so, in this order, the increments
+  -- before the indices.
+  pub lookup-number :
+      told-pixel (lookup table region width height point) .number ≡ first (lookup-rows table region width height point)
   unfolding admitted spread wrong looked-up
   lookup-number = in-order not-given (sized width height) measures no-step steps-finite out there-finite there
 
   -- The number told is 9 exactly if neither 4, 6 and 7 nor the increments' 8 and 11 refuse the call, and the index
   -- across or the one down is below 0 or above the last.
-  pub outside-exactly : (told-pixel (lookup table region width height point) .number ≡ 9) ↔ ((before ≡ 0) × ((outside i width || outside j height) ≡ true))
-  outside-exactly = rw lookup-number (nine not-given (sized width height) measures no-step steps-finite out there-finite)
+  pub outside-exactly :
+      (told-pixel (lookup table region width height point) .number ≡ 9)
+      ↔ ((before ≡ 0) × ((outside i width || outside j height) ≡ true))
+  outside-exactly =
+      rw lookup-number (nine not-given (sized width height) measures no-step steps-finite out there-finite)
 
   -- its parts, for a call that isn't refused ahead of the indices
-  judged : before ≡ 0 → (admitted (length table) region width height point ≡ call.Taken) × (wrong (increments region width height) ≡ call.Taken)
+  judged :
+      before ≡ 0 → (admitted (length table) region width height point ≡ call.Taken)
+      × (wrong (increments region width height) ≡ call.Taken)
   unfolding admitted wrong
   judged h = passed not-given (sized width height) measures no-step steps-finite h
 
@@ -189,7 +205,9 @@ module _ (table : List Float) (region : Region) (width height : ℕ) (point : Po
   down-fits = div-fits binary64 (point .1 ⊖ region .top) (increments region width height .1)
 
   -- a call that nothing refuses
-  answers : before ≡ 0 → outside i width ≡ false → outside j height ≡ false → there-finite ≡ true → lookup table region width height point ≡ At there
+  answers :
+      before ≡ 0 → outside i width ≡ false → outside j height ≡ false → there-finite ≡ true
+      → lookup table region width height point ≡ At there
   unfolding spread looked-up
   answers h o p a = rw (judged h .0, judged h .1, o, p, a) refl
 
@@ -257,32 +275,44 @@ module _ (table : List Float) (region : Region) (width height : ℕ) (point : Po
 
     made-inside : (k : ℕ) → Inside i width → Inside j height → T (finite (made k)) → Enclosed (cells k) (made k)
     unfolding number-at spot
-    made-inside k across down = blended-inside _ _ _ _ (fraction i) (fraction j) (cells-fit k) (rest-part i width across-fits across) (rest-part j height down-fits down)
+    made-inside k across down =
+        blended-inside _ _ _ _ (fraction i) (fraction j) (cells-fit k) (rest-part i width across-fits across)
+        (rest-part j height down-fits down)
 
     made-level : (k : ℕ) → T (finite (made k)) → Level (cells k) (made k)
     unfolding number-at spot
     made-level k t c h =
         let f = cells-fit k in
         let back = ≐-sym (h .0) in
-        ≐-trans (blended-level _ _ _ _ (fraction i) (fraction j) (f .0) (f .1 .1 .0) t (≐-trans (h .1 .0) back) (≐-trans (h .1 .1 .0) back) (≐-trans (h .1 .1 .1 .0) back)) (h .0)
+        ≐-trans
+        (blended-level _ _ _ _ (fraction i) (fraction j) (f .0) (f .1 .1 .0) t
+         (≐-trans (h .1 .0) back) (≐-trans (h .1 .1 .0) back) (≐-trans (h .1 .1 .1 .0) back))
+        (h .0)
 
     -- Of a table of f32s, at any point that is answered: the four cells that are used are finite, and each coordinate
     -- of the answer lies between the least and the greatest of them, or is one of these two.
-    pub inside-exactly : {pixel : Pixel} → lookup table region width height point ≡ At pixel → Enclosed (cells 0) (pixel .0) × Enclosed (cells 1) (pixel .1)
+    pub inside-exactly :
+        {pixel : Pixel} → lookup table region width height point ≡ At pixel → Enclosed (cells 0) (pixel .0)
+        × Enclosed (cells 1) (pixel .1)
     inside-exactly e =
         let a = answer e in
         subst (λ (p : Pixel). Enclosed (cells 0) (p .0) × Enclosed (cells 1) (p .1)) (a .is)
         (made-inside 0 (a .across) (a .down) (a .first), made-inside 1 (a .across) (a .down) (a .second))
 
     -- And so within 2^-48 times the largest magnitude among the four of that, which is what request P13 asks.
-    pub inside : {pixel : Pixel} → lookup table region width height point ≡ At pixel → EnclosedWithRoom (cells 0) (pixel .0) × EnclosedWithRoom (cells 1) (pixel .1)
+    pub inside :
+        {pixel : Pixel} → lookup table region width height point ≡ At pixel → EnclosedWithRoom (cells 0) (pixel .0)
+        × EnclosedWithRoom (cells 1) (pixel .1)
     inside e = let both = inside-exactly e in (with-room (both .0), with-room (both .1))
 
     -- Four equal coordinates give exactly that number, the sign of a zero aside.
-    pub level : {pixel : Pixel} → lookup table region width height point ≡ At pixel → Level (cells 0) (pixel .0) × Level (cells 1) (pixel .1)
+    pub level :
+        {pixel : Pixel} → lookup table region width height point ≡ At pixel → Level (cells 0) (pixel .0)
+        × Level (cells 1) (pixel .1)
     level e =
         let a = answer e in
-        subst (λ (p : Pixel). Level (cells 0) (p .0) × Level (cells 1) (p .1)) (a .is) (made-level 0 (a .first), made-level 1 (a .second))
+        subst (λ (p : Pixel). Level (cells 0) (p .0) × Level (cells 1) (p .1)) (a .is)
+        (made-level 0 (a .first), made-level 1 (a .second))
 
 -- ---- by hand
 
@@ -297,7 +327,8 @@ listed =
     left ∷ top ∷ middle ∷ top ∷ right ∷ top ∷ left ∷ bottom ∷ middle ∷ bottom ∷ right ∷ bottom ∷ []
 
 abbrev pub box : Region
-box = record { left = f64 0xc000_0000_0000_0000; top = f64 0xbff8_0000_0000_0000; right = f64 0x4010_0000_0000_0000; bottom = f64 0x4004_0000_0000_0000 }
+box =
+    record { left = f64 0xc000_0000_0000_0000; top = f64 0xbff8_0000_0000_0000; right = f64 0x4010_0000_0000_0000; bottom = f64 0x4004_0000_0000_0000 }
 
 -- 1 and 0.5
 abbrev pub one-half : Point
@@ -308,5 +339,7 @@ pub by-hand :
     (lookup listed box 3 2 one-half ≡ At (uv (one-half .0) (one-half .1)))
     × (least (used listed box 3 2 one-half 1) ≈ opposite (over 3 2))
     × (greatest (used listed box 3 2 one-half 1) ≈ over 5 2)
-unfolding listed admitted wrong spread looked-up index spot between blended cell number-at increments float ofInt ofBits round add sub mul div neg lt eq le toUnsigned all-finite least greatest lesser greater opposite over exactly
+unfolding
+    listed admitted wrong spread looked-up index spot between blended cell number-at increments float ofInt ofBits round
+    add sub mul div neg lt eq le toUnsigned all-finite least greatest lesser greater opposite over exactly
 by-hand = (refl, record { holds = refl }, record { holds = refl })
