@@ -286,7 +286,7 @@ module _ (table : List Float) (region : Region) (width height : ℕ) (point : Po
         let back = ≐-sym (h .0) in
         ≐-trans
         (blended-level _ _ _ _ (fraction i) (fraction j) (f .0) (f .1 .1 .0) t
-         (≐-trans (h .1 .0) back) (≐-trans (h .1 .1 .0) back) (≐-trans (h .1 .1 .1 .0) back))
+        (≐-trans (h .1 .0) back) (≐-trans (h .1 .1 .0) back) (≐-trans (h .1 .1 .1 .0) back))
         (h .0)
 
     -- Of a table of f32s, at any point that is answered: the four cells that are used are finite, and each coordinate

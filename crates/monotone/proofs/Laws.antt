@@ -132,7 +132,7 @@ rounds-monotone P Q r q f g h =
     let exact = ≼-trans P (≈→≼ (≈-sym (r .value))) (≼-≈ Q h (q .value)) in
     rw (e, d)
     (in-order (r .negative) (q .negative) (r .top) (r .bottom) (q .top) (q .bottom) (r .some) (q .some)
-     (subst (λ (x : Float). T (finite x)) e f) (subst (λ (x : Float). T (finite x)) d g) exact)
+    (subst (λ (x : Float). T (finite x)) e f) (subst (λ (x : Float). T (finite x)) d g) exact)
 
 -- Where the exact number isn't above an f64, what it is rounded to isn't either; and so below.
 pub rounds-not-above :
@@ -152,7 +152,7 @@ unfolding exactly over
 rounds-not-negative {x} P r f h =
     let none = zero-rounds binary64 false 0 1 refl (lit≤ tt) in
     let zero : Rounds (fin false 0 (pos 0)) (whole 0) =
-          record { negative = false; top = 0; bottom = 1; some = lit≤ tt; is = sym none; value = ≈-refl (over 0 1) } in
+    record { negative = false; top = 0; bottom = 1; some = lit≤ tt; is = sym none; value = ≈-refl (over 0 1) } in
     ≈-≼ (exactly-proper (fin false 0 (pos 0))) (record { holds = refl })
     (rounds-monotone (over-proper 0 1 (lit≤ tt)) P zero r tt f h)
 
