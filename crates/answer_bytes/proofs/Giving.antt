@@ -8,11 +8,12 @@ use lib.Ieee.{Float}
 use lib.ListN.{length, length-append}
 use Rattle.little_endian.specs.Bytes.{bytes, floats, put}
 use Rattle.little_endian.proofs.Laws.{length-bytes, length-floats, put-whole, put-put}
+use Rattle.lens.specs.Jacobian.{entries}
 use Rattle.lens.specs.declared.Jacobian.{Jacobian}
 use Rattle.lens.specs.declared.Settled.{Settled}
 use Rattle.camera.specs.declared.Differentiated.{Differentiated}
 use Rattle.given.specs.Given.{Given, flag-number}
-use Rattle.answer_bytes.specs.Answer.{point-bytes, jacobian-bytes, give-jacobian}
+use Rattle.answer_bytes.specs.Answer.{point-bytes, jacobian-bytes, columns-place, jacobian-length, give-jacobian}
 use Rattle.camera_bytes.specs.declared.Asked.{Asked}
 
 -- ---- the answers' bytes, as they are put one behind the other
@@ -45,13 +46,13 @@ point-put s lent e =
 
 pub jacobian-put :
     (j : Jacobian) (lent : List ℕ) →
-    length (j .entries) ≡ 32 →
-    length lent ≡ 264 →
-    put 256 (bytes 8 (j .columns)) (put 0 (floats (j .entries)) lent) ≡ jacobian-bytes j
+    length (j .entries) ≡ entries →
+    length lent ≡ jacobian-length →
+    put columns-place (bytes 8 (j .columns)) (put 0 (floats (j .entries)) lent) ≡ jacobian-bytes j
 jacobian-put j lent n e =
     let la : length (floats (j .entries)) ≡ 8 * length (j .entries) = length-floats (j .entries) in
     let lb : length (bytes 8 (j .columns)) ≡ 8 = length-bytes 8 (j .columns) in
-    put-put 0 (floats (j .entries)) (bytes 8 (j .columns)) lent 256 (omega (arith, la, n)) (omega (arith, la, lb, n, e))
+    put-put 0 (floats (j .entries)) (bytes 8 (j .columns)) lent columns-place (omega (arith, la, n)) (omega (arith, la, lb, n, e))
     ∙ put-whole (floats (j .entries) ++ bytes 8 (j .columns)) lent (omega (arith, la, lb, n, e, length-append (floats (j .entries)) (bytes 8 (j .columns))))
 
 -- ---- a call, from its parts

@@ -12,6 +12,7 @@ use Rattle.exact.specs.Determined.{Determined, DeterminedWith}
 use Rattle.little_endian.specs.Bytes.{value, bytes, half, word, float, floats}
 use Rattle.little_endian.proofs.Laws.{length-bytes, length-floats, value-bytes, float-at}
 use Rattle.lens.specs.Distorted.{told-pixel}
+use Rattle.lens.specs.Jacobian.{entries}
 use Rattle.lens.specs.Undistorted.{told}
 use Rattle.lens.specs.declared.Distorted.{Distorted}
 use Rattle.lens.specs.declared.Distorted.the-variants as pixels
@@ -24,12 +25,12 @@ use Rattle.camera.specs.Camera.{distort, undistort, dx-distort-x, dx-distort-pa
 use Rattle.camera.specs.declared.Camera.{Camera}
 use Rattle.given.specs.Given.{Given, given, flag-number}
 use Rattle.given.proofs.Laws.{both, Untouched, refused-kept, filled}
-use Rattle.camera.specs.Numbers.{count}
+use Rattle.camera.specs.Numbers.{last, count}
 use Rattle.camera_bytes.specs.Reading.{camera-of, read}
 use Rattle.camera_bytes.specs.declared.Asked.{Asked}
 use Rattle.camera_bytes.specs.declared.Asked.the-variants.{Of}
 use Rattle.camera_bytes.proofs.Counted.{read-camera}
-use Rattle.answer_bytes.specs.Answer.{pixel-bytes, point-bytes, jacobian-bytes, give-jacobian, given-pixel, given-point, distorted, undistorted, slopes, parameter-slopes, distort-bytes, undistort-bytes, dx-distort-x-bytes, dx-distort-params-bytes}
+use Rattle.answer_bytes.specs.Answer.{pixel-bytes, point-bytes, jacobian-bytes, columns-place, jacobian-length, give-jacobian, given-pixel, given-point, distorted, undistorted, slopes, parameter-slopes, distort-bytes, undistort-bytes, dx-distort-x-bytes, dx-distort-params-bytes}
 use Rattle.answer_bytes.specs.declared.ToldPixel.{ToldPixel}
 use Rattle.answer_bytes.proofs.told_pixel.Reads as told-pixel-contract
 use Rattle.answer_bytes.proofs.give_pixel.Reads as give-pixel-contract
@@ -71,11 +72,11 @@ pub refused-untouched :
     × Untouched (dx-distort-params-bytes model params x y lent) lent
 unfolding distort-bytes undistort-bytes dx-distort-x-bytes dx-distort-params-bytes
 refused-untouched model params lent x y =
-    (refused-kept 16 _ _ lent, refused-kept 24 _ _ lent, refused-kept 264 _ _ lent, refused-kept 264 _ _ lent)
+    (refused-kept 16 _ _ lent, refused-kept 24 _ _ lent, refused-kept jacobian-length _ _ lent, refused-kept jacobian-length _ _ lent)
 
 -- ---- from a camera to its answer in the buffer
 
-module _ (model : ℕ) (params lent : List ℕ) (x y : Float) (known : model ≤ 3) (counted : length params ≡ 8 * count model) where
+module _ (model : ℕ) (params lent : List ℕ) (x y : Float) (known : model ≤ last) (counted : length params ≡ 8 * count model) where
   abbrev camera : Camera
   camera = camera-of model params
 
@@ -104,22 +105,26 @@ module _ (model : ℕ) (params lent : List ℕ) (x y : Float) (known : model ≤
       by-camera (λ (a : Asked). undistorted a record { 0 = x; 1 = y }) (λ (d : Undistorted). given-point (told d) lent) (points.At s) e
       ∙ filled 24 0 (point-bytes s) lent refl f
 
-  -- Where it answers a Jacobian, 264 bytes are that, by the point and by the parameters.
+  -- Where it answers a Jacobian, so many bytes are that, by the point and by the parameters.
   pub dx-distort-x-answered :
       dx-distort-x camera record { 0 = x; 1 = y } .number ≡ 0 →
-      length lent ≡ 264 →
+      length lent ≡ jacobian-length →
       dx-distort-x-bytes model params x y lent ≡ given 0 (jacobian-bytes (dx-distort-x camera record { 0 = x; 1 = y } .jacobian))
   unfolding dx-distort-x-bytes
-  dx-distort-x-answered e f = is-read (λ (a : Asked). give-jacobian (slopes a record { 0 = x; 1 = y }) lent) ∙ filled 264 _ _ lent e f
+  dx-distort-x-answered e f = is-read (λ (a : Asked). give-jacobian (slopes a record { 0 = x; 1 = y }) lent) ∙ filled jacobian-length _ _ lent e f
 
   pub dx-distort-params-answered :
       dx-distort-params camera record { 0 = x; 1 = y } .number ≡ 0 →
-      length lent ≡ 264 →
+      length lent ≡ jacobian-length →
       dx-distort-params-bytes model params x y lent ≡ given 0 (jacobian-bytes (dx-distort-params camera record { 0 = x; 1 = y } .jacobian))
   unfolding dx-distort-params-bytes
-  dx-distort-params-answered e f = is-read (λ (a : Asked). give-jacobian (parameter-slopes a record { 0 = x; 1 = y }) lent) ∙ filled 264 _ _ lent e f
+  dx-distort-params-answered e f = is-read (λ (a : Asked). give-jacobian (parameter-slopes a record { 0 = x; 1 = y }) lent) ∙ filled jacobian-length _ _ lent e f
 
 -- ---- what a caller reads out of an answer's bytes
+
+-- A Jacobian's bytes are 264, of which the last 8 are the columns: so include/lens.h has it.
+pub jacobian-places : (columns-place ≡ 256) × (jacobian-length ≡ 264)
+jacobian-places = (refl, refl)
 
 floats-read : (xs : List Float) (k : ℕ) (d : Float) → k < length xs → T (fits binary64 (getD xs k d)) → float (floats xs) (8 * k) ≡ getD xs k d
 floats-read xs k d h ok = ap (λ (l : List ℕ). float l (8 * k)) (sym (append-nil (floats xs))) ∙ float-at xs k d [] h ok
@@ -162,7 +167,7 @@ module _ (s : Settled) where
       drop-at (floats numbers ++ bytes 4 (s .updates)) tail 20
       (omega (arith, length-append (floats numbers) (bytes 4 (s .updates)), length-floats numbers, length-bytes 4 (s .updates)))
 
--- Out of a Jacobian's, its k-th number at 8k, and the count of columns at 256.
+-- Out of a Jacobian's, its k-th number at 8k, and the count of columns behind them.
 pub entry-read :
     (j : Jacobian) (k : ℕ) (d : Float) →
     k < length (j .entries) →
@@ -170,8 +175,8 @@ pub entry-read :
     float (jacobian-bytes j) (8 * k) ≡ getD (j .entries) k d
 entry-read j k d h ok = float-at (j .entries) k d (bytes 8 (j .columns)) h ok
 
-pub columns-read : (j : Jacobian) → length (j .entries) ≡ 32 → j .columns < 256 ^ 8 → word (jacobian-bytes j) 256 ≡ j .columns
+pub columns-read : (j : Jacobian) → length (j .entries) ≡ entries → j .columns < 256 ^ 8 → word (jacobian-bytes j) columns-place ≡ j .columns
 columns-read j n h =
-    ap (λ (l : List ℕ). value (take 8 l)) (drop-at (floats (j .entries)) (bytes 8 (j .columns)) 256 (omega (arith, length-floats (j .entries), n)))
+    ap (λ (l : List ℕ). value (take 8 l)) (drop-at (floats (j .entries)) (bytes 8 (j .columns)) columns-place (omega (arith, length-floats (j .entries), n)))
     ∙ ap value (take-all 8 (bytes 8 (j .columns)) (omega (arith, length-bytes 8 (j .columns))))
     ∙ value-bytes 8 (j .columns) h

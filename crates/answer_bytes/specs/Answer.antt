@@ -1,10 +1,11 @@
 -- The four operations over bytes, each as what is handed in and the buffer lent, and the number and the buffer that
 -- come back. Definitions only.
 use mathlib.Core.List.{List, [], _∷_, _++_}
-use Prim.Native.Nat.{ℕ}
+use Prim.Native.Nat.{ℕ, _+_, _*_}
 use lib.Ieee.{Float}
 use Rattle.little_endian.specs.Bytes.{bytes, floats}
 use Rattle.lens.specs.Distorted.{ToldPixel, told-pixel}
+use Rattle.lens.specs.Jacobian.{entries}
 use Rattle.lens.specs.Undistorted.{Told, told}
 use Rattle.lens.specs.declared.Distorted.{Distorted}
 use Rattle.lens.specs.declared.Distorted.the-variants as pixels
@@ -33,11 +34,18 @@ point-bytes settled =
     floats (settled .point .0 ∷ settled .point .1 ∷ []) ++ bytes 4 (settled .updates)
     ++ flag-number (settled .flag) ∷ 0 ∷ 0 ∷ 0 ∷ []
 
--- the 32 entries row by row, the columns
+-- the entries row by row, the columns
 abbrev pub jacobian-bytes : Jacobian → List ℕ
 jacobian-bytes jacobian = floats (jacobian .entries) ++ bytes 8 (jacobian .columns)
 
--- ---- an answer and its number, before a lent buffer of 16, 24 or 264 bytes
+-- the columns stand behind so many bytes, and end it
+abbrev pub columns-place : ℕ
+columns-place = 8 * entries
+
+abbrev pub jacobian-length : ℕ
+jacobian-length = columns-place + 8
+
+-- ---- an answer and its number, before a lent buffer of 16 bytes, of 24, or of a Jacobian's
 
 abbrev pub give-pixel : ℕ → Pixel → List ℕ → Given
 give-pixel number pixel lent = answered 16 number (pixel-bytes pixel) lent
@@ -46,7 +54,7 @@ abbrev pub give-point : ℕ → Settled → List ℕ → Given
 give-point number settled lent = answered 24 number (point-bytes settled) lent
 
 abbrev pub give-jacobian : Differentiated → List ℕ → Given
-give-jacobian d lent = answered 264 (d .number) (jacobian-bytes (d .jacobian)) lent
+give-jacobian d lent = answered jacobian-length (d .number) (jacobian-bytes (d .jacobian)) lent
 
 -- ---- the camera's operation, or why there is no camera
 

@@ -8,10 +8,12 @@ ghost use Rattle.little_endian.specs.Bytes.{floats, put};
 ghost use Rattle.lens.specs.Distorted.{told-pixel};
 ghost use Rattle.lens.specs.Undistorted.{told};
 ghost use Rattle.lens.specs.Finite.{all-finite};
+ghost use Rattle.lens.specs.Jacobian.{entries};
 ghost use Rattle.camera.specs.Camera.{parameters, judged, distort, undistort, dx-distort-x, dx-distort-params};
 ghost use Rattle.camera_bytes.specs.Reading.{read};
 ghost use Rattle.given.specs.Given.{given};
-ghost use Rattle.answer_bytes.specs.Answer.{give-pixel, give-point, give-jacobian, distorted, undistorted, slopes, parameter-slopes, distort-bytes, undistort-bytes, dx-distort-x-bytes, dx-distort-params-bytes};
+ghost use Rattle.answer_bytes.specs.Answer.{columns-place, give-pixel, give-point, give-jacobian};
+ghost use Rattle.answer_bytes.specs.Answer.{distorted, undistorted, slopes, parameter-slopes, distort-bytes, undistort-bytes, dx-distort-x-bytes, dx-distort-params-bytes};
 use camera::Camera;
 use camera::Differentiated;
 use camera_bytes::Tested;
@@ -22,6 +24,11 @@ use lens::Point;
 use lens::Refusal;
 use lens::Settled;
 use lens::Undistorted;
+
+// Where a Jacobian's bytes have the count of columns, and how many they are.
+const COLUMNS: usize = 8 * lens::ENTRIES;
+
+const JACOBIAN: usize = COLUMNS + 8;
 
 // What distort tells: its number, and its pixel or zeros.
 pub struct ToldPixel {
@@ -209,13 +216,13 @@ fn parameter_slopes(model: u8, params: &[u8], point: Point) -> Differentiated
 }
 
 // Puts the bit patterns of finite numbers at the start: none is a NaN, so that the compiler copies them as they are.
-fn put_entries(answer: &mut [u8], entries: &[f64; lens::ENTRIES])
-    requires { ⌜ (256 ≤ length (now answer)) × ((length (now entries) ≡ 32) × (all-finite (now entries) ≡ true)) ⌝ }
-    ensures { λ _. ⌜ now (answer .exit) ≡ put 0 (floats (now (entries .entry))) (now (answer .entry)) ⌝ }
+fn put_entries(answer: &mut [u8], numbers: &[f64; lens::ENTRIES])
+    requires { ⌜ (columns-place ≤ length (now answer)) × ((length (now numbers) ≡ entries) × (all-finite (now numbers) ≡ true)) ⌝ }
+    ensures { λ _. ⌜ now (answer .exit) ≡ put 0 (floats (now (numbers .entry))) (now (answer .entry)) ⌝ }
 {
     let mut i = 0;
     while i < lens::ENTRIES {
-        little_endian::put(answer, 8 * i, 8, f64::to_bits(entries[i]));
+        little_endian::put(answer, 8 * i, 8, f64::to_bits(numbers[i]));
         i += 1;
     }
 }
@@ -224,17 +231,17 @@ fn give_jacobian(told: Differentiated, answer: &mut [u8]) -> u8
     requires { ⌜ (told .number ≡ 0 → all-finite (told .jacobian .entries) ≡ true) ⌝ }
     ensures { λ r. ⌜ given r (now (answer .exit)) ≡ give-jacobian told (now (answer .entry)) ⌝ }
 {
-    let code = given::code(told.number, answer.len() == 264);
+    let code = given::code(told.number, answer.len() == JACOBIAN);
     if code == 0 {
         let jacobian = told.jacobian;
         let entries = jacobian.entries;
         put_entries(answer, &entries);
-        little_endian::put(answer, 256, 8, jacobian.columns as u64);
+        little_endian::put(answer, COLUMNS, 8, jacobian.columns as u64);
     }
     code
 }
 
-// The derivative of distort by the point: 32 numbers row by row, then how many columns, 264 bytes.
+// The derivative of distort by the point: its entries row by row, then how many columns.
 pub fn dx_distort_x(model: u8, params: &[u8], x: f64, y: f64, answer: &mut [u8]) -> u8
     ensures { λ r. ⌜ given r (now (answer .exit)) ≡
         dx-distort-x-bytes model (now (params .entry)) x y (now (answer .entry)) ⌝ }

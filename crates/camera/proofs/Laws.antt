@@ -1,12 +1,13 @@
 -- What a caller may rely on, of the definitions of specs/ and of the contracts of src/. Assumes nothing.
 use mathlib.Core.Path.{_≡_, refl, sym, ap, _∙_}
-use mathlib.Core.Bool.{Bool, true, false, cond, _&&_}
+use mathlib.Core.Bool.{true, false, _&&_}
 use mathlib.Core.Logic.{_↔_}
 use mathlib.Core.List.{[], _∷_}
-use Prim.Native.Nat.{ℕ, _≤_}
-use lib.Dec.{T, lit≤, eqb}
+use Prim.Native.Nat.{ℕ, suc, _≤_}
+use lib.Dec.{T, lit≤}
 use lib.Ieee.{Float, nan, le, add, sub, mul, div, neg, ofBits, ofInt, lt, isNan}
 use lib.Ieee.Scale.{finite}
+use lib.ListN.{length}
 use Rattle.exact.specs.Determined.{Determined}
 use Rattle.exact.specs.F64.{f64, minus, magnitude, isZero}
 use Rattle.exact.specs.Fraction.{exactly, _≺_}
@@ -50,6 +51,7 @@ use Rattle.camera.specs.declared.Camera.the-variants.{Affine, EnhancedUn
 use Rattle.lens.specs.declared.Judgement.the-variants as Judged
 use Rattle.lens.specs.declared.Distorted.the-variants.{At, Refused}
 use Rattle.camera.proofs.ByHand.{at-once, answer, affines, eucms, kbs, bcs}
+use Rattle.camera.proofs.Models.{each-model}
 use Rattle.camera.proofs.Past.{steep-past, first-is-10, first-is-16}
 use Rattle.camera.proofs.Steep as far-out
 use Rattle.camera.proofs.Told.{before, behind, given, pixel-number, point-number, answer-number, agree, jacobian-number, distort-own, undistort-own, jacobian-own, jacobian-finite, kept, most, found-own, as-before, undistort-as-before}
@@ -69,7 +71,7 @@ use Rattle.camera.proofs.dx_distort_params_judged.Reads as dx-distort-p
 use Rattle.camera.proofs.numbers.count.Reads as count-contract
 use Rattle.camera.proofs.numbers.camera_of.Reads as camera-of-contract
 use Rattle.camera.proofs.numbers.model_number.Reads as model-number-contract
-use Rattle.camera.proofs.numbers.twelve.Reads as twelve-contract
+use Rattle.camera.proofs.numbers.padded.Reads as padded-contract
 
 -- ---- each contract permits one answer
 
@@ -110,7 +112,7 @@ determined-known = (
 -- and for the four of `numbers`.
 pub determined-numbers :
     Determined count-contract.Post × Determined camera-of-contract.Post
-    × Determined model-number-contract.Post × Determined twelve-contract.Post
+    × Determined model-number-contract.Post × Determined padded-contract.Post
 determined-numbers = (
   λ κ a s s' r r' p q. p ∙ sym q,
   λ κ a s s' r r' p q. p ∙ sym q,
@@ -124,43 +126,40 @@ determined-numbers = (
 pub camera-back :
     (camera : Camera) →
     (numbers.camera-of (numbers.model-number camera) (numbers.at (parameters camera)) ≡ camera)
-    × (numbers.camera-of (numbers.model-number camera) (numbers.at (numbers.twelve camera)) ≡ camera)
+    × (numbers.camera-of (numbers.model-number camera) (numbers.at (numbers.padded camera)) ≡ camera)
 camera-back (Affine p) = (refl, refl)
 camera-back (EnhancedUnified p) = (refl, refl)
 camera-back (KannalaBrandt p) = (refl, refl)
 camera-back (BrownConrady p) = (refl, refl)
 
 module _ (n : ℕ → Float) where
-  abbrev first-only : Bool → Bool → Bool → ℕ → Float
-  first-only a b c = numbers.at (numbers.first-of (cond a 4 (cond b 6 (cond c 8 12))) n)
-
-  by-model :
-      (a b c : Bool) →
-      parameters (cond a (numbers.affine n) (cond b (numbers.enhanced-unified n) (cond c (numbers.kannala-brandt n) (numbers.brown-conrady n))))
-      ≡ numbers.first-of (cond a 4 (cond b 6 (cond c 8 12))) n
-  by-model true b c = refl
-  by-model false true c = refl
-  by-model false false true = refl
-  by-model false false false = refl
-
-  by-first :
-      (a b c : Bool) →
-      cond a (numbers.affine n) (cond b (numbers.enhanced-unified n) (cond c (numbers.kannala-brandt n) (numbers.brown-conrady n)))
-      ≡ cond a (numbers.affine (first-only a b c))
-      (cond b (numbers.enhanced-unified (first-only a b c))
-      (cond c (numbers.kannala-brandt (first-only a b c)) (numbers.brown-conrady (first-only a b c))))
-  by-first true b c = refl
-  by-first false true c = refl
-  by-first false false true = refl
-  by-first false false false = refl
-
   -- A model's camera is made of as many numbers as the model has: the first.
   pub camera-first : (model : ℕ) → numbers.camera-of model n ≡ numbers.camera-of model (numbers.at (numbers.first-of (numbers.count model) n))
-  camera-first model = by-first (eqb model 0) (eqb model 1) (eqb model 2)
+  camera-first = each-model (λ m. m .camera n ≡ m .camera (numbers.at (numbers.first-of (m .count) n))) (refl, (refl, (refl, (refl, tt)))) refl
 
   -- The parameters of the camera of a model and numbers are the numbers, in order, as many as the model has.
   pub parameters-are : (model : ℕ) → parameters (numbers.camera-of model n) ≡ numbers.first-of (numbers.count model) n
-  parameters-are model = by-model (eqb model 0) (eqb model 1) (eqb model 2)
+  parameters-are = each-model (λ m. parameters (m .camera n) ≡ numbers.first-of (m .count) n) (refl, (refl, (refl, (refl, tt)))) refl
+
+-- `last` is the highest number of the table, and the most parameters of a model in it are `most`.
+pub table-ends :
+    (length numbers.models ≡ suc numbers.last)
+    × ((model : ℕ) → numbers.count model ≤ numbers.most) × (numbers.count numbers.last ≡ numbers.most)
+table-ends = (refl, each-model (λ m. m .count ≤ numbers.most) (lit≤ tt, (lit≤ tt, (lit≤ tt, (lit≤ tt, tt)))) (lit≤ tt), refl)
+
+-- No camera's number is above `last`, and its parameters are as many as its model has.
+pub camera-known : (camera : Camera) → (numbers.model-number camera ≤ numbers.last) × (length (parameters camera) ≡ numbers.count (numbers.model-number camera))
+camera-known (Affine p) = (lit≤ tt, refl)
+camera-known (EnhancedUnified p) = (lit≤ tt, refl)
+camera-known (KannalaBrandt p) = (lit≤ tt, refl)
+camera-known (BrownConrady p) = (lit≤ tt, refl)
+
+-- Padded parameters are `most`, of every camera.
+pub padded-length : (camera : Camera) → length (numbers.padded camera) ≡ numbers.most
+padded-length (Affine p) = refl
+padded-length (EnhancedUnified p) = refl
+padded-length (KannalaBrandt p) = refl
+padded-length (BrownConrady p) = refl
 
 -- ---- the refusals: the number told is that of the first row that holds, and 0 if none does
 

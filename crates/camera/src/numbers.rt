@@ -1,7 +1,7 @@
-// The four models by number, and their parameters as numbers: what bytes and text know of a camera. Nobody else says in
-// which order a model's parameters stand.
+// The models by number, and their parameters as numbers: what bytes and text know of a camera. Nobody else says in which
+// order a model's parameters stand.
 ghost use mathlib.Core.Path.{_≡_};
-ghost use Rattle.camera.specs.Numbers.{count, at, brown-conrady, camera-of, model-number, twelve};
+ghost use Rattle.camera.specs.Numbers.{count, at, brown-conrady, camera-of, model-number, padded};
 use crate::Camera;
 use affine::AffineParams;
 use brown_conrady::BrownConradyParams;
@@ -29,7 +29,7 @@ pub fn count(model: u8) -> u8
 }
 
 fn brown_conrady_of(n: &[f64; MOST]) -> Camera
-    ensures { λ r. ⌜ r ≡ brown-conrady (at (now (n .entry))) ⌝ }
+    ensures { λ r. ⌜ r ≡ brown-conrady .camera (at (now (n .entry))) ⌝ }
 {
     Camera::BrownConrady(BrownConradyParams {
         fx: n[0],
@@ -95,8 +95,8 @@ pub fn model_number(camera: Camera) -> u8
 }
 
 // A camera's parameters, and zeros behind them.
-pub fn twelve(camera: Camera) -> [f64; MOST]
-    ensures { λ r. ⌜ r ≡ twelve camera ⌝ }
+pub fn padded(camera: Camera) -> [f64; MOST]
+    ensures { λ r. ⌜ r ≡ padded camera ⌝ }
 {
     match camera {
         Camera::Affine(p) => of_affine(p),
@@ -107,77 +107,59 @@ pub fn twelve(camera: Camera) -> [f64; MOST]
 }
 
 fn of_affine(p: AffineParams) -> [f64; MOST]
-    ensures { λ r. ⌜ r ≡ twelve (Camera.Affine p) ⌝ }
+    ensures { λ r. ⌜ r ≡ padded (Camera.Affine p) ⌝ }
 {
-    [
-        p.fx,
-        p.fy,
-        p.cx,
-        p.cy,
-        0.0,
-        0.0,
-        0.0,
-        0.0,
-        0.0,
-        0.0,
-        0.0,
-        0.0,
-    ]
+    let mut n = [0.0; MOST];
+    n[0] = p.fx;
+    n[1] = p.fy;
+    n[2] = p.cx;
+    n[3] = p.cy;
+    n
 }
 
 fn of_enhanced_unified(p: EnhancedUnifiedParams) -> [f64; MOST]
-    ensures { λ r. ⌜ r ≡ twelve (Camera.EnhancedUnified p) ⌝ }
+    ensures { λ r. ⌜ r ≡ padded (Camera.EnhancedUnified p) ⌝ }
 {
-    [
-        p.fx,
-        p.fy,
-        p.cx,
-        p.cy,
-        p.alpha,
-        p.beta,
-        0.0,
-        0.0,
-        0.0,
-        0.0,
-        0.0,
-        0.0,
-    ]
+    let mut n = [0.0; MOST];
+    n[0] = p.fx;
+    n[1] = p.fy;
+    n[2] = p.cx;
+    n[3] = p.cy;
+    n[4] = p.alpha;
+    n[5] = p.beta;
+    n
 }
 
 fn of_kannala_brandt(p: KannalaBrandtParams) -> [f64; MOST]
-    ensures { λ r. ⌜ r ≡ twelve (Camera.KannalaBrandt p) ⌝ }
+    ensures { λ r. ⌜ r ≡ padded (Camera.KannalaBrandt p) ⌝ }
 {
-    [
-        p.fx,
-        p.fy,
-        p.cx,
-        p.cy,
-        p.k0,
-        p.k1,
-        p.k2,
-        p.k3,
-        0.0,
-        0.0,
-        0.0,
-        0.0,
-    ]
+    let mut n = [0.0; MOST];
+    n[0] = p.fx;
+    n[1] = p.fy;
+    n[2] = p.cx;
+    n[3] = p.cy;
+    n[4] = p.k0;
+    n[5] = p.k1;
+    n[6] = p.k2;
+    n[7] = p.k3;
+    n
 }
 
 fn of_brown_conrady(p: BrownConradyParams) -> [f64; MOST]
-    ensures { λ r. ⌜ r ≡ twelve (Camera.BrownConrady p) ⌝ }
+    ensures { λ r. ⌜ r ≡ padded (Camera.BrownConrady p) ⌝ }
 {
-    [
-        p.fx,
-        p.fy,
-        p.cx,
-        p.cy,
-        p.k1,
-        p.k2,
-        p.p1,
-        p.p2,
-        p.k3,
-        p.k4,
-        p.k5,
-        p.k6,
-    ]
+    let mut n = [0.0; MOST];
+    n[0] = p.fx;
+    n[1] = p.fy;
+    n[2] = p.cx;
+    n[3] = p.cy;
+    n[4] = p.k1;
+    n[5] = p.k2;
+    n[6] = p.p1;
+    n[7] = p.p2;
+    n[8] = p.k3;
+    n[9] = p.k4;
+    n[10] = p.k5;
+    n[11] = p.k6;
+    n
 }

@@ -9,7 +9,7 @@ use lib.ListN.{length}
 use Rattle.lens.specs.Judgement.{decided}
 use Rattle.lens.specs.declared.Judgement.the-variants as Judged
 use Rattle.lens.specs.declared.Refusal.the-variants.{UnknownModel, WrongCount}
-use Rattle.camera.specs.Numbers.{count}
+use Rattle.camera.specs.Numbers.{last, count}
 use Rattle.camera.specs.declared.Camera.{Camera}
 use Rattle.camera_bytes.specs.Reading.{camera-of, judged, read}
 use Rattle.camera_bytes.specs.declared.Asked.{Asked}
@@ -22,19 +22,19 @@ module _ (model : ℕ) (p : List ℕ) where
   abbrev known : Bool → Asked → Asked
   known b asked = cond b asked (Refused UnknownModel)
 
-  pub read-camera : model ≤ 3 → length p ≡ 8 * count model → read model p ≡ Of (camera-of model p)
+  pub read-camera : model ≤ last → length p ≡ 8 * count model → read model p ≡ Of (camera-of model p)
   unfolding read
   read-camera h e =
-      ap (λ (b : Bool). known b (counted (eqb (length p) (8 * count model)))) (le-leb model 3 h) ∙ ap counted (eq-eqb (length p) (8 * count model) e)
+      ap (λ (b : Bool). known b (counted (eqb (length p) (8 * count model)))) (le-leb model last h) ∙ ap counted (eq-eqb (length p) (8 * count model) e)
 
-  pub read-miscounted : model ≤ 3 → (length p ≡ 8 * count model → ⊥) → read model p ≡ Refused WrongCount
+  pub read-miscounted : model ≤ last → (length p ≡ 8 * count model → ⊥) → read model p ≡ Refused WrongCount
   unfolding read
   read-miscounted h e =
-      ap (λ (b : Bool). known b (counted (eqb (length p) (8 * count model)))) (le-leb model 3 h) ∙ ap counted (ne-eqb (length p) (8 * count model) e)
+      ap (λ (b : Bool). known b (counted (eqb (length p) (8 * count model)))) (le-leb model last h) ∙ ap counted (ne-eqb (length p) (8 * count model) e)
 
-  pub read-unknown : 3 < model → read model p ≡ Refused UnknownModel
+  pub read-unknown : last < model → read model p ≡ Refused UnknownModel
   unfolding read
-  read-unknown h = ap (λ (b : Bool). known b (counted (eqb (length p) (8 * count model)))) (lt-leb model 3 h)
+  read-unknown h = ap (λ (b : Bool). known b (counted (eqb (length p) (8 * count model)))) (lt-leb model last h)
 
   by-tests :
       (a b : Bool) (c : Camera) →
@@ -47,4 +47,4 @@ module _ (model : ℕ) (p : List ℕ) where
   -- what is asked for is the camera, where 1 and 3 do not refuse
   pub read-judged : read model p ≡ decided (judged model p) Refused (Of (camera-of model p))
   unfolding read judged
-  read-judged = by-tests (leb model 3) (eqb (length p) (8 * count model)) (camera-of model p)
+  read-judged = by-tests (leb model last) (eqb (length p) (8 * count model)) (camera-of model p)

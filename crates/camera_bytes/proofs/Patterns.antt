@@ -1,28 +1,29 @@
 -- A camera whose parameters are finite, by their bit patterns. Assumes nothing.
 use mathlib.Core.Path.{_≡_, refl, sym, ap, ap₂, _∙_, subst}
-use mathlib.Core.Bool.{Bool, true}
+use mathlib.Core.Bool.{Bool, true, _&&_}
 use mathlib.Core.List.{List, [], _∷_}
 use mathlib.Core.Logic.{inl, inr}
 use Prim.Native.Nat.{ℕ, zero, suc, _+_, _-_, _*_, _/_, _%_, _^_, _≤_, _<_}
 use native.Mathlib.Nat.{eq-zero-or-pos}
 use native.Mathlib.Omega.{arith}
-use borrow.Author.Tests.{ne-eqb}
+use borrow.Author.Count.{below-more}
 use lib.Dec.{T, leb}
-use lib.Ieee.{Float, binary64, top, hid, low}
+use lib.Ieee.{Float, nan, binary64, top, hid, low}
 use lib.Ieee.Bits.{is-true}
 use lib.Ieee.Scale.{finite}
-use lib.ListN.{length, take, drop}
-use lib.Seq.{take-take}
+use lib.ListN.{length, set, take, replicate, length-set, getD-replicate, drop-of-length-le}
+use lib.Seq.{getD-set-same, getD-set-other}
 use Rattle.exact.specs.F64.{f64}
 use Rattle.exact.proofs.Infinite.{has-value}
 use Rattle.exact.proofs.Pattern.{low-value, mid-value}
+use Rattle.lens.specs.Constants.{zeros}
 use Rattle.lens.specs.Finite.{all-finite}
-use Rattle.little_endian.specs.Bytes.{value, word, float}
-use Rattle.camera.specs.Camera.{parameters}
+use Rattle.little_endian.specs.Bytes.{value, word}
 use Rattle.camera.specs.Numbers as numbers
+use Rattle.camera.specs.Numbers.{most, count, first-of}
 use Rattle.camera.specs.declared.Camera.{Camera}
-use Rattle.camera.proofs.Laws.{camera-first, parameters-are}
-use Rattle.camera_bytes.specs.Reading.{at, camera-of, Plain, known}
+use Rattle.camera.proofs.Laws.{camera-first, parameters-are, table-ends}
+use Rattle.camera_bytes.specs.Reading.{at, camera-of, Plain, known, SameTo, FiniteTo, Two, All}
 use Rattle.camera_bytes.specs.declared.Tested.{Tested}
 
 -- ---- a finite number's pattern
@@ -42,49 +43,129 @@ plain-finite b h = is-true (finite (f64 b)) (elim (eq-zero-or-pos (b % top binar
 pub told : {r : Bool} {X : Type 0} → (T r → X) → r ≡ true → X
 told f e = f (subst T (sym e) tt)
 
--- a word that was read
-pub same-finite : {w v : ℕ} → w ≡ v → Plain w → finite (f64 v) ≡ true
-same-finite {w} e h = sym (ap (λ (b : ℕ). finite (f64 b)) e) ∙ plain-finite w h
+-- ---- a model's camera has no more numbers than any model has
 
--- ---- a model's own numbers are all that its camera has
+first-same : (k : ℕ) (n m : ℕ → Float) → ((j : ℕ) → j < k → n j ≡ m j) → first-of k n ≡ first-of k m
+first-same zero n m s = refl
+first-same (suc k) n m s =
+    ap₂ (λ (x : Float) (l : List Float). x ∷ l) (s 0 (omega arith))
+    (first-same k (λ j. n (suc j)) (λ j. m (suc j)) (λ j h. s (suc j) (omega arith)))
 
-module _ (model k : ℕ) (e : numbers.count model ≡ k) where
-  -- two lists of numbers whose first k are the same
-  pub same-camera : (n m : ℕ → Float) → numbers.first-of k n ≡ numbers.first-of k m → numbers.camera-of model n ≡ numbers.camera-of model m
-  same-camera n m f =
-      camera-first n model
-      ∙ ap (λ (l : List Float). numbers.camera-of model (numbers.at l)) (ap (λ (j : ℕ). numbers.first-of j n) e ∙ f ∙ sym (ap (λ (j : ℕ). numbers.first-of j m) e))
-      ∙ sym (camera-first m model)
+first-finite : (k : ℕ) (n : ℕ → Float) → ((j : ℕ) → j < k → finite (n j) ≡ true) → all-finite (first-of k n) ≡ true
+unfolding all-finite
+first-finite zero n s = refl
+first-finite (suc k) n s = ap₂ _&&_ (s 0 (omega arith)) (first-finite k (λ j. n (suc j)) (λ j h. s (suc j) (omega arith)))
 
-  module _ (p : List ℕ) where
-    -- the first k numbers of an array are those of the bytes, and finite
-    pub known-finite :
-        (n : List Float) {said : Bool} {camera : Camera} →
-        said ≡ true →
-        camera ≡ numbers.camera-of model (numbers.at n) →
-        numbers.first-of k (numbers.at n) ≡ numbers.first-of k (at p) →
-        all-finite (numbers.first-of k (at p)) ≡ true →
-        record { finite = said; camera = camera } ≡ known model p
-    unfolding camera-of
-    known-finite n s c f g =
-        ap₂ (λ (b : Bool) (v : Camera). record { finite = b; camera = v })
-        (s ∙ sym (ap all-finite (parameters-are (at p) model ∙ ap (λ (j : ℕ). numbers.first-of j (at p)) e) ∙ g))
-        (c ∙ same-camera (numbers.at n) (at p) f)
+module _ (model : ℕ) (p : List ℕ) where
+  -- an array with the bytes' numbers
+  pub same-camera : (n : List Float) → SameTo most p n → numbers.camera-of model (numbers.at n) ≡ camera-of model p
+  unfolding camera-of
+  same-camera n s =
+      camera-first (numbers.at n) model
+      ∙ ap (λ (l : List Float). numbers.camera-of model (numbers.at l))
+      (first-same (count model) (numbers.at n) (at p) (λ j h. s j (omega (arith, table-ends .1 model))))
+      ∙ sym (camera-first (at p) model)
 
-    -- bytes that have as many numbers in front
-    pub known-part : (part : List ℕ) → numbers.first-of k (at part) ≡ numbers.first-of k (at p) → known model part ≡ known model p
-    unfolding camera-of
-    known-part part f = ap (λ (v : Camera). record { finite = all-finite (parameters v); camera = v }) (same-camera (at part) (at p) f)
+  -- where all are finite, so are the camera's
+  pub known-finite :
+      (n : List Float) {said : Bool} {camera : Camera} →
+      All p n →
+      said ≡ true →
+      camera ≡ numbers.camera-of model (numbers.at n) →
+      record { finite = said; camera = camera } ≡ known model p
+  unfolding camera-of
+  known-finite n a s c =
+      ap₂ (λ (b : Bool) (v : Camera). record { finite = b; camera = v })
+      (s ∙ sym (ap all-finite (parameters-are (at p) model)
+      ∙ first-finite (count model) (at p) (λ j h. a .sound j (omega (arith, table-ends .1 model)))))
+      (c ∙ same-camera n (a .same))
 
--- ---- a word of the first m bytes
+-- ---- an array filled number by number
 
-pub word-of-part : (p : List ℕ) (m place : ℕ) → place + 8 ≤ m → word (take m p) place ≡ word p place
-word-of-part p m zero h = ap value (take-take 8 m p (omega arith))
-word-of-part [] zero (suc place) h = refl
-word-of-part [] (suc m) (suc place) h = refl
-word-of-part (x ∷ p) zero (suc place) h = absurd (omega arith)
-word-of-part (x ∷ p) (suc m) (suc place) h = word-of-part p m place (omega arith)
+module _ (p : List ℕ) where
+  pub one-more : (n : List Float) (i : ℕ) {v : Float} → i < length n → v ≡ at p i → SameTo i p n → SameTo (i + 1) p (set n i v)
+  one-more n i {v} h e s =
+      below-more (λ k. numbers.at (set n i v) k ≡ at p k) i (λ k l. getD-set-other n i k v nan (λ q. omega (arith, l, q)) ∙ s k l)
+      (getD-set-same n i v nan h ∙ e)
 
--- a model that is none of the first three
-pub count-twelve : (model : ℕ) → (model ≡ 0 → ⊥) → (model ≡ 1 → ⊥) → (model ≡ 2 → ⊥) → numbers.count model ≡ 12
-count-twelve model a b c = simp (ne-eqb model 0 a, ne-eqb model 1 b, ne-eqb model 2 c)
+  -- two words that were read, and tested
+  pub two-put :
+      (i a b : ℕ) (n after : List Float) {x y : Float} →
+      a ≡ word p (8 * i) →
+      b ≡ word p (8 * i + 8) →
+      Plain a →
+      Plain b →
+      x ≡ f64 a →
+      y ≡ f64 b →
+      after ≡ set (set n i x) (i + 1) y →
+      Two p i n after
+  two-put i a b n after e f g h u v w =
+      let next : 8 * i + 8 ≡ 8 * (i + 1) = omega arith in
+      let c : f64 a ≡ at p i = ap f64 e in
+      let d : f64 b ≡ at p (i + 1) = ap f64 (f ∙ ap (λ (k : ℕ). word p k) next) in
+      record {
+        put = w ∙ ap₂ (λ (k l : Float). set (set n i k) (i + 1) l) (u ∙ c) (v ∙ d);
+        first = sym (ap finite c) ∙ plain-finite a g;
+        second = sym (ap finite d) ∙ plain-finite b h;
+      }
+
+  -- so many are put, and behind them are zeros still
+  pub record Filled (i : ℕ) (n : List Float) : Type 0 where
+    pub within : i ≤ most
+    pub even : i % 2 ≡ 0
+    pub long : length n ≡ most
+    pub same : SameTo i p n
+    pub sound : FiniteTo i p
+    pub rest : (k : ℕ) → i ≤ k → k < most → numbers.at n k ≡ zeros
+
+  pub none-filled : (n : List Float) → n ≡ replicate most zeros → Filled 0 n
+  none-filled n e = record {
+    within = omega arith;
+    even = refl;
+    long = ap length e;
+    same = λ k h. absurd (omega arith);
+    sound = λ k h. absurd (omega arith);
+    rest = λ k h l. ap (λ (m : List Float). numbers.at m k) e ∙ getD-replicate most k zeros nan l;
+  }
+
+  more : (i : ℕ) → FiniteTo i p → finite (at p i) ≡ true → FiniteTo (i + 1) p
+  more = below-more (λ k. finite (at p k) ≡ true)
+
+  pub next-filled : (i : ℕ) (n after : List Float) → Filled i n → i < most → Two p i n after → Filled (i + 2) after
+  next-filled i n after f h t =
+      let once : List Float = set n i (at p i) in
+      let l₁ : length once ≡ most = length-set n i (at p i) ∙ f .long in
+      let two-more : SameTo (i + 1 + 1) p (set once (i + 1) (at p (i + 1))) =
+      one-more once (i + 1) (omega (arith, l₁, h, f .even)) refl (one-more n i (omega (arith, f .long)) refl (f .same)) in
+      record {
+        within = omega (arith, h, f .even);
+        even = omega (arith, f .even);
+        long = ap length (t .put) ∙ length-set once (i + 1) (at p (i + 1)) ∙ l₁;
+        same = λ k l. ap (λ (m : List Float). numbers.at m k) (t .put) ∙ two-more k (omega (arith, l));
+        sound = λ k l. more (i + 1) (more i (f .sound) (t .first)) (t .second) k (omega (arith, l));
+        rest = λ k l m.
+            ap (λ (m : List Float). numbers.at m k) (t .put)
+            ∙ getD-set-other once (i + 1) k (at p (i + 1)) nan (λ q. omega (arith, l, q))
+            ∙ getD-set-other n i k (at p i) nan (λ q. omega (arith, l, q))
+            ∙ f .rest k (omega (arith, l)) m;
+      }
+
+  -- no byte is left: what isn't there is a zero
+  missing : (k : ℕ) → length p ≤ 8 * k → at p k ≡ zeros
+  unfolding value
+  missing k h = ap (λ (l : List ℕ). f64 (value (take 8 l))) (drop-of-length-le p h)
+
+  pub all-there : (i : ℕ) (n : List Float) → Filled i n → length p ≤ 8 * i → All p n
+  all-there i n f h = record {
+    same = λ k l. elim (eq-zero-or-pos (i - k)) [
+      | inl e ↦ f .rest k (omega (arith, e)) l ∙ sym (missing k (omega (arith, e, h)))
+      | inr m ↦ f .same k (omega (arith, m))
+    ];
+    sound = λ k l. elim (eq-zero-or-pos (i - k)) [
+      | inl e ↦ ap finite (missing k (omega (arith, e, h))) ∙ plain-finite 0 (omega arith)
+      | inr m ↦ f .sound k (omega (arith, m))
+    ];
+  }
+
+  pub all-filled : (i : ℕ) (n : List Float) → Filled i n → most ≤ i → All p n
+  all-filled i n f h = record { same = λ k l. f .same k (omega (arith, l, h)); sound = λ k l. f .sound k (omega (arith, l, h)) }

@@ -1,10 +1,12 @@
 -- The camera that a model's number and its parameters' bytes ask for, or 1, or 3. Definitions only.
-use mathlib.Core.Bool.{cond}
+use mathlib.Core.Path.{_≡_}
+use mathlib.Core.Bool.{cond, true}
 use mathlib.Core.List.{List}
-use Prim.Native.Nat.{ℕ, _*_, _%_, _<_}
+use Prim.Native.Nat.{ℕ, _+_, _*_, _%_, _<_}
 use lib.Dec.{eqb, leb}
 use lib.Ieee.{Float}
-use lib.ListN.{length}
+use lib.Ieee.Scale.{finite}
+use lib.ListN.{length, set}
 use Rattle.little_endian.specs.Bytes.{float}
 use Rattle.lens.specs.Finite.{all-finite}
 use Rattle.lens.specs.declared.Judgement.{Judgement}
@@ -29,20 +31,41 @@ camera-of model p = numbers.camera-of model (at p)
 abbrev pub known : ℕ → List ℕ → Tested
 known model p = record { finite = all-finite (parameters (camera-of model p)); camera = camera-of model p }
 
+-- ---- numbers taken over into an array, for the parts of `known`
+
 -- a finite number's bit pattern: without its sign, below the infinity's
 abbrev pub Plain : ℕ → Type 0
 Plain bits = bits % 0x8000_0000_0000_0000 < 0x7ff0_0000_0000_0000
+
+-- the array's first numbers, so many, are the bytes'
+abbrev pub SameTo : ℕ → List ℕ → List Float → Type 0
+SameTo i p n = (k : ℕ) → k < i → numbers.at n k ≡ at p k
+
+-- and are finite
+abbrev pub FiniteTo : ℕ → List ℕ → Type 0
+FiniteTo i p = (k : ℕ) → k < i → finite (at p k) ≡ true
+
+-- two more are there, both finite, and nothing else has changed
+pub record Two (p : List ℕ) (i : ℕ) (before after : List Float) : Type 0 where
+  pub put : after ≡ set (set before i (at p i)) (i + 1) (at p (i + 1))
+  pub first : finite (at p i) ≡ true
+  pub second : finite (at p (i + 1)) ≡ true
+
+-- all are there, and finite
+pub record All (p : List ℕ) (n : List Float) : Type 0 where
+  pub same : SameTo numbers.most p n
+  pub sound : FiniteTo numbers.most p
 
 -- ---- 1, then 3
 
 unfoldable pub judged : ℕ → List ℕ → Judgement
 judged model p =
-    cond (leb model 3)
+    cond (leb model numbers.last)
     (cond (eqb (length p) (8 * numbers.count model)) Judged.Taken (Judged.Refused WrongCount))
     (Judged.Refused UnknownModel)
 
 unfoldable pub read : ℕ → List ℕ → Asked
 read model p =
-    cond (leb model 3)
+    cond (leb model numbers.last)
     (cond (eqb (length p) (8 * numbers.count model)) (Of (camera-of model p)) (Refused WrongCount))
     (Refused UnknownModel)

@@ -1,11 +1,14 @@
 // A camera out of a model's number and bytes: the parameters of its model, eight bytes each, the least first.
 ghost use mathlib.Core.Bool.{true};
 ghost use mathlib.Core.Path.{_≡_};
+ghost use Prim.Native.Nat.{_+_, _≤_};
 ghost use lib.Dec.{T};
+ghost use lib.ListN.{length, replicate};
 ghost use Rattle.exact.specs.F64.{f64};
+ghost use Rattle.lens.specs.Constants.{zeros};
 ghost use Rattle.camera.specs.Numbers as numbers;
-ghost use Rattle.camera.specs.Numbers.{count, first-of};
-ghost use Rattle.camera_bytes.specs.Reading.{at, camera-of, Plain, known, judged, read};
+ghost use Rattle.camera.specs.Numbers.{most};
+ghost use Rattle.camera_bytes.specs.Reading.{camera-of, Plain, known, SameTo, Two, All, judged, read};
 use camera::Camera;
 use camera::numbers::LAST;
 use camera::numbers::MOST;
@@ -23,27 +26,20 @@ pub enum Asked {
     Refused(Refusal),
 }
 
-// The first twelve numbers, zeros for those that are missing.
+// The first numbers, as many as any model has. Zeros stand for those that are missing.
 fn numbers(params: &[u8]) -> [f64; MOST]
-    ensures { λ r. ⌜ r ≡ first-of 12 (at (now (params .entry))) ⌝ }
+    ensures { λ r. ⌜ SameTo most (now (params .entry)) r ⌝ }
 {
-    [
-        little_endian::float(params, 0),
-        little_endian::float(params, 8),
-        little_endian::float(params, 16),
-        little_endian::float(params, 24),
-        little_endian::float(params, 32),
-        little_endian::float(params, 40),
-        little_endian::float(params, 48),
-        little_endian::float(params, 56),
-        little_endian::float(params, 64),
-        little_endian::float(params, 72),
-        little_endian::float(params, 80),
-        little_endian::float(params, 88),
-    ]
+    let mut n = [0.0; MOST];
+    let mut i = 0;
+    while i < MOST {
+        n[i] = little_endian::float(params, 8 * i);
+        i += 1;
+    }
+    n
 }
 
-// The camera of a model, of the models 0 to 3.
+// The camera of a model that there is.
 pub fn camera_of(model: u8, params: &[u8]) -> Camera
     ensures { λ r. ⌜ r ≡ camera-of model (now (params .entry)) ⌝ }
 {
@@ -77,19 +73,7 @@ fn finite(model: u8, n: &[f64; MOST]) -> Tested
     }
 }
 
-// Whether four bit patterns are finite numbers'.
-fn plain(a: u64, b: u64, c: u64, d: u64) -> bool
-    ensures { λ r. ⌜ (T r → (Plain a × Plain b) × (Plain c × Plain d)) ⌝ }
-{
-    if a % SIGN < INFINITY && b % SIGN < INFINITY {
-        if c % SIGN < INFINITY && d % SIGN < INFINITY {
-            return true;
-        }
-    }
-    false
-}
-
-// The f64 of such a pattern: nothing is left to test.
+// The f64 of a finite number's bit pattern: nothing is left to test.
 fn raw(bits: u64) -> f64
     requires { ⌜ Plain bits ⌝ }
     ensures { λ r. ⌜ r ≡ f64 bits ⌝ }
@@ -97,158 +81,49 @@ fn raw(bits: u64) -> f64
     f64::from_bits(bits)
 }
 
-// These four are for models of so many parameters, and for bytes of which none is missing: patterns that are finite
-// are tested once, all together, where the camera's own test and that of each number for NaN would cost far more.
-fn four(model: u8, p: &[u8]) -> Tested
-    requires { ⌜ count model ≡ 4 ⌝ }
-    ensures { λ r. ⌜ r ≡ known model (now (p .entry)) ⌝ }
+// Puts the numbers i and i + 1 at their places, if both are finite.
+fn two(params: &[u8], i: usize, n: &mut [f64; MOST]) -> bool
+    requires { ⌜ (i + 2 ≤ most) × (length (now n) ≡ most) ⌝ }
+    ensures { λ r. ⌜ (T r → Two (now (params .entry)) i (now (n .entry)) (now (n .exit))) ⌝ }
 {
-    let w0 = little_endian::word(p, 0);
-    let w1 = little_endian::word(p, 8);
-    let w2 = little_endian::word(p, 16);
-    let w3 = little_endian::word(p, 24);
-    if plain(w0, w1, w2, w3) {
-        let numbers = [
-            raw(w0),
-            raw(w1),
-            raw(w2),
-            raw(w3),
-            0.0,
-            0.0,
-            0.0,
-            0.0,
-            0.0,
-            0.0,
-            0.0,
-            0.0,
-        ];
-        return finite(model, &numbers);
+    let a = little_endian::word(params, 8 * i);
+    let b = little_endian::word(params, 8 * i + 8);
+    if a % SIGN < INFINITY && b % SIGN < INFINITY {
+        n[i] = raw(a);
+        n[i + 1] = raw(b);
+        return true;
     }
-    any(model, p)
+    false
 }
 
-fn six(model: u8, p: &[u8]) -> Tested
-    requires { ⌜ count model ≡ 6 ⌝ }
-    ensures { λ r. ⌜ r ≡ known model (now (p .entry)) ⌝ }
+// Puts all numbers that there are over zeros, by twos, since every model's count is even. No if one isn't finite, or if
+// bytes are left over: then n is worth nothing. A pattern is tested once, where the camera's own test and that of each
+// number for NaN would cost far more (docs/DECISIONS.md, 82); and the compiler lays the loop out, so that a word costs
+// no more than in a row of statements.
+fn all(params: &[u8], n: &mut [f64; MOST]) -> bool
+    requires { ⌜ now n ≡ replicate most zeros ⌝ }
+    ensures { λ r. ⌜ (T r → All (now (params .entry)) (now (n .exit))) ⌝ }
 {
-    let w0 = little_endian::word(p, 0);
-    let w1 = little_endian::word(p, 8);
-    let w2 = little_endian::word(p, 16);
-    let w3 = little_endian::word(p, 24);
-    let w4 = little_endian::word(p, 32);
-    let w5 = little_endian::word(p, 40);
-    if plain(w0, w1, w2, w3) && plain(w4, w5, 0, 0) {
-        let numbers = [
-            raw(w0),
-            raw(w1),
-            raw(w2),
-            raw(w3),
-            raw(w4),
-            raw(w5),
-            0.0,
-            0.0,
-            0.0,
-            0.0,
-            0.0,
-            0.0,
-        ];
-        return finite(model, &numbers);
+    let mut i = 0;
+    while i < MOST {
+        if params.len() < 8 * i + 16 {
+            return params.len() <= 8 * i;
+        }
+        if !two(params, i, n) {
+            return false;
+        }
+        i += 2;
     }
-    any(model, p)
-}
-
-fn eight(model: u8, p: &[u8]) -> Tested
-    requires { ⌜ count model ≡ 8 ⌝ }
-    ensures { λ r. ⌜ r ≡ known model (now (p .entry)) ⌝ }
-{
-    let w0 = little_endian::word(p, 0);
-    let w1 = little_endian::word(p, 8);
-    let w2 = little_endian::word(p, 16);
-    let w3 = little_endian::word(p, 24);
-    let w4 = little_endian::word(p, 32);
-    let w5 = little_endian::word(p, 40);
-    let w6 = little_endian::word(p, 48);
-    let w7 = little_endian::word(p, 56);
-    if plain(w0, w1, w2, w3) && plain(w4, w5, w6, w7) {
-        let numbers = [
-            raw(w0),
-            raw(w1),
-            raw(w2),
-            raw(w3),
-            raw(w4),
-            raw(w5),
-            raw(w6),
-            raw(w7),
-            0.0,
-            0.0,
-            0.0,
-            0.0,
-        ];
-        return finite(model, &numbers);
-    }
-    any(model, p)
-}
-
-fn twelve(model: u8, p: &[u8]) -> Tested
-    requires { ⌜ count model ≡ 12 ⌝ }
-    ensures { λ r. ⌜ r ≡ known model (now (p .entry)) ⌝ }
-{
-    let w0 = little_endian::word(p, 0);
-    let w1 = little_endian::word(p, 8);
-    let w2 = little_endian::word(p, 16);
-    let w3 = little_endian::word(p, 24);
-    let w4 = little_endian::word(p, 32);
-    let w5 = little_endian::word(p, 40);
-    let w6 = little_endian::word(p, 48);
-    let w7 = little_endian::word(p, 56);
-    let w8 = little_endian::word(p, 64);
-    let w9 = little_endian::word(p, 72);
-    let w10 = little_endian::word(p, 80);
-    let w11 = little_endian::word(p, 88);
-    if plain(w0, w1, w2, w3) && plain(w4, w5, w6, w7) && plain(w8, w9, w10, w11) {
-        let numbers = [
-            raw(w0),
-            raw(w1),
-            raw(w2),
-            raw(w3),
-            raw(w4),
-            raw(w5),
-            raw(w6),
-            raw(w7),
-            raw(w8),
-            raw(w9),
-            raw(w10),
-            raw(w11),
-        ];
-        return finite(model, &numbers);
-    }
-    any(model, p)
+    true
 }
 
 // A model's camera, and whether its parameters are finite.
 pub fn known(model: u8, params: &[u8]) -> Tested
     ensures { λ r. ⌜ r ≡ known model (now (params .entry)) ⌝ }
 {
-    if model == 0 {
-        if 32 <= params.len() {
-            return four(model, &params[0..32]);
-        }
-        return any(model, params);
-    }
-    if model == 1 {
-        if 48 <= params.len() {
-            return six(model, &params[0..48]);
-        }
-        return any(model, params);
-    }
-    if model == 2 {
-        if 64 <= params.len() {
-            return eight(model, &params[0..64]);
-        }
-        return any(model, params);
-    }
-    if 96 <= params.len() {
-        return twelve(model, &params[0..96]);
+    let mut n = [0.0; MOST];
+    if all(params, &mut n) {
+        return finite(model, &n);
     }
     any(model, params)
 }

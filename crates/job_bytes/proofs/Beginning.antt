@@ -14,7 +14,7 @@ use Rattle.lens.specs.declared.Judgement.the-variants.{Taken, Refused}
 use Rattle.lens.specs.declared.Refusal.the-variants.{UnknownModel, WrongCount, ImpossibleRecord}
 use Rattle.lens.proofs.Laws.{number-within}
 use Rattle.camera.specs.declared.Camera.{Camera}
-use Rattle.camera.specs.Numbers.{count}
+use Rattle.camera.specs.Numbers.{last, count}
 use Rattle.camera_bytes.specs.Reading.{camera-of, read}
 use Rattle.camera_bytes.specs.declared.Asked.{Asked}
 use Rattle.camera_bytes.specs.declared.Asked.the-variants as asked
@@ -27,7 +27,8 @@ use Rattle.job.specs.Job.{Begun, no-job, fresh-job, fresh, told-started}
 use Rattle.job.specs.declared.Job.{Job}
 use Rattle.job.specs.declared.Started.{Started}
 use Rattle.job.specs.declared.Started.the-variants as begun
-use Rattle.job_bytes.specs.Bytes.{record-length, record-bytes, known-mark, started, give-started, fresh-bytes}
+use Rattle.job_bytes.specs.Places.{record-length}
+use Rattle.job_bytes.specs.Bytes.{record-bytes, known-mark, started, give-started, fresh-bytes}
 
 -- ---- the call
 
@@ -92,4 +93,4 @@ module _ (model : ℕ) (params : List ℕ) (width height m : ℕ) (lent : List �
 
   pub fresh-zero : Says (fresh-bytes model params width height m lent)
   unfolding fresh-bytes read
-  fresh-zero = by-asked (leb model 3) (eqb (length params) (8 * count model))
+  fresh-zero = by-asked (leb model last) (eqb (length params) (8 * count model))

@@ -14,11 +14,12 @@ use Rattle.region.specs.Region.{four}
 use Rattle.job.specs.declared.Job.{Job}
 use Rattle.little_endian.specs.Bytes.{value, bytes, word, floats}
 use Rattle.little_endian.proofs.Laws.{bytes-value}
-use Rattle.camera.specs.Numbers.{model-number, twelve}
-use Rattle.job_bytes.specs.Bytes.{mark, head, body, record-bytes}
-use Rattle.job_bytes.specs.Check.{summed, check-place, check-start, sum-of-words, check-of, intact, whole, RecordBytes, WordApart, ByteApart}
+use Rattle.camera.specs.Numbers.{model-number, padded}
+use Rattle.job_bytes.specs.Places.{summed, check-place}
+use Rattle.job_bytes.specs.Bytes.{mark, camera-part, size-part, boxes, tallies, body, record-bytes}
+use Rattle.job_bytes.specs.Check.{check-start, sum-of-words, check-of, intact, whole, RecordBytes, WordApart, ByteApart}
 use Rattle.job_bytes.proofs.Summing.{same-sum, check-behind, check-less}
-use Rattle.job_bytes.proofs.Placing.{part₀, part₁, part₂, part₃, part₄, part₅, part₆, part₇, part₈, last-part, to₁, to₂, to₃, to₄, to₅, to₆, long-body, length-record}
+use Rattle.job_bytes.proofs.Placing.{last-part, long-body, length-record}
 use Rattle.job_bytes.proofs.Back.{word-first, mark-back}
 
 -- ---- a word and its eight bytes
@@ -32,7 +33,7 @@ value-less (b ∷ l) h =
     let rest : value l < 256 ^ length l = value-less l (λ i. h (suc i)) in
     omega arith
 
-module _ (bs : List ℕ) (r : RecordBytes bs) (k : ℕ) (h : k < 26) where
+module _ (bs : List ℕ) (r : RecordBytes bs) (k : ℕ) (h : k ≤ summed) where
   abbrev eight : List ℕ
   eight = take 8 (drop (8 * k) bs)
 
@@ -63,7 +64,7 @@ module _ (bs : List ℕ) (r : RecordBytes bs) (k : ℕ) (h : k < 26) where
 -- ---- two records of bytes that differ in one word at most
 
 module _ (a b : List ℕ) (ra : RecordBytes a) (rb : RecordBytes b) (k : ℕ) (same : (i : ℕ) → (i / 8 ≡ k → ⊥) → getD a i 0 ≡ getD b i 0) where
-  other-words : (j : ℕ) → j < 26 → (j ≡ k → ⊥) → word a (8 * j) ≡ word b (8 * j)
+  other-words : (j : ℕ) → j ≤ summed → (j ≡ k → ⊥) → word a (8 * j) ≡ word b (8 * j)
   other-words j h n =
       ap value
       (ext-getD 0 (eight a ra j h) (eight b rb j h) (long-eight a ra j h ∙ sym (long-eight b rb j h)) (λ i l.
@@ -93,7 +94,7 @@ module _ (a b : List ℕ) (ra : RecordBytes a) (rb : RecordBytes b) (k : ℕ) (s
           omega arith
 
   -- where both check words are right, that word is the same too
-  one-word : k < 26 → word a check-place ≡ check-of a → word b check-place ≡ check-of b → word a (8 * k) ≡ word b (8 * k)
+  one-word : k ≤ summed → word a check-place ≡ check-of a → word b check-place ≡ check-of b → word a (8 * k) ≡ word b (8 * k)
   unfolding check-of
   one-word h ia ib = by-place (eqb k summed) refl
     where
@@ -122,7 +123,7 @@ module _ (a b : List ℕ) (ra : RecordBytes a) (rb : RecordBytes b) (k : ℕ) (s
           by-word : (t : Bool) → eqb (i / 8) k ≡ t → getD a i 0 ≡ getD b i 0
           by-word true e =
               let z : i / 8 ≡ k = eqb-true (i / 8) k e in
-              let h : k < 26 = omega (arith, ra .long) in
+              let h : k ≤ summed = omega (arith, ra .long) in
               let l₈ : i % 8 < 8 = omega arith in
               let at : 8 * k + i % 8 ≡ i = omega arith in
               let w : word a (8 * k) ≡ word b (8 * k) = one-word h (eqb-true (word a check-place) (check-of a) ia) (eqb-true (word b check-place) (check-of b) ib) in
@@ -159,27 +160,21 @@ unfolding floats
 each-floats [] i = omega arith
 each-floats (x ∷ xs) i = each-append (bytes 8 (toBits binary64 x)) (floats xs) (each-bytes 8 (toBits binary64 x)) (each-floats xs) i
 
+-- three parts, the first two of four bytes
+each-three : (u v : ℕ) (c : List ℕ) → ((i : ℕ) → getD c i 0 < 256) → (i : ℕ) → getD (bytes 4 u ++ bytes 4 v ++ c) i 0 < 256
+each-three u v c = each-append (bytes 4 u ++ bytes 4 v) c (each-append (bytes 4 u) (bytes 4 v) (each-bytes 4 u) (each-bytes 4 v))
+
 module _ (job : Job) where
   each-body : (i : ℕ) → getD (body job) i 0 < 256
-  unfolding head
+  unfolding camera-part size-part boxes tallies
   each-body =
-      each-append (head job) (part₈ job)
-      (each-append (to₆ job) (part₇ job)
-      (each-append (to₅ job) (part₆ job)
-      (each-append (to₄ job) (part₅ job)
-      (each-append (to₃ job) (part₄ job)
-      (each-append (to₂ job) (part₃ job)
-      (each-append (to₁ job) (part₂ job)
-      (each-append (part₀ job) (part₁ job) (each-bytes 4 (model-number (job .camera))) (each-bytes 4 (job .at .updates)))
-      (each-floats (twelve (job .camera))))
-      (each-bytes 4 (job .width)))
-      (each-bytes 4 (job .height)))
-      (each-bytes 8 (job .at .done)))
-      (each-floats (four (job .at .edges))))
-      (each-floats (four (job .at .region))))
-      (each-append (bytes 4 (job .at .unsettled) ++ bytes 4 (job .at .first)) (bytes 8 (mark (job .strict)))
-      (each-append (bytes 4 (job .at .unsettled)) (bytes 4 (job .at .first)) (each-bytes 4 (job .at .unsettled)) (each-bytes 4 (job .at .first)))
-      (each-bytes 8 (mark (job .strict))))
+      each-append (camera-part job ++ size-part job ++ boxes job) (tallies job)
+      (each-append (camera-part job ++ size-part job) (boxes job)
+      (each-append (camera-part job) (size-part job)
+      (each-three (model-number (job .camera)) (job .at .updates) (floats (padded (job .camera))) (each-floats (padded (job .camera))))
+      (each-three (job .width) (job .height) (bytes 8 (job .at .done)) (each-bytes 8 (job .at .done))))
+      (each-append (floats (four (job .at .edges))) (floats (four (job .at .region))) (each-floats (four (job .at .edges))) (each-floats (four (job .at .region)))))
+      (each-three (job .at .unsettled) (job .at .first) (bytes 8 (mark (job .strict))) (each-bytes 8 (mark (job .strict))))
 
   pub record-of-bytes : RecordBytes (record-bytes job)
   unfolding record-bytes
@@ -193,7 +188,9 @@ module _ (job : Job) where
   unfolding record-bytes
   its-check =
       eq-eqb _ _
-      (word-first (check-of (body job)) [] (body job ++ last-part job) check-place (drop-at (body job) (last-part job) check-place (long-body job) ∙ sym (append-nil (last-part job))) (check-less (body job))
+      (word-first {at = check-place} {bs = body job ++ last-part job}
+      record { rest = []; is = drop-at (body job) (last-part job) check-place (long-body job) ∙ sym (append-nil (last-part job)) }
+      (check-less (body job))
       ∙ sym (check-behind (body job) (last-part job) (long-body job)))
 
   one-of-two : (strict : Bool) → leb (mark strict) 1 ≡ true

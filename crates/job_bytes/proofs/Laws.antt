@@ -17,6 +17,7 @@ use Rattle.region.specs.Fits.{FourFit}
 use Rattle.region.specs.Size.{Sized}
 use Rattle.camera.specs.Camera.{parameters}
 use Rattle.camera.specs.declared.Camera.{Camera}
+use Rattle.camera.proofs.Laws.{camera-known}
 use Rattle.camera_bytes.specs.Reading.{camera-of}
 use Rattle.little_endian.specs.Bytes.{word}
 use Rattle.given.specs.Given.{Given}
@@ -26,12 +27,13 @@ use Rattle.table_plans.specs.Tables.{opens-for}
 use Rattle.table_plans.proofs.Sound.{opened}
 use Rattle.job.specs.Job.{fresh-job}
 use Rattle.job.specs.declared.Job.{Job}
-use Rattle.job_bytes.specs.Bytes.{record-length, record-bytes, record-read, fresh-bytes}
-use Rattle.job_bytes.specs.Check.{check-place, check-of, intact, intact-before, whole, RecordBytes, WordApart, ByteApart}
+use Rattle.job_bytes.specs.Places.{check-place, record-length}
+use Rattle.job_bytes.specs.Bytes.{record-bytes, record-read, fresh-bytes}
+use Rattle.job_bytes.specs.Check.{check-of, intact, intact-before, whole, RecordBytes, WordApart, ByteApart}
 use Rattle.job_bytes.specs.declared.Found.the-variants.{Of}
 use Rattle.job_bytes.proofs.Reading.{read-job}
 use Rattle.job_bytes.proofs.Placing as placing
-use Rattle.job_bytes.proofs.Back.{camera-fits, model-known, model-back, job-back}
+use Rattle.job_bytes.proofs.Back.{camera-fits, model-back, job-back}
 use Rattle.job_bytes.proofs.Beginning.{fresh-zero}
 use Rattle.job_bytes.proofs.Caught.{both-intact, record-of-bytes, its-whole, in-a-word}
 use Rattle.job_bytes.proofs.read.Reads as read-contract
@@ -70,7 +72,7 @@ pub record Writable (job : Job) : Type 0 where
 -- A record written and read back is the same record.
 pub written-read : (job : Job) → Writable job → record-read (record-bytes job) ≡ Of job
 written-read job w =
-    sym (read-job (record-bytes job) (length-record job) (omega (arith, model-back job, model-known (job .camera))))
+    sym (read-job (record-bytes job) (length-record job) (omega (arith, model-back job, camera-known (job .camera) .0)))
     ∙ ap Of (job-back job (w .params) (w .edges) (w .region) (w .width) (w .height) (w .updates) (w .unsettled) (w .first) (w .done))
 
 -- ---- the check word

@@ -9,33 +9,34 @@ use lib.ListN.{length, take, drop, length-drop}
 use lib.Seq.{take-all}
 use Rattle.lens.specs.declared.Refusal.the-variants.{UnknownModel, WrongLength}
 use Rattle.region.specs.declared.Region.{Region}
+use Rattle.camera.specs.Numbers.{last}
 use Rattle.camera.specs.declared.Camera.{Camera}
 use Rattle.little_endian.specs.Bytes.{half, word}
 use Rattle.region_bytes.specs.Box.{box-at}
 use Rattle.camera_bytes.specs.Reading.{camera-of}
 use Rattle.job.specs.declared.Job.{Job}
-use Rattle.job_bytes.specs.Bytes.{record-length, job-at, record-read}
-use Rattle.job_bytes.specs.Check.{mark-place}
+use Rattle.job_bytes.specs.Places.{updates-place, params-place, width-place, height-place, done-place, edges-place, region-place, unsettled-place, first-place, mark-place, record-length}
+use Rattle.job_bytes.specs.Bytes.{job-at, record-read}
 use Rattle.job_bytes.specs.declared.Found.the-variants.{Of, Refused}
 
 module _ (bs : List ℕ) where
-  -- the bytes from 8 on, as the code takes them
-  rest : take (length bs - 8) (drop 8 bs) ≡ drop 8 bs
-  rest = take-all (length bs - 8) (drop 8 bs) (omega (arith, length-drop 8 bs))
+  -- the bytes from the parameters on, as the code takes them
+  rest : take (length bs - params-place) (drop params-place bs) ≡ drop params-place bs
+  rest = take-all (length bs - params-place) (drop params-place bs) (omega (arith, length-drop params-place bs))
 
   pub placed :
       (model : ℕ) (camera : Camera) (width height marked done updates unsettled first : ℕ) (edges region : Region) →
       model ≡ half bs 0 →
-      camera ≡ camera-of model (take (length bs - 8) (drop 8 bs)) →
-      width ≡ half bs 104 →
-      height ≡ half bs 108 →
+      camera ≡ camera-of model (take (length bs - params-place) (drop params-place bs)) →
+      width ≡ half bs width-place →
+      height ≡ half bs height-place →
       marked ≡ word bs mark-place →
-      done ≡ word bs 112 →
-      edges ≡ box-at bs 120 →
-      region ≡ box-at bs 152 →
-      updates ≡ half bs 4 →
-      unsettled ≡ half bs 184 →
-      first ≡ half bs 188 →
+      done ≡ word bs done-place →
+      edges ≡ box-at bs edges-place →
+      region ≡ box-at bs region-place →
+      updates ≡ half bs updates-place →
+      unsettled ≡ half bs unsettled-place →
+      first ≡ half bs first-place →
       _≡_ {A = Job} record {
         camera = camera;
         width = width;
@@ -45,17 +46,17 @@ module _ (bs : List ℕ) where
       } (job-at bs)
   unfolding job-at
   placed model camera width height marked done updates unsettled first edges region m c w h s d e r u n f =
-      let k : camera ≡ camera-of (half bs 0) (drop 8 bs) = c ∙ ap₂ camera-of m rest in
+      let k : camera ≡ camera-of (half bs 0) (drop params-place bs) = c ∙ ap₂ camera-of m rest in
       rw (k, w, h, s, d, e, r, u, n, f) refl
 
   pub read-misfit : (length bs ≡ record-length → ⊥) → Refused WrongLength ≡ record-read bs
   unfolding record-read
   read-misfit n = simp (ne-eqb (length bs) record-length n)
 
-  pub read-unknown : length bs ≡ record-length → 3 < half bs 0 → Refused UnknownModel ≡ record-read bs
+  pub read-unknown : length bs ≡ record-length → last < half bs 0 → Refused UnknownModel ≡ record-read bs
   unfolding record-read
-  read-unknown e h = simp (eq-eqb (length bs) record-length e, lt-leb (half bs 0) 3 h)
+  read-unknown e h = simp (eq-eqb (length bs) record-length e, lt-leb (half bs 0) last h)
 
-  pub read-job : length bs ≡ record-length → half bs 0 ≤ 3 → Of (job-at bs) ≡ record-read bs
+  pub read-job : length bs ≡ record-length → half bs 0 ≤ last → Of (job-at bs) ≡ record-read bs
   unfolding record-read
-  read-job e h = simp (eq-eqb (length bs) record-length e, le-leb (half bs 0) 3 h)
+  read-job e h = simp (eq-eqb (length bs) record-length e, le-leb (half bs 0) last h)

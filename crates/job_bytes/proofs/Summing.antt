@@ -8,7 +8,8 @@ use native.Mathlib.Omega.{arith}
 use lib.ListN.{length, take, drop, length-drop}
 use lib.Seq.{take-append-le, drop-append-le}
 use Rattle.little_endian.specs.Bytes.{value, word}
-use Rattle.job_bytes.specs.Check.{summed, check-start, sum-of-words, check-of}
+use Rattle.job_bytes.specs.Places.{summed}
+use Rattle.job_bytes.specs.Check.{check-start, sum-of-words, check-of}
 
 -- ---- word by word
 

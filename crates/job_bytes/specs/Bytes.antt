@@ -1,10 +1,5 @@
--- The record of a table that is being built, as 208 bytes, and read back out of any bytes. Definitions only.
---
---     0  model, 4 bytes        112  units done, 8 bytes                 184  unsettled samples, 4 bytes
---     4  updates, 4 bytes      120  edges: left, top, right, bottom     188  the first of them, 4 bytes
---     8  twelve parameters     152  region: left, top, right, bottom    192  strict mark, 8 bytes: 0 or 1
---   104  width, 4 bytes                                                 200  check word, 8 bytes (specs/Check)
---   108  height, 4 bytes
+-- The record of a table that is being built, as bytes, and read back out of any bytes. Where each part stands is told in
+-- specs/Places. Definitions only.
 use mathlib.Core.Bool.{Bool, cond}
 use mathlib.Core.List.{List, [], _++_}
 use Prim.Native.Nat.{ℕ}
@@ -12,7 +7,7 @@ use lib.Dec.{eqb, leb}
 use lib.ListN.{length, drop}
 use Rattle.lens.specs.declared.Refusal.the-variants.{UnknownModel, WrongLength, ImpossibleRecord}
 use Rattle.region.specs.Region.{four}
-use Rattle.camera.specs.Numbers.{model-number, twelve}
+use Rattle.camera.specs.Numbers.{last, model-number, padded}
 use Rattle.little_endian.specs.Bytes.{bytes, half, word, floats}
 use Rattle.region_bytes.specs.Box.{box-at}
 use Rattle.camera_bytes.specs.Reading.{camera-of, read}
@@ -23,13 +18,10 @@ use Rattle.job.specs.declared.Job.{Job}
 use Rattle.job.specs.declared.Started.{Started}
 use Rattle.job.specs.declared.Started.the-variants as begun
 use Rattle.given.specs.Given.{Given, answered}
-use Rattle.job_bytes.specs.Check.{mark-place, check-of}
+use Rattle.job_bytes.specs.Places.{updates-place, params-place, width-place, height-place, done-place, edges-place, region-place, unsettled-place, first-place, mark-place, record-length}
+use Rattle.job_bytes.specs.Check.{check-of}
 use Rattle.job_bytes.specs.declared.Found.{Found}
 use Rattle.job_bytes.specs.declared.Found.the-variants.{Of, Refused}
-
--- how many bytes a record has
-abbrev pub record-length : ℕ
-record-length = 208
 
 -- ---- written
 
@@ -37,20 +29,25 @@ record-length = 208
 abbrev pub mark : Bool → ℕ
 mark strict = cond strict 1 0
 
--- what the table is for, and how far it has come
-unfoldable pub head : Job → List ℕ
-head job =
-    bytes 4 (model-number (job .camera)) ++ bytes 4 (job .at .updates) ++ floats (twelve (job .camera))
-    ++ bytes 4 (job .width) ++ bytes 4 (job .height) ++ bytes 8 (job .at .done)
-    ++ floats (four (job .at .edges)) ++ floats (four (job .at .region))
+-- the camera that the table is for, and between its number and its parameters the updates
+unfoldable pub camera-part : Job → List ℕ
+camera-part job =
+    bytes 4 (model-number (job .camera)) ++ bytes 4 (job .at .updates) ++ floats (padded (job .camera))
+
+-- the table's size, and how far it has come
+unfoldable pub size-part : Job → List ℕ
+size-part job = bytes 4 (job .width) ++ bytes 4 (job .height) ++ bytes 8 (job .at .done)
+
+unfoldable pub boxes : Job → List ℕ
+boxes job = floats (four (job .at .edges)) ++ floats (four (job .at .region))
 
 -- how many samples didn't settle, which was the first, and whether that stops the job
-abbrev pub tallies : Job → List ℕ
+unfoldable pub tallies : Job → List ℕ
 tallies job = bytes 4 (job .at .unsettled) ++ bytes 4 (job .at .first) ++ bytes 8 (mark (job .strict))
 
 -- all but the check word
 abbrev pub body : Job → List ℕ
-body job = head job ++ tallies job
+body job = camera-part job ++ size-part job ++ boxes job ++ tallies job
 
 unfoldable pub record-bytes : Job → List ℕ
 record-bytes job = body job ++ bytes 8 (check-of (body job))
@@ -59,17 +56,17 @@ record-bytes job = body job ++ bytes 8 (check-of (body job))
 
 unfoldable pub job-at : List ℕ → Job
 job-at bs = record {
-  camera = camera-of (half bs 0) (drop 8 bs);
-  width = half bs 104;
-  height = half bs 108;
+  camera = camera-of (half bs 0) (drop params-place bs);
+  width = half bs width-place;
+  height = half bs height-place;
   strict = eqb (word bs mark-place) 1;
   at = record {
-    done = word bs 112;
-    edges = box-at bs 120;
-    region = box-at bs 152;
-    updates = half bs 4;
-    unsettled = half bs 184;
-    first = half bs 188;
+    done = word bs done-place;
+    edges = box-at bs edges-place;
+    region = box-at bs region-place;
+    updates = half bs updates-place;
+    unsettled = half bs unsettled-place;
+    first = half bs first-place;
   };
 }
 
@@ -78,7 +75,7 @@ job-at bs = record {
 unfoldable pub record-read : List ℕ → Found
 record-read bs =
     cond (eqb (length bs) record-length)
-    (cond (leb (half bs 0) 3) (Of (job-at bs)) (Refused UnknownModel))
+    (cond (leb (half bs 0) last) (Of (job-at bs)) (Refused UnknownModel))
     (Refused WrongLength)
 
 -- ---- a fresh record: 1, 3, then 4, 5, 6, then 7 for a buffer of another length, then 13 for a mark

@@ -7,13 +7,7 @@ use Prim.Native.Nat.{ℕ, zero, suc, _+_, _*_, _/_, _%_, _^_, _<_}
 use lib.Dec.{eqb, leb}
 use lib.ListN.{length, getD}
 use Rattle.little_endian.specs.Bytes.{word}
-
--- how many words of eight bytes are summed, and where the check word stands: behind them
-abbrev pub summed : ℕ
-summed = 25
-
-abbrev pub check-place : ℕ
-check-place = 200
+use Rattle.job_bytes.specs.Places.{mark-place, check-place, summed, record-length}
 
 -- what the sum starts from: the bytes "LENSJOB2". Bytes that are all 0 would pass a sum that starts from 0
 abbrev pub check-start : ℕ
@@ -42,10 +36,7 @@ intact bs = eqb (word bs check-place) (check-of bs)
 abbrev pub intact-before : List ℕ → Bool
 intact-before bs = eqb (word bs check-place) (check-from check-start-before bs)
 
--- where the strict mark stands, and whether it is one
-abbrev pub mark-place : ℕ
-mark-place = 192
-
+-- whether the strict mark is one
 abbrev pub marked : List ℕ → Bool
 marked bs = leb (word bs mark-place) 1
 
@@ -55,9 +46,9 @@ whole bs = marked bs && intact bs
 
 -- ---- damage
 
--- what a caller can hold for a record: 208 numbers below 256
+-- what a caller can hold for a record: so many numbers below 256
 pub record RecordBytes (bs : List ℕ) : Type 0 where
-  pub long : length bs ≡ 208
+  pub long : length bs ≡ record-length
   pub each : (i : ℕ) → getD bs i 0 < 256
 
 -- the same but for the k-th word of eight bytes, and not the same

@@ -1,23 +1,50 @@
-// The record of a table that is being built, as 208 bytes at fixed places: what C keeps between two turns. The
-// last eight are a check word over all others.
+// The record of a table that is being built, as bytes at fixed places: what C keeps between two turns. The last eight
+// are a check word over all others.
 ghost use mathlib.Core.Path.{_≡_};
 ghost use Prim.Native.Nat.{_≤_};
 ghost use lib.ListN.{length};
-ghost use Rattle.little_endian.specs.Bytes.{half, floats, put};
-ghost use Rattle.camera.specs.Numbers.{model-number, twelve};
+ghost use Rattle.little_endian.specs.Bytes.{half, put};
+ghost use Rattle.camera.specs.Numbers.{model-number};
 ghost use Rattle.given.specs.Given.{given, answered};
 ghost use Rattle.job.specs.Job.{told-started};
+ghost use Rattle.job_bytes.specs.Places.{params-place, width-place, edges-place, unsettled-place, record-length};
 ghost use Rattle.job_bytes.specs.Check.{check-of, intact, whole};
-ghost use Rattle.job_bytes.specs.Bytes.{record-length, mark, head, tallies, job-at, record-bytes, record-read, known-mark, started, give-started, fresh-bytes};
+ghost use Rattle.job_bytes.specs.Bytes.{mark, camera-part, size-part, boxes, tallies, job-at, record-bytes};
+ghost use Rattle.job_bytes.specs.Bytes.{record-read, known-mark, started, give-started, fresh-bytes};
 use camera::Camera;
+use camera::numbers::LAST;
+use camera::numbers::MOST;
 use camera_bytes::Asked;
 use job::Job;
 use job::Started;
 use lens::Refusal;
 use plans::Progress;
 
+// Where the parts of a record stand, behind the model at 0 (specs/Places). include/lens.h tells the numbers.
+const UPDATES: usize = 4;
+
+const PARAMS: usize = 8;
+
+const WIDTH: usize = PARAMS + 8 * MOST;
+
+const HEIGHT: usize = WIDTH + 4;
+
+const DONE: usize = HEIGHT + 4;
+
+const EDGES: usize = DONE + 8;
+
+const REGION: usize = EDGES + 32;
+
+const UNSETTLED: usize = REGION + 32;
+
+const FIRST: usize = UNSETTLED + 4;
+
+const MARK: usize = FIRST + 4;
+
+const CHECK: usize = MARK + 8;
+
 // How many bytes a record has.
-pub const LENGTH: usize = 208;
+pub const LENGTH: usize = CHECK + 8;
 
 // What the check word's sum starts from: the bytes "LENSJOB2".
 const CHECK_START: u64 = 0x32424f4a534e454c;
@@ -30,21 +57,21 @@ pub enum Found {
 
 // What stands at each place, of a model that there is.
 fn job_at(bytes: &[u8], model: u8) -> Job
-    requires { ⌜ (model ≡ half (now bytes) 0) × (8 ≤ length (now bytes)) ⌝ }
+    requires { ⌜ (model ≡ half (now bytes) 0) × (params-place ≤ length (now bytes)) ⌝ }
     ensures { λ r. ⌜ r ≡ job-at (now (bytes .entry)) ⌝ }
 {
     Job {
-        camera: camera_bytes::camera_of(model, &bytes[8..]),
-        width: little_endian::half(bytes, 104) as usize,
-        height: little_endian::half(bytes, 108) as usize,
-        strict: little_endian::word(bytes, 192) == 1,
+        camera: camera_bytes::camera_of(model, &bytes[PARAMS..]),
+        width: little_endian::half(bytes, WIDTH) as usize,
+        height: little_endian::half(bytes, HEIGHT) as usize,
+        strict: little_endian::word(bytes, MARK) == 1,
         at: Progress {
-            done: little_endian::word(bytes, 112) as usize,
-            edges: region_bytes::box_at(bytes, 120),
-            region: region_bytes::box_at(bytes, 152),
-            updates: little_endian::half(bytes, 4),
-            unsettled: little_endian::half(bytes, 184) as usize,
-            first: little_endian::half(bytes, 188) as usize,
+            done: little_endian::word(bytes, DONE) as usize,
+            edges: region_bytes::box_at(bytes, EDGES as u32),
+            region: region_bytes::box_at(bytes, REGION as u32),
+            updates: little_endian::half(bytes, UPDATES),
+            unsettled: little_endian::half(bytes, UNSETTLED) as usize,
+            first: little_endian::half(bytes, FIRST) as usize,
         },
     }
 }
@@ -58,19 +85,19 @@ pub fn read(bytes: &[u8]) -> Found
         return Found::Refused(Refusal::WrongLength);
     }
     let model = little_endian::half(bytes, 0);
-    if 3 < model {
+    if (LAST as u32) < model {
         return Found::Refused(Refusal::UnknownModel);
     }
     Found::Of(job_at(bytes, model as u8))
 }
 
-// The check word of the 25 words that stand before it: their sum.
+// The check word of the words that stand before it: their sum.
 fn check_word(bytes: &[u8]) -> u64
     ensures { λ r. ⌜ r ≡ check-of (now (bytes .entry)) ⌝ }
 {
     let mut sum = CHECK_START;
     let mut i = 0;
-    while i < 25 {
+    while i < CHECK / 8 {
         sum = std::num::wrapping_add_u64(sum, little_endian::word(bytes, 8 * i));
         i += 1;
     }
@@ -81,7 +108,7 @@ fn check_word(bytes: &[u8]) -> u64
 fn intact(bytes: &[u8]) -> bool
     ensures { λ r. ⌜ r ≡ intact (now (bytes .entry)) ⌝ }
 {
-    little_endian::word(bytes, 200) == check_word(bytes)
+    little_endian::word(bytes, CHECK) == check_word(bytes)
 }
 
 // Whether its strict mark is one and its check word is right. A record that isn't of the right length is not judged
@@ -89,7 +116,7 @@ fn intact(bytes: &[u8]) -> bool
 pub fn whole(bytes: &[u8]) -> bool
     ensures { λ r. ⌜ r ≡ whole (now (bytes .entry)) ⌝ }
 {
-    if 1 < little_endian::word(bytes, 192) {
+    if 1 < little_endian::word(bytes, MARK) {
         return false;
     }
     intact(bytes)
@@ -102,11 +129,37 @@ fn model_number(camera: Camera) -> u64
     camera::numbers::model_number(camera) as u64
 }
 
-fn put_camera(camera: Camera, out: &mut [u8])
-    ensures { λ _. ⌜ now (out .exit) ≡ put 8 (floats (twelve camera)) (now (out .entry)) ⌝ }
+fn put_camera(job: Job, out: &mut [u8])
+    requires { ⌜ record-length ≤ length (now out) ⌝ }
+    ensures { λ _. ⌜ now (out .exit) ≡ put 0 (camera-part job) (now (out .entry)) ⌝ }
 {
-    let numbers = camera::numbers::twelve(camera);
-    little_endian::put_floats(out, 8, &numbers);
+    let camera = job.camera;
+    let at = job.at;
+    let numbers = camera::numbers::padded(camera);
+    little_endian::put(out, 0, 4, model_number(camera));
+    little_endian::put(out, UPDATES, 4, at.updates as u64);
+    little_endian::put_floats(out, PARAMS, &numbers);
+}
+
+fn put_size(job: Job, out: &mut [u8])
+    requires { ⌜ record-length ≤ length (now out) ⌝ }
+    ensures { λ _. ⌜ now (out .exit) ≡ put width-place (size-part job) (now (out .entry)) ⌝ }
+{
+    let at = job.at;
+    little_endian::put(out, WIDTH, 4, job.width as u64);
+    little_endian::put(out, HEIGHT, 4, job.height as u64);
+    little_endian::put(out, DONE, 8, at.done as u64);
+}
+
+fn put_boxes(job: Job, out: &mut [u8])
+    requires { ⌜ record-length ≤ length (now out) ⌝ }
+    ensures { λ _. ⌜ now (out .exit) ≡ put edges-place (boxes job) (now (out .entry)) ⌝ }
+{
+    let at = job.at;
+    let edges = at.edges;
+    let region = at.region;
+    region_bytes::put_box(edges, EDGES, out);
+    region_bytes::put_box(region, REGION, out);
 }
 
 // The strict mark.
@@ -119,31 +172,12 @@ fn mark(strict: bool) -> u64
 // What the record tells of samples that didn't settle.
 fn put_tallies(job: Job, out: &mut [u8])
     requires { ⌜ record-length ≤ length (now out) ⌝ }
-    ensures { λ _. ⌜ now (out .exit) ≡ put 184 (tallies job) (now (out .entry)) ⌝ }
+    ensures { λ _. ⌜ now (out .exit) ≡ put unsettled-place (tallies job) (now (out .entry)) ⌝ }
 {
     let at = job.at;
-    little_endian::put(out, 184, 4, at.unsettled as u64);
-    little_endian::put(out, 188, 4, at.first as u64);
-    little_endian::put(out, 192, 8, mark(job.strict));
-}
-
-// What stands ahead of that.
-fn put_head(job: Job, out: &mut [u8])
-    requires { ⌜ record-length ≤ length (now out) ⌝ }
-    ensures { λ _. ⌜ now (out .exit) ≡ put 0 (head job) (now (out .entry)) ⌝ }
-{
-    let camera = job.camera;
-    let at = job.at;
-    let edges = at.edges;
-    let region = at.region;
-    little_endian::put(out, 0, 4, model_number(camera));
-    little_endian::put(out, 4, 4, at.updates as u64);
-    put_camera(camera, out);
-    little_endian::put(out, 104, 4, job.width as u64);
-    little_endian::put(out, 108, 4, job.height as u64);
-    little_endian::put(out, 112, 8, at.done as u64);
-    region_bytes::put_box(edges, 120, out);
-    region_bytes::put_box(region, 152, out);
+    little_endian::put(out, UNSETTLED, 4, at.unsettled as u64);
+    little_endian::put(out, FIRST, 4, at.first as u64);
+    little_endian::put(out, MARK, 8, mark(job.strict));
 }
 
 // Writes a record at the buffer's start, if all of it fits. Else the buffer is left as it is. The sum is taken of a
@@ -152,10 +186,12 @@ pub fn write(job: Job, out: &mut [u8])
     ensures { λ _. ⌜ now (out .exit) ≡ put 0 (record-bytes job) (now (out .entry)) ⌝ }
 {
     if LENGTH <= out.len() {
-        put_head(job, out);
+        put_camera(job, out);
+        put_size(job, out);
+        put_boxes(job, out);
         put_tallies(job, out);
         let check = check_word(&out[0..LENGTH]);
-        little_endian::put(out, 200, 8, check);
+        little_endian::put(out, CHECK, 8, check);
     }
 }
 
@@ -204,7 +240,7 @@ fn give_started(started: Started, out: &mut [u8]) -> u8
     }
 }
 
-// The bytes of a fresh record: 1, 3, 4, 5, 6, 7, 13, or 0 and all 208 of them.
+// The bytes of a fresh record: 1, 3, 4, 5, 6, 7, 13, or 0 and all of them.
 pub fn fresh(model: u8, params: &[u8], width: u32, height: u32, mark: u8, out: &mut [u8]) -> u8
     ensures { λ r. ⌜ given r (now (out .exit)) ≡
         fresh-bytes model (now (params .entry)) width height mark (now (out .entry)) ⌝ }

@@ -27,7 +27,9 @@ use Rattle.job.specs.declared.Job.{Job}
 use Rattle.distortion_table.specs.Answer.{plan-of, state-of, turn-of}
 use Rattle.little_endian.specs.Bytes.{half}
 use Rattle.given.specs.Given.{code}
-use Rattle.job_bytes.specs.Bytes.{record-length, record-read, job-at}
+use Rattle.camera.specs.Numbers.{last}
+use Rattle.job_bytes.specs.Places.{record-length}
+use Rattle.job_bytes.specs.Bytes.{record-read, job-at}
 use Rattle.job_bytes.specs.Check.{whole}
 use Rattle.job_bytes.specs.declared.Found.the-variants.{Of, Refused}
 use Rattle.turn_bytes.specs.Turn.{checked, own, answer-length, before-units}
@@ -62,7 +64,7 @@ checked-so whole n h = go (eqb n 0) whole
 
 own-so : (bs : List ℕ) (whole : Bool) (places : ℕ) → BeforeUnits (own (record-read bs) whole places)
 unfolding record-read
-own-so bs whole places = go (eqb (length bs) record-length) (leb (half bs 0) 3)
+own-so bs whole places = go (eqb (length bs) record-length) (leb (half bs 0) last)
   where
     go : (l m : Bool) → BeforeUnits (own (cond l (cond m (Of (job-at bs)) (Refused UnknownModel)) (Refused WrongLength)) whole places)
     go false m = refl
@@ -87,7 +89,7 @@ before-so bs cells lent = code-so (own (record-read bs) (whole bs) (length cells
 -- its record is admitted, and its bytes are whole
 pub own-taken : (bs : List ℕ) (places : ℕ) → own (record-read bs) (whole bs) places ≡ 0 → (admitted (job-at bs) places ≡ judged.Taken) × (whole bs ≡ true)
 unfolding record-read
-own-taken bs places h = go (eqb (length bs) record-length) (leb (half bs 0) 3) h
+own-taken bs places h = go (eqb (length bs) record-length) (leb (half bs 0) last) h
   where
     go : (l m : Bool) → own (cond l (cond m (Of (job-at bs)) (Refused UnknownModel)) (Refused WrongLength)) (whole bs) places ≡ 0
         → (admitted (job-at bs) places ≡ judged.Taken) × (whole bs ≡ true)

@@ -23,7 +23,9 @@ use Rattle.little_endian.specs.Bytes.{bytes, half, put}
 use Rattle.little_endian.proofs.Laws.{length-bytes, put-whole, put-put}
 use Rattle.given.specs.Given.{answered}
 use Rattle.given.proofs.Laws.{told-zero}
-use Rattle.job_bytes.specs.Bytes.{record-length, record-bytes, record-read, job-at}
+use Rattle.camera.specs.Numbers.{last}
+use Rattle.job_bytes.specs.Places.{record-length}
+use Rattle.job_bytes.specs.Bytes.{record-bytes, record-read, job-at}
 use Rattle.job_bytes.specs.Check.{whole}
 use Rattle.job_bytes.specs.declared.Found.{Found}
 use Rattle.job_bytes.specs.declared.Found.the-variants.{Of, Refused}
@@ -74,7 +76,7 @@ by-tests bs job false known e h = let z : _≡_ {A = ℕ} 0 1 = cc in absurd (om
 -- a record that is read is the one at the bytes' places, and these are as many as a record has
 pub read-of : (bs : List ℕ) (job : Job) → record-read bs ≡ Of job → (job ≡ job-at bs) × (length bs ≡ record-length)
 unfolding record-read
-read-of bs job h = by-tests bs job (eqb (length bs) record-length) (leb (half bs 0) 3) refl h
+read-of bs job h = by-tests bs job (eqb (length bs) record-length) (leb (half bs 0) last) refl h
 
 -- ---- before any unit
 

@@ -2,16 +2,17 @@
 use Prim.Native.Nat.{_-_}
 use native.Mathlib.Omega.{arith}
 use lib.Ieee.{nan}
+use Rattle.lens.specs.Jacobian.{entries}
 use Rattle.answer_bytes.proofs.Entries.{Entered, entry-number, none-entered, next-entered, all-entered}
 use borrow.Author.Needs.{needs}
 use Rattle.answer_bytes.proofs.put_entries.Statement.{statement}
 use Rattle.answer_bytes.proofs.put_entries.Tie as tie
 
 abbrev Inv-loop : tie.InvT-loop
-Inv-loop out₀ entries i₀ out i = Entered out₀ entries out i
+Inv-loop out₀ numbers i₀ out i = Entered out₀ numbers out i
 
 abbrev μ-loop : tie.MeasureT-loop
-μ-loop out₀ entries i₀ out i = 32 - i
+μ-loop out₀ numbers i₀ out i = entries - i
 
 loop-holds : tie.Need-loop-holds Inv-loop μ-loop
 loop-holds c = none-entered _ _ (c .before .pre)

@@ -2,7 +2,7 @@
 use Prim.Native.Nat.{_-_}
 use native.Mathlib.Omega.{arith}
 use borrow.Author.Needs.{needs}
-use Rattle.job_bytes.specs.Check.{summed}
+use Rattle.job_bytes.specs.Places.{summed}
 use Rattle.job_bytes.proofs.Summing.{Summed, no-word, next-word, every-word}
 use Rattle.job_bytes.proofs.check_word.Statement.{statement}
 use Rattle.job_bytes.proofs.check_word.Tie as tie

@@ -4,7 +4,8 @@ use denote.Ref.{now}
 use borrow.Author.Needs.{needs}
 use Rattle.little_endian.proofs.Laws.{put-whole}
 use Rattle.given.proofs.Giving.{written, left-alone}
-use Rattle.job_bytes.specs.Bytes.{record-length, record-bytes}
+use Rattle.job_bytes.specs.Places.{record-length}
+use Rattle.job_bytes.specs.Bytes.{record-bytes}
 use Rattle.job_bytes.proofs.Placing.{length-record}
 use Rattle.job_bytes.proofs.give_job.Statement.{statement}
 use Rattle.job_bytes.proofs.give_job.Tie as tie

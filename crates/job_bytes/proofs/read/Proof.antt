@@ -30,4 +30,4 @@ returns-3 c =
     ∙ read-job (now (c .before .before .before .before .before .args .bytes)) (omega (arith, c .before .before .before .if1 .left)) (omega (arith, c .before .if2 .left, c .before .before .half .ensures))
 
 pub read-spec : {M : Type 1} → statement M
-read-spec = tie.close (tie.spec returns half-requires returns-2 cast-job-at job-at-requires returns-3)
+read-spec = tie.close (tie.spec returns half-requires (λ c. search needs) returns-2 cast-job-at job-at-requires returns-3)

@@ -8,7 +8,8 @@ use denote.Ref.{now}
 use borrow.Author.Needs.{needs}
 use borrow.Author.Tests.{le-leb, lt-leb}
 use Rattle.little_endian.specs.Bytes.{word}
-use Rattle.job_bytes.specs.Check.{mark-place, intact, whole}
+use Rattle.job_bytes.specs.Places.{mark-place}
+use Rattle.job_bytes.specs.Check.{intact, whole}
 use Rattle.job_bytes.proofs.whole.Statement.{statement}
 use Rattle.job_bytes.proofs.whole.Tie as tie
 

@@ -1,19 +1,20 @@
 -- `camera::numbers::count` meets its contract. Assumes nothing.
-use borrow.Author.Tests.{eq-eqb, ne-eqb}
+use mathlib.Core.Path.{refl}
+use Rattle.camera.proofs.Models.{last-model}
 use Rattle.camera.proofs.numbers.count.Statement.{statement}
 use Rattle.camera.proofs.numbers.count.Tie as tie
 
 returns : tie.Need-returns
-returns c = simp (eq-eqb _ _ (c .if1 .taken))
+returns c = rw (c .if1 .taken) refl
 
 returns-2 : tie.Need-returns-2
-returns-2 c = simp (ne-eqb _ _ (c .before .if1 .left), eq-eqb _ _ (c .if2 .taken))
+returns-2 c = rw (c .if2 .taken) refl
 
 returns-3 : tie.Need-returns-3
-returns-3 c = simp (ne-eqb _ _ (c .before .before .if1 .left), ne-eqb _ _ (c .before .if2 .left), eq-eqb _ _ (c .if3 .taken))
+returns-3 c = rw (c .if3 .taken) refl
 
 returns-4 : tie.Need-returns-4
-returns-4 c = simp (ne-eqb _ _ (c .before .before .if1 .left), ne-eqb _ _ (c .before .if2 .left), ne-eqb _ _ (c .if3 .left))
+returns-4 c = rw (last-model _ (c .before .before .if1 .left) (c .before .if2 .left) (c .if3 .left)) refl
 
 pub count-spec : {M : Type 1} → statement M
 count-spec = tie.close (tie.spec returns returns-2 returns-3 returns-4)

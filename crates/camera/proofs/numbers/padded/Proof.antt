@@ -1,7 +1,7 @@
--- `camera::numbers::twelve` meets its contract. Assumes nothing.
+-- `camera::numbers::padded` meets its contract. Assumes nothing.
 use borrow.Author.Needs.{needs}
-use Rattle.camera.proofs.numbers.twelve.Statement.{statement}
-use Rattle.camera.proofs.numbers.twelve.Tie as tie
+use Rattle.camera.proofs.numbers.padded.Statement.{statement}
+use Rattle.camera.proofs.numbers.padded.Tie as tie
 
 returns : tie.Need-returns
 returns c = rw (c .before .before .camera .given .1) (c .of-affine .ensures)
@@ -15,8 +15,8 @@ returns-3 c = rw (c .before .before .camera3 .given .1) (c .of-kannala-brandt .e
 returns-4 : tie.Need-returns-4
 returns-4 c = rw (c .before .before .camera4 .given .1) (c .of-brown-conrady .ensures)
 
-pub twelve-spec : {M : Type 1} → statement M
-twelve-spec =
+pub padded-spec : {M : Type 1} → statement M
+padded-spec =
     tie.close
     (tie.spec
     (λ c. search needs)
