@@ -17,8 +17,8 @@ called brings its own and the prices of its units along, outside of any loop, wh
 
 A first sample that the compiler has taken out of the loop is covered: what it takes above S is in the turn's own.
 
-A model's part. The camera is an enum, and a function that asks for its model does so by a jump table, in the enum's order: affine,
-eucm, kb, bc. For a model only its entry is followed in the functions of MODEL_TABLES; what each entry leads to is looked at, so that
+A model's part. The camera is an enum, and a function that asks for its model does so by a jump table, in the enum's order, which
+is that of the numbers. For a model only its entry is followed in the functions of MODEL_TABLES; what each entry leads to is looked at, so that
 another table in its place is noticed. Elsewhere all ways are followed: the figure is then too high and never too low.
 
 The stack. What a function pushes and reserves at its deepest, the 8 bytes of its return address, the red zone below the stack pointer
@@ -32,8 +32,8 @@ from dataclasses import dataclass
 from functools import lru_cache
 
 from machine_code import call_of, fail, order, read
+from models import MODELS
 
-MODELS = ["affine", "eucm", "kb", "bc"]
 OUTSIDE = {"memcpy", "memset"}
 
 
@@ -69,8 +69,12 @@ class Limit:
 LOOPS = [
     Limit("camera::undistort_judged", [r"cmp \$0x15,", r"divsd"], passes=20, first=True,
           why="kannala_brandt::newton, LIMIT = 20 (specs: newton, limit); the updates are counted from 1, and 21 ends it"),
-    Limit("camera::undistort_judged", [r"cmp \$0x32,", r"divpd|divsd"], passes=50,
-          why="brown_conrady::newton, LIMIT = 50 (specs: newton, limit); a pass that ends it early makes no update"),
+    Limit(["camera::undistort_judged"], [r"cmp \$0x32,", r"divpd|divsd"], many=True, passes=50,
+          why="brown_conrady::newton and thin_prism::newton, LIMIT = 50 (specs: newton, limit); a pass that ends it early makes no update"),
+    Limit(["camera::finite_parameters"], [r"cmp \$0xb,"], lacks=["call"], many=True, passes=12,
+          why="lens::all_finite of bc's twelve, and of the same in bc12; the places are counted from 0, and 11 is the last"),
+    Limit(["camera_bytes::read", "camera_bytes::known"], [r"cmp \$0x10,"], lacks=["call"], many=True, passes=16,
+          why="camera_bytes::numbers: as many as any model has, MOST = 16; 16 ends it"),
     Limit(["lens_dx_distort_params"], [r"cmp \$0x21,", r"movsd"], lacks=["call"], many=True, passes=16,
           why="lens::two_rows: 32 numbers, two a pass, the place counted from 1; 33 ends it"),
     Limit("distortion_table::up_to_cells", [r"call camera::undistort_judged"], unit="sample", by="camera::undistort_judged",
@@ -85,7 +89,7 @@ LOOPS = [
 
 # little_endian's `last` has a loop that the compiler makes two of, four bytes a pass and one. Fewer than eight bytes are left there. Every C
 # function but lens_lookup has tested all lengths before it reads a number.
-PARTS = ["region_bytes::box_at", "camera_bytes::camera_of", "lens_observe"]
+PARTS = ["region_bytes::box_at", "camera_bytes::read", "camera_bytes::known", "lens_observe"]
 TESTED = ["lens_distort", "lens_undistort", "lens_dx_distort_x", "lens_dx_distort_params", "lens_job_new", "lens_turn", "lens_turn16", "lens_observe"]
 LOOPS += [
     Limit(PARTS, [r"shl \$0x10,", "movzbl"], many=True, passes=1, never=TESTED,
@@ -94,12 +98,11 @@ LOOPS += [
           why="the same, the bytes that four passes leave"),
 ]
 
-# Functions with one jump table, which is over the model, and what tells its entries apart. PARAMETERS: each takes longer than the one
-# before, having more parameters. CALLS: affine and bc call neither root nor arctangent nor tangent, eucm the root alone, kb both; and bc
-# takes longer than affine. To take a function out of this is always sound.
-PARAMETERS, CALLS = "parameters", "calls"
-MODEL_TABLES = {"camera::finite_parameters": PARAMETERS, "job_bytes::write": PARAMETERS,
-                "camera::distort_judged": CALLS, "camera::undistort_judged": CALLS, "lens_dx_distort_x": CALLS}
+# Functions with one jump table, which is over the model. What tells its entries apart: affine, bc and bc12 call neither root nor arctangent
+# nor tangent, eucm the root alone, kb both; and bc takes longer than affine, bc12 longer than bc. To take a function out of this is always
+# sound.
+MODEL_TABLES = ["camera::distort_judged", "camera::undistort_judged", "lens_dx_distort_x", "lens_dx_distort_params"]
+BY_CALLS = [(False, False), (True, False), (True, True), (False, False), (False, False)]
 
 # The functions that C has, in the header's order, and whether a model is handed in.
 FUNCTIONS = {"lens_distort": True, "lens_undistort": True, "lens_dx_distort_x": True, "lens_dx_distort_params": True,
@@ -167,17 +170,13 @@ class Bounds:
                 fail(f"the archive has no {name}")
 
     def check_models(self):
-        for name, by in MODEL_TABLES.items():
+        for name in MODEL_TABLES:
             tables = [b for b in self.functions[name].blocks.values() if b.table] if name in self.functions else []
             if [len(b.after) for b in tables] != [len(MODELS)]:
                 fail(f"MODEL_TABLES: {name} hasn't one jump table of {len(MODELS)} entries any more; take it out")
             takes = [self.instructions(name, model)[0] for model in range(len(MODELS))]
-            if by == PARAMETERS:
-                right = takes == sorted(set(takes))
-            else:
-                calls = [self.called_from(self.functions[name], way) for way in tables[0].after]
-                right = calls == [(False, False), (True, False), (True, True), (False, False)] and takes[0] < takes[3]
-            if not right:
+            calls = [self.called_from(self.functions[name], way) for way in tables[0].after]
+            if calls != BY_CALLS or not takes[0] < takes[3] < takes[4]:
                 fail(f"MODEL_TABLES: the entries of {name}'s jump table don't look like {', '.join(MODELS)}: {takes}")
 
     def called_from(self, function, at):
@@ -428,7 +427,7 @@ for one in LOOPS:
 
 
 def print_all(bounds):
-    print("instructions at most, by model (affine, eucm, kb, bc)")
+    print(f"instructions at most, by model ({', '.join(MODELS)})")
     for name in sorted(bounds.functions, key=lambda n: (n in FUNCTIONS, n)):
         each = [bounds.instructions(name, model) for model in range(len(MODELS))]
         own = [one[0] for one in each]

@@ -21,7 +21,7 @@ use rust_text::distortions::{
 };
 use rust_text::dyn_camera::{DynCameraF64, Lens};
 use rust_text::traits::IsCameraDistortionImpl;
-use rust_text::{ask, Angles, ImageSize, Num, Platform, SVector};
+use rust_text::{ask, Angles, ImageSize, Num, Params, Platform, SVector, MOST_PARAMS};
 use std::cell::Cell;
 use std::hint::black_box;
 use std::marker::PhantomData;
@@ -57,8 +57,8 @@ fn draw(r: &mut Random, model: usize, operation: usize, stretched: bool) -> Case
     let stretch = if stretched { r.between(1.0, 20.0) } else { 1.0 };
     std::array::from_fn(|i| match i {
         0..=3 => p.params[i],
-        4..=11 => p.params[i] * stretch,
-        _ => at[i - 12],
+        _ if i < MOST_PARAMS => p.params[i] * stretch,
+        _ => at[i - MOST_PARAMS],
     })
 }
 
@@ -68,7 +68,7 @@ fn write_cases(model: &str, operation: &str, updates: &str) {
     if model == "one" {
         let high = if operation == "tangent" { 99.0 / 64.0 } else { 2.0 };
         for _ in 0..64 {
-            line(&std::array::from_fn(|i| if i == 12 { r.between(0.0, high) } else { 0.0 }));
+            line(&std::array::from_fn(|i| if i == MOST_PARAMS { r.between(0.0, high) } else { 0.0 }));
         }
         return;
     }
@@ -82,7 +82,7 @@ fn write_cases(model: &str, operation: &str, updates: &str) {
         UPDATES.with(|u| u.set(0));
         // of bc by its parameters the Rust can't be asked: it stops at a todo!()
         if (m, o) != (3, 3) {
-            black_box(ask::<Counting>(m, o, &std::array::from_fn(|i| c[i]), [c[12], c[13]]).numbers);
+            black_box(ask::<Counting>(m, o, &std::array::from_fn(|i| c[i]), [c[MOST_PARAMS], c[MOST_PARAMS + 1]]).numbers);
         }
         let done = UPDATES.with(|u| u.get());
         if wanted.map_or(true, |n| n == done) && !apply(camera, &c).is_nan() {
@@ -118,25 +118,32 @@ impl<D: IsCameraDistortionImpl<Num<Platform>, K, N, 1, 0, 0>, const K: usize, co
 }
 
 fn plain<D: IsCameraDistortionImpl<Num<Platform>, K, N, 1, 0, 0> + 'static, const K: usize, const N: usize>(
-    params: &[f64; 12],
+    params: &Params,
 ) -> Box<dyn Lens> {
     Box::new(Plain::<D, K, N>(SVector(std::array::from_fn(|i| Num::of(params[i]))), PhantomData))
 }
 
-fn rust_lens(model: usize, params: &[f64; 12]) -> Box<dyn Lens> {
+fn rust_lens(model: usize, params: &Params) -> Box<dyn Lens> {
     match model {
         0 => plain::<AffineDistortionImpl<Num<Platform>, 1, 0, 0>, 0, 4>(params),
         1 => plain::<EnhancedUnifiedDistortionImpl<Num<Platform>, 1, 0, 0>, 2, 6>(params),
         2 => plain::<KannalaBrandtDistortionImpl<Num<Platform>, 1, 0, 0>, 4, 8>(params),
-        _ => plain::<BrownConradyDistortionImpl<Num<Platform>, 1, 0, 0>, 8, 12>(params),
+        3 => plain::<BrownConradyDistortionImpl<Num<Platform>, 1, 0, 0>, 8, 12>(params),
+        _ => panic!("the Rust has no such model"),
     }
 }
 
 /// A camera for tables of 32 to 48 cells a side.
-fn table_params(model: usize) -> [f64; 12] {
-    let mut p = [40.0, 41.0, 20.0, 15.0, 0.0, 0.0, 0.0, 0.0, 0.0, 0.0, 0.0, 0.0];
-    let own: &[f64] =
-        [&[][..], &[0.6, 1.1], &[0.1, 0.01, 0.001, 0.0001], &[0.1, 0.01, 0.001, 0.0005, 0.001, 0.02, 0.01, 0.001]][model];
+fn table_params(model: usize) -> Params {
+    let mut p = Params::default();
+    p[..4].copy_from_slice(&[40.0, 41.0, 20.0, 15.0]);
+    let own: &[f64] = [
+        &[][..],
+        &[0.6, 1.1],
+        &[0.1, 0.01, 0.001, 0.0001],
+        &[0.1, 0.01, 0.001, 0.0005, 0.001, 0.02, 0.01, 0.001],
+        &[0.1, 0.01, 0.001, 0.0005, 0.001, 0.02, 0.01, 0.001, 0.001, 0.0002, -0.002, 0.0005],
+    ][model];
     p[4..4 + own.len()].copy_from_slice(own);
     p
 }
@@ -144,11 +151,12 @@ fn table_params(model: usize) -> [f64; 12] {
 fn tables(side: &str, model: usize, width: usize, height: usize, n: usize) {
     let p = table_params(model);
     let mut cells = vec![0f32; 2 * width * height];
-    let camera = DynCameraF64 { lens: rust_lens(model, &p), size: ImageSize { width, height } };
-    let case = std::array::from_fn(|i| if i < 12 { p[i] } else { 0.0 });
+    let rust = side == "rust";
+    let camera = if rust { Some(DynCameraF64 { lens: rust_lens(model, &p), size: ImageSize { width, height } }) } else { None };
+    let case = std::array::from_fn(|i| if i < MOST_PARAMS { p[i] } else { 0.0 });
     for _ in 0..n {
-        if side == "rust" {
-            black_box(distort_table(black_box(&camera)));
+        if let Some(camera) = &camera {
+            black_box(distort_table(black_box(camera)));
         } else {
             let done = apply_table(black_box(TABLES[model]), &case, width, height, &mut cells);
             assert_eq!(done, 2 * width + 2 * height + width * height);

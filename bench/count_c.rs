@@ -18,6 +18,6 @@ fn main() {
     let mut answer = vec![0; lens::LENGTHS[operation]];
     for i in 0..n {
         let c = &cases[i % 64];
-        black_box(lens::call(operation, model as u8, &bytes[i % 64], [c[12], c[13]], &mut answer));
+        black_box(lens::call(operation, model as u8, &bytes[i % 64], [c[rust_text::MOST_PARAMS], c[rust_text::MOST_PARAMS + 1]], &mut answer));
     }
 }

@@ -1,6 +1,6 @@
 // What a unit and a turn cost through C, for bench/run to count.
 //   cases MODEL KIND: writes records, one a line in hexadecimal, whose unit but one is of that kind, `sample` or `cell`, and the next one
-//     too. A sample of kb or bc is one of the most updates that there can be, 20 or 50
+//     too. A sample of a model that searches is one of the most updates that there can be
 //   count ALLOWANCE N FILE CASE AHEAD: N turns of that allowance, each from the record on that line after so many units ahead
 //   count16: the same by lens_turn16
 #[path = "../oracle/compare/cases.rs"]
@@ -24,7 +24,6 @@ const ANSWER: usize = header_number(b"#define LENS_TURN_BYTES ");
 const UPDATES: usize = header_number(b"#define LENS_TURN_UPDATES ");
 const SIDE: usize = 16;
 const SAMPLES: usize = 4 * SIDE;
-const MOST: [u64; 4] = [0, 0, 20, 50];
 const CASES: usize = 16;
 const LAST: usize = 4;
 
@@ -83,7 +82,7 @@ fn print(job: &[u8; JOB]) {
 
 /// The records of one camera that are looked for, at most four, each one unit ahead of the unit that is meant. `last`: only the one for the
 /// last sample, which closes the region as well.
-fn wanted(model: usize, cell: bool, last: bool, params: &[f64; 12], r: &mut Random) -> Vec<[u8; JOB]> {
+fn wanted(model: usize, cell: bool, last: bool, params: &rust_text::Params, r: &mut Random) -> Vec<[u8; JOB]> {
     let mut head = blank();
     let bytes: Vec<u8> = params[..rust_text::COUNTS[model]].iter().flat_map(|x| x.to_le_bytes()).collect();
     let started = unsafe {
@@ -101,7 +100,7 @@ fn wanted(model: usize, cell: bool, last: bool, params: &[f64; 12], r: &mut Rand
         if head.turn(1) != 0 || found.len() == 4 {
             break;
         }
-        let most = head.updates() - updates == MOST[model];
+        let most = head.updates() - updates == rust_text::LIMITS[model];
         let sampled = 0 < unit && unit < SAMPLES && most && if last { unit == SAMPLES - 1 } else { r.one_in(4) };
         if if cell { unit > SAMPLES && r.one_in(64) } else { sampled } {
             found.push(ahead);

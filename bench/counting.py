@@ -2,7 +2,6 @@
 import os, platform, re, subprocess, sys
 
 counter, folder, page, runner = sys.argv[1], sys.argv[2], sys.argv[3], sys.argv[4:]
-MODELS = ["affine", "eucm", "kb", "bc"]
 
 
 def insns(program, *words):

@@ -1,7 +1,10 @@
 // What both counting programs are given: names and cases.
-pub type Case = [f64; 14];
+use rust_text::MOST_PARAMS;
 
-pub const MODELS: [&str; 4] = ["affine", "eucm", "kb", "bc"];
+/// As many parameters as a model has at most, and two coordinates.
+pub type Case = [f64; MOST_PARAMS + 2];
+
+pub use rust_text::NAMES as MODELS;
 pub const OPERATIONS: [&str; 4] = ["distort", "undistort", "dx_distort_x", "dx_distort_params"];
 
 pub fn place(names: &[&str], name: &str) -> usize {

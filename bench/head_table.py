@@ -3,12 +3,13 @@
 and from what docs/COST.md has as met. For a person to put there: it writes nothing."""
 import math, re, sys
 
-from bound import FUNCTIONS, MODELS, Bounds
+from bound import FUNCTIONS, Bounds
+from models import MODELS, TABLE
 
 MILLISECONDS = 3
 RATES = [50, 100, 400]  # millions of instructions a second
 WIDTH, HEIGHT = 640, 480
-UPDATES = ["none", "none", "20", "50"]
+UPDATES = [str(model.limit or "none") for model in TABLE.values()]
 
 
 def n(number):
@@ -50,7 +51,7 @@ def main(archive, page):
           "and the most that was met (docs/COST.md, \"The worst unit of each model\", says how both were found):\n")
     print(lines(["", "border sample, at most", "met", "its updates", "cell, at most", "met", "a turn's own, at most", "met"], rows))
     print("\nA turn of s samples and c cells takes at most\n\n    a turn's own + s × a border sample + c × a cell\n\n"
-          "instructions, and what memcpy takes for two calls with 224 bytes. So the units that fit a frame are\n\n    units = (free time × rate - a turn's own) / a unit\n\n"
+          "instructions, and what memcpy takes for at most six calls with at most 256 bytes each, which is in what was met. So the units that fit a frame are\n\n    units = (free time × rate - a turn's own) / a unit\n\n"
           "rounded down, where the rate is how many of these instructions the processor does in a unit of time, and a unit is a border "
           "sample until the border is done and a cell from then on (`LENS_TURN_DONE` of the answer is then `LENS_SAMPLES` or more). For a "
           f"turn that may do both, take the dearer. In {MILLISECONDS} ms, samples / cells:\n")

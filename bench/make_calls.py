@@ -1,35 +1,32 @@
 #!/usr/bin/env python3
 """make_calls.py FOLDER: writes FOLDER/calls.rt, a Rattle library that exports each operation of each model, of the model's own
 crate (`ours_`) and of the camera (`camera_`), and FOLDER/calls.rs, the same of the Rust's text (`rust_`), with a list of all
-names. Every function takes twelve parameters and two coordinates and gives the sum of its answer's numbers, so that no part
+names. Every function takes as many parameters as a model has at most and two coordinates, and gives the sum of its answer's numbers, so that no part
 of an answer goes unasked and both sides carry the same load. A refusal gives NaN. The functions of one number take x."""
 import sys
 
-MODELS = {
-    "affine": ("affine", "Affine", [], 0),
-    "eucm": ("enhanced_unified", "EnhancedUnified", ["alpha", "beta"], 2),
-    "kb": ("kannala_brandt", "KannalaBrandt", ["k0", "k1", "k2", "k3"], 4),
-    "bc": ("brown_conrady", "BrownConrady", ["k1", "k2", "p1", "p2", "k3", "k4", "k5", "k6"], 8),
-}
-OPERATIONS = ["distort", "undistort", "dx_distort_x", "dx_distort_params"]
-NUMBERS = [f"p{i}" for i in range(12)] + ["x", "y"]
+from models import MODELS, MOST_PARAMS, OPERATIONS, PASSED, TABLE, in_rust
+
+NUMBERS = [f"p{i}" for i in PASSED] + ["x", "y"]
 TYPED = ", ".join(f"{n}: f64" for n in NUMBERS)
 SIGNATURE = "(" + TYPED + ") -> f64"
 
 
 def pairs(side):
-    """Each model with each operation that it has on a side. The Rust's bc has a todo!() for its derivative by the parameters."""
-    return [(m, o) for m in MODELS for o in OPERATIONS if side != "rust" or (m, o) != ("bc", "dx_distort_params")]
+    """Each model with each operation that it has on a side."""
+    return [(m, o) for m in MODELS for o in OPERATIONS if side != "rust" or in_rust(m, o)]
 
 
 def columns(model, operation):
-    return 4 + len(MODELS[model][2]) if operation == "dx_distort_params" else 2
+    return len(TABLE[model].fields()) if operation == "dx_distort_params" else 2
 
 
 def camera_of(model):
-    crate, name, own, _ = MODELS[model]
-    fields = ["fx", "fy", "cx", "cy"] + own
-    return f"{crate}::{name}Params {{ " + ", ".join(f"{f}: p{i}" for i, f in enumerate(fields)) + " }"
+    one = TABLE[model]
+    given = [f"{f}: p{i}" for i, f in enumerate(one.fields())]
+    if one.holds:
+        given[: len(TABLE[one.holds].fields())] = [f"{one.holds}: {camera_of(one.holds)}"]
+    return f"{one.crate}::{one.name}Params {{ {', '.join(given)} }}"
 
 
 def place(operation):
@@ -56,7 +53,7 @@ UNDISTORTED = ("Undistorted", "settled", "settled.point.0 + settled.point.1")
 
 
 def ours(model, operation):
-    call = f"{MODELS[model][0]}::{operation}({camera_of(model)}, {place(operation)})"
+    call = f"{TABLE[model].crate}::{operation}({camera_of(model)}, {place(operation)})"
     if operation == "distort":
         body = f"    let pixel = {call};\n    pixel.0 + pixel.1"
     elif operation != "undistort":
@@ -69,7 +66,7 @@ def ours(model, operation):
 
 
 def camera(model, operation):
-    call = f"camera::{operation}(camera::Camera::{MODELS[model][1]}({camera_of(model)}), {place(operation)})"
+    call = f"camera::{operation}(camera::Camera::{TABLE[model].name}({camera_of(model)}), {place(operation)})"
     if operation == "distort":
         body = matched(call, DISTORTED)
     elif operation == "undistort":
@@ -82,16 +79,15 @@ def camera(model, operation):
 
 def table(model):
     """A whole table, and how many units were done."""
-    name = MODELS[model][1]
+    name = TABLE[model].name
     return (f"#[no_mangle]\npub extern \"C\" fn table_{model}({TYPED}, width: usize, height: usize, table: &mut [f32]) -> usize {{\n"
             f"    let turned = distortion_table::distort_table(camera::Camera::{name}({camera_of(model)}), width, height, table);\n"
             f"    turned.job.at.done\n}}\n")
 
 
 def rust(model, operation):
-    crate, name, own, _ = MODELS[model]
-    count = 4 + len(own)
-    params = ", ".join(f"Num::of(p{i})" for i in range(count))
+    name = TABLE[model].name
+    params = ", ".join(f"Num::of(p{i})" for i in range(len(TABLE[model].fields())))
     call = f"{name}DistortionImpl::<Num<Platform>, 1, 0, 0>::{operation}(SVector([{params}]), SVector([Num::of(x), Num::of(y)]))"
     wide = columns(model, operation)
     jacobian = " + ".join(f"a[{i // wide}][{i % wide}].0" for i in range(2 * wide))
@@ -116,13 +112,15 @@ with open(folder + "/calls.rt", "w") as out:
     out.write("\n".join(rattle))
 with open(folder + "/calls.rs", "w") as out:
     out.write("use rust_text::traits::IsCameraDistortionImpl;\nuse rust_text::{Num, Platform, SVector};\n")
-    for crate, name, _, _ in MODELS.values():
-        out.write(f"use rust_text::distortions::{crate}::{name}DistortionImpl;\n")
-    out.write(f"pub type Call = unsafe extern \"C\" fn({', '.join(['f64'] * 14)}) -> f64;\n")
-    out.write(f"pub type Table = unsafe extern \"C\" fn({', '.join(['f64'] * 14)}, usize, usize, *mut f32, usize) -> usize;\n")
-    each = ", ".join(f"c[{i}]" for i in range(14))
-    out.write(f"pub fn apply(f: Call, c: &[f64; 14]) -> f64 {{\n    unsafe {{ f({each}) }}\n}}\n")
-    out.write(f"pub fn apply_table(f: Table, c: &[f64; 14], width: usize, height: usize, cells: &mut [f32]) -> usize {{\n"
+    for one in TABLE.values():
+        if one.rust:
+            out.write(f"use rust_text::distortions::{one.crate}::{one.name}DistortionImpl;\n")
+    count = len(NUMBERS)
+    out.write(f"pub type Call = unsafe extern \"C\" fn({', '.join(['f64'] * count)}) -> f64;\n")
+    out.write(f"pub type Table = unsafe extern \"C\" fn({', '.join(['f64'] * count)}, usize, usize, *mut f32, usize) -> usize;\n")
+    each = ", ".join(f"c[{i}]" for i in [*PASSED, MOST_PARAMS, MOST_PARAMS + 1])
+    out.write(f"pub fn apply(f: Call, c: &[f64; {count}]) -> f64 {{\n    unsafe {{ f({each}) }}\n}}\n")
+    out.write(f"pub fn apply_table(f: Table, c: &[f64; {count}], width: usize, height: usize, cells: &mut [f32]) -> usize {{\n"
               f"    unsafe {{ f({each}, width, height, cells.as_mut_ptr(), cells.len()) }}\n}}\n")
     out.write(f"pub extern \"C\" fn none{SIGNATURE} {{\n    x\n}}\n")
     out.write("extern \"C\" {\n")
@@ -136,4 +134,4 @@ with open(folder + "/calls.rs", "w") as out:
         out.write(f"pub extern \"C\" fn rust_{name}{SIGNATURE} {{\n    {call}\n}}\n")
     rows = [f"    (\"{name}\", {name}),\n" for side in names.values() for name in side]
     out.write(f"pub const CALLS: [(&str, Call); {len(rows)}] = [\n{''.join(rows)}];\n")
-    out.write(f"pub const TABLES: [Table; 4] = [{', '.join('table_' + m for m in MODELS)}];\n")
+    out.write(f"pub const TABLES: [Table; {len(MODELS)}] = [{', '.join('table_' + m for m in MODELS)}];\n")

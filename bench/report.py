@@ -3,11 +3,11 @@
 writes the page up to the part that report_head.py writes. RUNNER starts an x86-64 program on this machine."""
 import datetime, subprocess
 
-from counting import MODELS, each, folder, machine, page, runner
+from counting import each, folder, machine, page, runner
+from models import MODELS, OPERATIONS, TABLE, in_rust
 
-OPERATIONS = ["distort", "undistort", "dx_distort_x", "dx_distort_params"]
 NO_RUST, INSTEAD = "bc dx_distort_params", "bc dx_distort_x"  # a todo!() there; and what of ours it is held to
-UPDATES = {"kb": [2, 3, 4, 5, 20], "bc": [1, 2, 3, 4, 50]}
+UPDATES = {"kb": [2, 3, 4, 5, 20], "bc": [1, 2, 3, 4, 50], "bc12": [1, 2, 3, 4, 50]}
 
 
 def cases(model, operation, updates):
@@ -22,7 +22,7 @@ def row(title, model, operation, updates="-"):
     file = cases(model, operation, updates)
     name = operation if model == "one" else f"{model}_{operation}"
     empty = each(3200, "count", "count", "none", None, file)
-    sides = ["ours"] if title == NO_RUST else ["rust", "ours"]
+    sides = ["rust", "ours"] if model == "one" or in_rust(model, operation) else ["ours"]
     took = {side: each(3200, "count", "count", f"{side}_{name}", None, file) - empty + 2 for side in sides}
     if model != "one":
         took["camera"] = each(3200, "count", "count", f"camera_{name}", None, file) - empty + 2
@@ -35,6 +35,8 @@ def table_rows(model):
     them is its border, which has each corner twice in the Rust."""
     took = {}
     for side, samples in (("rust", 2 * 32 + 2 * 32 + 4), ("ours", 2 * 32 + 2 * 32)):
+        if side == "rust" and not TABLE[model].rust:
+            continue
         wide, square = (each(20, "count", "table", side, model, w, h, None) for w, h in ((48, 16), (32, 32)))
         cell = (square - wide) / (32 * 32 - 48 * 16)
         took[side] = cell, (square - 32 * 32 * cell) / samples
@@ -84,6 +86,7 @@ GOALS = [  # what the order asks, the most, and the rows that are meant
     ("affine", 1.1, lambda title: title.startswith("affine d") or title.startswith("affine u")),
     ("bc", 1.1, lambda title: title != NO_RUST and (title.startswith("bc d") or title.startswith("bc u"))),
     (f"{NO_RUST}, which the Rust hasn't, over our {INSTEAD}", 1.6, lambda title: title == NO_RUST),
+    ("bc12, which the Rust hasn't, over our bc", 1.15, lambda title: title.startswith(("bc12 distort", "bc12 undistort"))),
     ("the table's own work, which is nearly all of affine's cell and border sample", 1.1,
      lambda title: title in ("affine cell", "affine border sample")),
     ("kb undistort", 2, lambda title: title.startswith("kb undistort")),
@@ -94,7 +97,8 @@ def goal(what, most, meant, rows):
     met, missed = [], []
     for title, took in rows:
         if meant(title):
-            ratio = took["ours"] / (took["rust"] if "rust" in took else dict(rows)[INSTEAD]["ours"])
+            beside = INSTEAD if title == NO_RUST else title.replace("bc12", "bc")
+            ratio = took["ours"] / (took["rust"] if "rust" in took else dict(rows)[beside]["ours"])
             (met if ratio <= most else missed).append(f"{title} {ratio:.2f}")
     return f"| {what} | {most} | {'; '.join(met) or 'none'} | {'; '.join(missed) or 'none'} |"
 

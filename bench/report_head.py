@@ -5,14 +5,14 @@ the Rust's. Whatever was counted above its bound ends it, and the page stays."""
 import datetime, os, re, subprocess, sys
 
 from bound import FUNCTIONS, LOOPS, Bounds
-from counting import MODELS, each, folder, machine, page, runner
+from counting import each, folder, machine, page, runner
+from models import MODELS, TABLE
 
 TITLE = "\n## The worst unit of each model\n\n"
-LIMITS = {"affine": "none", "eucm": "none", "kb": 20, "bc": 50}
 WORST = """In x86-64 instructions, through `lens_turn`, and the cells of sixteen bits through `lens_turn16`. Counted on the same machine, DATE.
 
 - *Met*: a turn of two units less a turn of one, the most of 16 records. (What a turn of none takes more behind the last sample than before it is taken off that sample.) Samples are ones that take the most updates that there can be, of stretched lenses, four of them the last sample, which closes the region; cells are of lenses that somebody might have. A turn's own is there a turn of none: reading, judging and writing the record, and the loop that counts.
-- *At most*: the longest path through the archive's instructions, each loop as often as it can be passed (bench/bound.py; the loops stand below). No input need take that path. A turn of s samples and c cells takes at most a turn's own + s · a border sample + c · a cell, whatever the record and the camera are. What memcpy itself takes, of which a turn makes at most two calls with 224 bytes each, is in what is met and not in what is at most.
+- *At most*: the longest path through the archive's instructions, each loop as often as it can be passed (bench/bound.py; the loops stand below). No input need take that path. A turn of s samples and c cells takes at most a turn's own + s · a border sample + c · a cell, whatever the record and the camera are. What memcpy itself takes, of which a turn makes at most six calls with at most 256 bytes each, is in what is met and not in what is at most.
 
 docs/HEAD.md budgets with what is *at most*.
 
@@ -34,14 +34,14 @@ The loops that the compiler has left in the archive. It has laid out the others 
 EACH = """
 ## Each C function at most
 
-Reckoned in the same way, in instructions, for every input; `lens_lookup` and the functions of one number have no model. For `lens_dx_distort_params` all models' ways are followed whatever the model is. A function from outside can only be memcpy or memset, whose own instructions and stack are not in it; how often they can be called stands beside.
+Reckoned in the same way, in instructions, for every input; `lens_lookup` and the functions of one number have no model. A function from outside can only be memcpy or memset, whose own instructions and stack are not in it; how often they can be called stands beside.
 
 The stack is in bytes, over all paths, with the 8 of the return address and without what the caller passes on the stack. *Met* is what a call took on a stack that was painted before, of one camera a model (bench/stack.c).
 
-| | affine | eucm | kb | bc | calls of memcpy and memset | stack, met | stack, at most |
-|---|---|---|---|---|---|---|---|
-"""
-# Counted through C and not in the bounds: the caller's loop, and a memcpy of at most 224 bytes.
+| | MODELS | calls of memcpy and memset | stack, met | stack, at most |
+|LINES---|---|---|---|
+""".replace("MODELS", " | ".join(MODELS)).replace("LINES", "---|" * len(MODELS))
+# Counted through C and not in the bounds: the caller's loop, and a memcpy of at most 256 bytes.
 CALLER, COPY = 40, 40
 faults = []
 
@@ -52,8 +52,8 @@ def made(program, *words):
 
 
 def hold(what, met, most):
-    """What was met, which must not be above the most."""
-    if met > most:
+    """What was met, which must not be above the most. Differences of averages have the last digits of a float."""
+    if round(met, 3) > most:
         faults.append(f"{what}: {met:.0f} were counted, and the bound is {most}")
     print(f"{what}: met {met:.0f}, at most {most}, {most / met:.2f} of it")
 
@@ -85,7 +85,7 @@ def copied(model):
 def worst(bounds, model):
     own, prices = bounds.instructions("lens_turn", MODELS.index(model))
     (sample, around), (cell, also) = (units(model, kind, own, prices[kind]) for kind in ("sample", "cell"))
-    return (f"| {model} | {LIMITS[model]} | {sample:.0f} | {prices['sample']} | {cell:.0f} | {prices['cell']} "
+    return (f"| {model} | {TABLE[model].limit or 'none'} | {sample:.0f} | {prices['sample']} | {cell:.0f} | {prices['cell']} "
             f"| {max(around, also):.0f} | {own} |\n")
 
 
@@ -110,7 +110,7 @@ def functions(bounds):
             own, prices = bounds.instructions(name, model)
             more = {"lens_turn": " and its units", "lens_turn16": " and its units", "lens_observe": " and {} a record"}.get(name, "")
             cells.append(f"{own}{more.format(*prices.values())}")
-        cells = cells if by_model else [cells[0], "", "", ""]
+        cells = cells if by_model else [cells[0], *[""] * (len(MODELS) - 1)]
         most = bounds.stack(name)[0]
         hold(f"{name}: stack", int(stack[name]), most)
         copies = max(bounds.copies(name, model) for model in range(len(MODELS)))

@@ -16,13 +16,15 @@
 static uint8_t stack[STACK] __attribute__((aligned(64)));
 static ucontext_t home, away;
 
-static const double params[4][12] = {
+static const double params[][LENS_COUNT_MOST] = {
     {40, 41, 4, 3},
     {40, 41, 4, 3, 0.6, 1.1},
     {40, 41, 4, 3, 0.1, 0.01, 0.001, 0.0001},
     {40, 41, 4, 3, 0.1, 0.01, 0.001, 0.0005, 0.001, 0.02, 0.01, 0.001},
+    {40, 41, 4, 3, 0.1, 0.01, 0.001, 0.0005, 0.001, 0.02, 0.01, 0.001, 0.001, 0.0002, -0.002, 0.0005},
 };
-static const size_t counts[4] = {4, 6, 8, 12};
+static const size_t counts[] = {LENS_AFFINE_COUNT, LENS_EUCM_COUNT, LENS_KB_COUNT, LENS_BC_COUNT, LENS_BC12_COUNT};
+#define MODELS (sizeof counts / sizeof *counts)
 
 static float table[FLOATS];
 static int16_t sixteen[FLOATS];
@@ -99,14 +101,14 @@ int main(void) {
     size_t most[CALLS] = {0};
     used(job_new, lens_job_new);
     used(turn, lens_turn);
-    for (model = 0; model < 4; model++)
+    for (model = 0; model < MODELS; model++)
         for (size_t i = 0; i < CALLS; i++) {
             size_t around = used(calls[i].call, nothing);
             no = 0;
             size_t bytes = used(calls[i].call, calls[i].function) - around + sizeof(void *);
             if (calls[i].call == job_new)
                 memcpy(job16, job, sizeof job);
-            if (no != 0 && !(no == 2 && model == 3)) {
+            if (no != 0) {
                 fprintf(stderr, "%s, model %u: refused %u\n", calls[i].name, model, no);
                 return 1;
             }

@@ -4,7 +4,7 @@ said of the archive, that it must refuse. Prints a line each and returns 1 if on
 import os, subprocess, sys, tempfile
 
 import bound
-from bound import CALLS, PARAMETERS, Bounds, Limit
+from bound import Bounds, Limit
 
 PROGRAM = """
 .section .text.leaf,"ax"
@@ -125,20 +125,20 @@ def units(folder):
 
 
 def lens(path, tables):
-    for name, by in (("camera::distort_judged", PARAMETERS), ("camera::finite_parameters", CALLS), ("lens_lookup", CALLS)):
-        bound.MODEL_TABLES.update({**tables, name: by})
+    for name in ("job_bytes::write", "camera::finite_parameters", "lens_lookup"):
+        bound.MODEL_TABLES[:] = [*tables, name]
         found = refusal(lambda: Bounds(path))
         told(found, "MODEL_TABLES" in found)
         bound.MODEL_TABLES.clear()
-    bound.MODEL_TABLES.update(tables)
-    cut = [Bounds(path).instructions("lens_turn", model) for model in range(4)]
+    bound.MODEL_TABLES[:] = tables
+    cut = [Bounds(path).instructions("lens_turn", model) for model in range(len(bound.MODELS))]
     bound.MODEL_TABLES.clear()
     whole = Bounds(path).instructions("lens_turn", 0)
     least = all(own <= whole[0] and all(price <= whole[1][unit] for unit, price in prices.items()) for own, prices in cut)
     told(f"without a word on models lens_turn takes {whole}, and no model more", least)
 
 
-kept = dict(bound.FUNCTIONS), dict(bound.MODEL_TABLES), list(bound.LOOPS), dict(bound.UNITS)
+kept = dict(bound.FUNCTIONS), list(bound.MODEL_TABLES), list(bound.LOOPS), dict(bound.UNITS)
 bound.FUNCTIONS.clear(), bound.MODEL_TABLES.clear(), bound.UNITS.clear()
 with tempfile.TemporaryDirectory() as folder:
     small(folder)

@@ -12,11 +12,12 @@
 #define WIDTH 640
 #define HEIGHT 480
 #define FLOATS LENS_TABLE_FLOATS(WIDTH, HEIGHT)
+#define NUMBERS LENS_TABLE_NUMBERS(WIDTH, HEIGHT)
 
 /* All the memory there is; nothing is allocated. The second and third table are only there to compare the first with:
  * a head has one of floats or one of sixteen-bit numbers. */
 static float table[FLOATS], at_once[FLOATS];
-static int16_t sixteen[FLOATS];
+static int16_t sixteen[NUMBERS];
 static uint8_t job[LENS_JOB_BYTES], saved[LENS_JOB_BYTES];
 
 /* The camera of the Rust's own test. */
@@ -54,7 +55,7 @@ static uint8_t turn(uint8_t *of, float *cells, uint64_t allowance, struct turned
 
 static uint8_t turn16(uint8_t *of, int16_t *cells, uint64_t allowance, struct turned *says) {
     uint8_t answer[LENS_TURN_BYTES] = {0};
-    uint8_t no = lens_turn16(of, LENS_JOB_BYTES, cells, FLOATS, allowance, answer, sizeof answer);
+    uint8_t no = lens_turn16(of, LENS_JOB_BYTES, cells, NUMBERS, allowance, answer, sizeof answer);
     read_answer(answer, says);
     return no;
 }

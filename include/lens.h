@@ -1,4 +1,4 @@
-/* Four lens models, the table of a lens built between frames, lookup in it, lists of observations; root, arctangent and
+/* Five lens models, the table of a lens built between frames, lookup in it, lists of observations; root, arctangent and
  * tangent. Link target/staticlib/liblens_c.a, made by `rt staticlib lens_c`: archives are made for x86-64 Linux only.
  * docs/HEAD.md says how a head budgets its time and memory, docs/C.md how to build and what is proved.
  * This header is where refusals and layouts are told in full.
@@ -52,7 +52,7 @@ extern "C" {
  *   - The last sample's 18 comes before the 8 or 11 of the region, which is worked out behind it. */
 #define LENS_OK 0
 
-#define LENS_REFUSED_UNKNOWN_MODEL 1          /* the model is none of 0 to 3 */
+#define LENS_REFUSED_UNKNOWN_MODEL 1          /* the model is none of 0 to 4 */
 #define LENS_REFUSED_NO_PARAMETER_JACOBIAN 2  /* reserved: no function returns it any more */
 #define LENS_REFUSED_WRONG_COUNT 3            /* params_length is not 8 times the model's count of parameters */
 #define LENS_REFUSED_NOT_FINITE 4             /* a parameter, a coordinate or an edge of a region is NaN or infinite */
@@ -84,20 +84,30 @@ extern "C" {
  *    LENS_AFFINE  fx fy cx cy
  *    LENS_EUCM    fx fy cx cy alpha beta
  *    LENS_KB      fx fy cx cy k0 k1 k2 k3
- *    LENS_BC      fx fy cx cy k1 k2 p1 p2 k3 k4 k5 k6 */
+ *    LENS_BC      fx fy cx cy k1 k2 p1 p2 k3 k4 k5 k6
+ *    LENS_BC12    fx fy cx cy k1 k2 p1 p2 k3 k4 k5 k6 s1 s2 s3 s4
+ *
+ * LENS_BC12 is LENS_BC with OpenCV's thin prism. With zeros for s1 to s4 lens_distort, lens_undistort and
+ * lens_dx_distort_x give what they give of LENS_BC, wherever that answers, but for the sign of a zero. */
 #define LENS_AFFINE 0
 #define LENS_EUCM 1
 #define LENS_KB 2
 #define LENS_BC 3
+#define LENS_BC12 4
 
 #define LENS_AFFINE_COUNT 4
 #define LENS_EUCM_COUNT 6
 #define LENS_KB_COUNT 8
 #define LENS_BC_COUNT 12
+#define LENS_BC12_COUNT 16
+
+/* The most that a model has. */
+#define LENS_COUNT_MOST 16
 
 /* The most Newton updates of one lens_undistort, or of one border sample; the other two models have none. */
 #define LENS_KB_UPDATES_MOST 20
 #define LENS_BC_UPDATES_MOST 50
+#define LENS_BC12_UPDATES_MOST 50
 
 /* Parameters out of an array of doubles, as the two arguments params and params_length:
  *
@@ -120,8 +130,8 @@ static inline const uint8_t *lens_bytes_of(const double *doubles) {
 
 /* A point, the answer of lens_undistort: two doubles; how many Newton updates it took, a uint32_t; one byte, 1 if the
  * search settled and 0 if not; three zero bytes. Of LENS_KB it has not settled at an angle of 0 or below, whatever its
- * last step was: distorting such a point doesn't come back to the pixel. Of LENS_BC it has settled if the point's
- * pixel lies within 1e-6 focal lengths of this one, however many updates it took. */
+ * last step was: distorting such a point doesn't come back to the pixel. Of LENS_BC and LENS_BC12 it has settled if the
+ * point's pixel lies within 1e-6 focal lengths of this one, however many updates it took. */
 #define LENS_POINT_X 0
 #define LENS_POINT_Y 8
 #define LENS_POINT_UPDATES 16
@@ -192,25 +202,24 @@ uint8_t lens_dx_distort_params(uint8_t model, const uint8_t *params, size_t para
 /* A job. */
 #define LENS_JOB_MODEL 0       /* uint32_t */
 #define LENS_JOB_UPDATES 4     /* uint32_t: the Newton updates of all samples done */
-#define LENS_JOB_PARAMS 8      /* twelve doubles: the model's parameters, then zeros, which are not read but summed */
-#define LENS_JOB_WIDTH 104     /* uint32_t */
-#define LENS_JOB_HEIGHT 108    /* uint32_t */
-#define LENS_JOB_DONE 112      /* uint64_t: units done */
-#define LENS_JOB_EDGES 120     /* the box of the points so far, in a region's form; zeros until the first sample */
-#define LENS_JOB_REGION 152    /* the table's region; zeros until the border is done */
-#define LENS_JOB_UNSETTLED 184 /* uint32_t: how many of the samples done have not settled */
-#define LENS_JOB_FIRST 188     /* uint32_t: the position of the first of these, counted from 1; 0 for none */
-#define LENS_JOB_STRICT 192    /* uint64_t: 1 for a strict job, else 0: as lens_job_new was told, for good */
-#define LENS_JOB_CHECK 200     /* uint64_t: LENS_JOB_CHECK_START + the 25 words of 8 bytes before it, modulo 2^64 */
-#define LENS_JOB_BYTES 208
+#define LENS_JOB_PARAMS 8      /* LENS_COUNT_MOST doubles: the parameters, then zeros, which are not read but summed */
+#define LENS_JOB_WIDTH 136     /* uint32_t */
+#define LENS_JOB_HEIGHT 140    /* uint32_t */
+#define LENS_JOB_DONE 144      /* uint64_t: units done */
+#define LENS_JOB_EDGES 152     /* the box of the points so far, in a region's form; zeros until the first sample */
+#define LENS_JOB_REGION 184    /* the table's region; zeros until the border is done */
+#define LENS_JOB_UNSETTLED 216 /* uint32_t: how many of the samples done have not settled */
+#define LENS_JOB_FIRST 220     /* uint32_t: the position of the first of these, counted from 1; 0 for none */
+#define LENS_JOB_STRICT 224    /* uint64_t: 1 for a strict job, else 0: as lens_job_new was told, for good */
+#define LENS_JOB_CHECK 232     /* uint64_t: LENS_JOB_CHECK_START + the 29 words of 8 bytes before it, modulo 2^64 */
+#define LENS_JOB_BYTES 240     /* 208 before LENS_BC12 (request P5): a job of then is refused with 7 */
 #define LENS_JOB_CHECK_START UINT64_C(0x32424f4a534e454c)
 
 /* Which jobs are refused. 1, 4, 5 and 6 are for a job's model, parameters, region (whatever is done) and size. 13 is
  * returned if none of these nor 7 is, and one of the following holds:
- *   - the check word is wrong, as is that of every job of an archive from before corners once (request P11), whose
- *     LENS_JOB_CHECK_START was another;
+ *   - the check word is wrong;
  *   - more units are done than there are;
- *   - there are more updates than the samples done can have (none, none, 20 or 50 each, by the model);
+ *   - there are more updates than the samples done can have (none, none, 20, 50 or 50 each, by the model);
  *   - one of the four edges so far is NaN or infinite;
  *   - the border is done, and an increment of the region is NaN, infinite or not above 0;
  *   - the count of unsettled samples or the position of the first is above the samples done, or one of the two is 0 and
@@ -221,7 +230,7 @@ uint8_t lens_dx_distort_params(uint8_t model, const uint8_t *params, size_t para
  * and so on, the check word among them) became others. So in particular any change within one byte. A turn then
  * returns 1, 4, 5, 6, 7 or 13, never another number, and writes nothing.
  * Not caught for certain: changes in two words or more, which may cancel out in the sum, as two exchanged words of the
- * 25 do, or two doubles that both change their sign; bytes whose check word was worked out anew; a sound job of another
+ * 29 do, or two doubles that both change their sign; bytes whose check word was worked out anew; a sound job of another
  * build or of an earlier turn.
  * Not checked at all: the table's numbers, which no turn reads; the region handed to lens_lookup; observations. */
 

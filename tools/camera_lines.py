@@ -7,15 +7,16 @@ has it. No code of the crates takes part.
 import math
 import struct
 
-from lens_models import BC, COUNTS, DISTORT, ENTRIES, UNDISTORT, answer, tangent
+from lens_models import COUNTS, DISTORT, ENTRIES, MOST_PARAMS, NO_MODEL, UNDISTORT, answer, tangent
 
-FIELDS, LINE = 18, 306
+FIELDS = 4 + MOST_PARAMS + 2
+LINE = 17 * FIELDS
 HANDED, LENT = 304, 4000  # the most bytes
 ROW = range(301)  # the n of a row
 FILL = 0xA5
 ROOT, TANGENT, OBSERVE, PUT, ARCTANGENT = range(4, 9)  # after the four operations
 BY_LENT, BY_HANDED, BY_BOTH, BY_MODEL = 16, 32, 48, 64  # added for a row
-SIZES = (16, 24, 264, 264)  # of the operations' answers
+SIZES = (16, 24, 8 * ENTRIES + 8, 8 * ENTRIES + 8)  # of the operations' answers
 
 
 def heading(words):
@@ -27,8 +28,8 @@ def heading(words):
 
 def question(model, done, handed, lent, words, x, y):
     """A line. Its numbers are bit patterns here: a NaN would not keep its pattern in a float. Where there are fewer
-    words than twelve, bytes a5 fill the line."""
-    words = [*words, *[int.from_bytes([FILL] * 8, "little")] * (12 - len(words))]
+    words than a model has at most, bytes a5 fill the line."""
+    words = [*words, *[int.from_bytes([FILL] * 8, "little")] * (MOST_PARAMS - len(words))]
     line = "\t".join(f"{n:016x}" for n in (model, done, handed, lent, *words, x, y))
     assert len(line) == LINE - 1
     return line
@@ -82,7 +83,7 @@ def call(operation, model, params, room, x, y):
     refusals, out = set(), None
     if room != SIZES[operation]:
         refusals.add(7)
-    if model > BC:
+    if model >= NO_MODEL:
         refusals.add(1)
     else:
         if len(params) != 8 * COUNTS[model]:

@@ -12,14 +12,9 @@ from collections import Counter
 import camera_lines
 from camera_lines import ARCTANGENT, BY_BOTH, BY_HANDED, BY_LENT, BY_MODEL, FILL, HANDED, ROOT, SIZES, TANGENT
 from camera_lines import call, heading, packed, question, reply, tangent_call
-from lens_models import BY_PARAMS, BY_POINT, COUNTS, DISTORT, MODELS, OPERATIONS, UNDISTORT, arctangent, bits, root
+from lens_models import BC, BC12, BY_PARAMS, BY_POINT, COUNTS, DISTORT, MILD, MODELS, NO_MODEL, OPERATIONS
+from lens_models import UNDISTORT, arctangent, bits, root
 
-TAILS = (
-    (),
-    (0.5, 1.0),
-    (0.125, -0.0625, 0.03125, 0.0),
-    (0.125, -0.0625, 0.001, -0.002, 0.0, 0.0, 0.0, 0.0),
-)
 # NaNs that signal or do not, of either sign, and the infinities
 PATTERNS = (
     0x7FF0000000000001,
@@ -48,7 +43,7 @@ def of_bits(bits):
 
 def words_of(model, fx):
     """The parameters, as bit patterns."""
-    return [bits(z) for z in (fx, 500.0, 320.0, 240.0, *TAILS[model])]
+    return [bits(z) for z in (fx, 500.0, 320.0, 240.0, *MILD[model])]
 
 
 def block(words):
@@ -135,7 +130,7 @@ def one_number(part):
 def made():
     part = Part()
     for operation in range(4):
-        for model in range(4):
+        for model in range(NO_MODEL):
             rows(part, operation, model)
             patterns(part, operation, model)
     for angle in ANGLES:
@@ -155,9 +150,14 @@ def self_test():
     assert call(DISTORT, 0, lens, 16, 0.5, -0.25) == (0, struct.pack("<2d", 301, -149.5))
     assert call(UNDISTORT, 0, lens, 24, 301.0, -149.5) == (0, struct.pack("<2d", 0.5, -0.25) + bytes([0, 0, 0, 0, 1, 0, 0, 0]))
     assert call(BY_POINT, 0, lens, 264, 0.5, -0.25)[1][256:] == bytes([2, 0, 0, 0, 0, 0, 0, 0])
-    assert call(DISTORT, 4, b"", 0, math.nan, 0.0) == (1, None)
-    assert call(BY_PARAMS, 3, b"", 0, math.nan, 0.0) == (3, None)
-    assert call(DISTORT, 3, lens, 0, math.nan, 0.0) == (3, None)
+    assert call(DISTORT, NO_MODEL, b"", 0, math.nan, 0.0) == (1, None)
+    assert call(BY_PARAMS, BC, b"", 0, math.nan, 0.0) == (3, None)
+    assert call(DISTORT, BC, lens, 0, math.nan, 0.0) == (3, None)
+    # the twelve of bc are not bc12's sixteen, nor these bc's; and sixteen numbers of a row fill the record
+    for model, words in ((BC12, words_of(BC, 600.0)), (BC, words_of(BC12, 600.0))):
+        assert call(DISTORT, model, struct.pack(f"<{len(words)}Q", *words), 16, 0.5, 0.5) == (3, None)
+    filled = call(BY_PARAMS, BC12, struct.pack("<16Q", *words_of(BC12, 600.0)), 264, 0.25, -0.5)[1]
+    assert filled[256:] == bytes([16, 0, 0, 0, 0, 0, 0, 0]) and any(filled[248:256])
     assert call(DISTORT, 0, lens, 15, math.nan, 0.0) == (4, None)
     assert call(DISTORT, 0, lens, 15, 0.0, 0.0) == (7, None)
     assert tangent_call(1.6, 8) == (10, None) and tangent_call(1.6, 7) == (7, None)

@@ -4,23 +4,25 @@
 
 From the text of the Rust, each operation by itself and under its names, so that the two can be read
 side by side: nothing is shared that the Rust doesn't share. What it leaves open (refusals, updates,
-flag, EPS, how a norm is formed, bc's derivative by its parameters) is as docs/RULES.md has it. No code
-of the crates takes part, with one exception that has its own section: arctangent and tangent are ours
-by agreement, so their whole-number text is copied here. A Python float is an f64, and + - * round once
-and never stop; `div` and `root` say what / and sqrt are where Python would stop instead.
+flag, EPS, how a norm is formed, bc's derivative by its parameters, all of bc12) is as docs/RULES.md has
+it. No code of the crates takes part, with one exception that has its own section: arctangent and tangent
+are ours by agreement, so their whole-number text is copied here. A Python float is an f64, and + - * round
+once and never stop; `div` and `root` say what / and sqrt are where Python would stop instead.
+
+TABLE has what the scripts know of a model. Another one is its functions here and a line there, and lenses of its
+own kind where a script says what they are: `lens` of model_questions, TAKEN of list_calls, ORDINARY of
+make_table_vectors, EXAMPLES of make_printer_inputs. All else goes by TABLE.
 """
 import math
 import random
 import struct
 import sys
+from typing import NamedTuple
 
 EPS = 1e-6
-MODELS = ("affine", "eucm", "kb", "bc")
 OPERATIONS = ("distort", "undistort", "dx_distort_x", "dx_distort_params")
-AFFINE, EUCM, KB, BC = range(4)
+AFFINE, EUCM, KB, BC, BC12 = range(5)
 DISTORT, UNDISTORT, BY_POINT, BY_PARAMS = range(4)
-COUNTS = (4, 6, 8, 12)  # parameters of each model
-ENTRIES = 32  # of a Jacobian, whatever its columns
 
 
 def bits(x):
@@ -151,7 +153,7 @@ def tangent(theta):
     return None if math.isfinite(theta) else math.nan
 
 
-# ---- the four models, by the Rust's names
+# ---- the models, by the Rust's names
 
 TOO_STEEP = "too steep"  # what kb's undistort gives instead of an answer: refusal 10
 MIRRORED = "mirrored"  # the same of eucm's: refusal 16
@@ -541,7 +543,7 @@ def bc12_dx_distort_params(params, x, y):
     return u + [r2 * params[0], r4 * params[0], 0.0, 0.0], v + [0.0, 0.0, r2 * params[1], r4 * params[1]]
 
 
-BC12_FUNCTIONS = (bc12_distort, bc12_undistort, bc12_dx_distort_x, bc12_dx_distort_params)
+# ---- all of them, by number
 
 
 def direct(undistort):
@@ -549,12 +551,36 @@ def direct(undistort):
     return lambda params, u, v: undistort(params, u, v) + (0, True)
 
 
-FUNCTIONS = (
-    (affine_distort, direct(affine_undistort), affine_dx_distort_x, affine_dx_distort_params),
-    (eucm_distort, eucm_undistort, eucm_dx_distort_x, eucm_dx_distort_params),
-    (kb_distort, kb_undistort, kb_dx_distort_x, kb_dx_distort_params),
-    (bc_distort, bc_undistort, bc_dx_distort_x, bc_dx_distort_params),
-)
+class Model(NamedTuple):
+    name: str
+    params: str
+    limit: int  # of the updates that a search makes: 0 if there is none
+    functions: tuple
+    mild: tuple  # what stands behind the centre of a lens that bends a little
+
+
+BC_MILD = (0.125, -0.0625, 0.001, -0.002, 0.0, 0.01, 0.0, 0.0)
+TABLE = (
+    Model("affine", "fx fy cx cy", 0,
+          (affine_distort, direct(affine_undistort), affine_dx_distort_x, affine_dx_distort_params), ()),
+    Model("eucm", "fx fy cx cy alpha beta", 0,
+          (eucm_distort, eucm_undistort, eucm_dx_distort_x, eucm_dx_distort_params), (0.5, 1.0)),
+    Model("kb", "fx fy cx cy k0 k1 k2 k3", 20,
+          (kb_distort, kb_undistort, kb_dx_distort_x, kb_dx_distort_params), (0.125, -0.0625, 0.03125, 0.0)),
+    Model("bc", "fx fy cx cy k1 k2 p1 p2 k3 k4 k5 k6", 50,
+          (bc_distort, bc_undistort, bc_dx_distort_x, bc_dx_distort_params), BC_MILD),
+    Model("bc12", "fx fy cx cy k1 k2 p1 p2 k3 k4 k5 k6 s1 s2 s3 s4", 50,
+          (bc12_distort, bc12_undistort, bc12_dx_distort_x, bc12_dx_distort_params),
+          (*BC_MILD, 0.001, -0.0005, 0.002, 0.00025)),
+)  # fmt: skip
+MODELS = tuple(model.name for model in TABLE)
+COUNTS = tuple(len(model.params.split()) for model in TABLE)
+LIMITS = tuple(model.limit for model in TABLE)
+FUNCTIONS = tuple(model.functions for model in TABLE)
+MILD = tuple(model.mild for model in TABLE)
+NO_MODEL = len(TABLE)  # the least number that is none
+MOST_PARAMS = max(COUNTS)
+ENTRIES = 2 * MOST_PARAMS  # of a Jacobian, whatever its columns
 
 
 # ---- the answer to a question
@@ -651,10 +677,10 @@ def self_test():
         told = held_to_bc(functions, rng, 20_000)
         return told, farthest_from_quotients(functions, rng, 300), there_and_back(functions, rng, 1_000)
 
-    told, worst, (found, total) = tried(BC12_FUNCTIONS)
+    told, worst, (found, total) = tried(FUNCTIONS[BC12])
     assert told and min(told) > 5_000 and worst < 1e-8 and found == 1_000, (told, worst, found)
     # and each wrong model is told from it
-    distort, undistort, by_point, by_params = BC12_FUNCTIONS
+    distort, undistort, by_point, by_params = FUNCTIONS[BC12]
 
     def swapped(params):
         return [*params[:13], params[14], params[13], params[15]]

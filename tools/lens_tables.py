@@ -2,7 +2,7 @@
 
 From the Rust's distortion_table.rs where it has a text, and from docs/RULES.md (12 and 13, the refusals
 of 5) where it has none: BoxRegion, units, turns, strict jobs, the job record. No code of the crates takes
-part. The four models come from tools/lens_models.py, which was made from the Rust in the same way.
+part. The models come from tools/lens_models.py, which was made from the Rust in the same way.
 
 A camera is a pair (model's number, parameters). A table is a list of 2 * width * height whole numbers;
 the pixel of cell (u, v) takes two places from 2 * (v * width + u) on. There are two kinds: of F32 each
@@ -18,9 +18,8 @@ import struct
 from dataclasses import dataclass, replace
 from fractions import Fraction
 
-from lens_models import COUNTS, DISTORT, UNDISTORT, answer, div
+from lens_models import COUNTS, DISTORT, LIMITS, UNDISTORT, answer, div
 
-LIMITS = (0, 0, 20, 50)  # updates of one sample, for each model
 LEAST, MOST = 2, 4096  # of width and of height
 ZEROS = (0.0, 0.0, 0.0, 0.0)
 FINISHED, RUNNING, REFUSED = "finished", "running", "refused"

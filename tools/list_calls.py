@@ -13,7 +13,7 @@ from collections import Counter
 from typing import NamedTuple
 
 from camera_lines import FILL, LENT, OBSERVE, PUT, heading, packed, question, reply
-from lens_models import AFFINE, BC, COUNTS, EUCM, KB, MODELS, UNDISTORT, answer, bits
+from lens_models import AFFINE, BC, BC12, COUNTS, EUCM, KB, MODELS, MOST_PARAMS, TABLE, UNDISTORT, answer, bits
 
 MOST = 100
 NAN, INF, LARGEST = math.nan, math.inf, sys.float_info.max
@@ -75,7 +75,8 @@ TAKEN = {
     KB: [200.0, 200.0, 288.0, 216.0, 2.0**-4, -(2.0**-5), 2.0**-6, -(2.0**-8)],
     BC: [250.0, 250.0, 288.0, 216.0, -0.25, 2.0**-4, 2.0**-9, -(2.0**-10), 2.0**-5, 2.0**-6, -(2.0**-7), 2.0**-10],
 }
-LAST = ("cy", "beta", "k3", "k6")
+TAKEN[BC12] = TAKEN[BC] + [2.0**-8, -(2.0**-9), -(2.0**-7), 2.0**-10]
+LAST = [model.params.split()[-1] for model in TABLE]
 
 
 def cameras():
@@ -99,11 +100,12 @@ NONE = [(0, 0), (44, 1), (0, MOST)]
 
 
 def put_lines():
-    """The records, twelve words a line. What the last line has too many of finds no room."""
+    """The records, as many words a line as it has room for. What the last line has too many of finds no room."""
     data = b"".join(record.bytes() for record in RECORDS)
     assert len(data) == LENT
-    for at in range(0, LENT, 96):
-        words = [word for (word,) in struct.iter_unpack("<Q", data[at : at + 96])]
+    step = 8 * MOST_PARAMS
+    for at in range(0, LENT, step):
+        words = [word for (word,) in struct.iter_unpack("<Q", data[at : at + step])]
         yield question(0, PUT, 0, 0, words, at, 0)
 
 
@@ -138,7 +140,7 @@ def cover(said):
         for n in (1, MOST):
             assert said[name, n, 0, True] and said[name, n, 4, False] and said[name, n, 11, False]
             assert bool(said[name, n, 10, False]) == (model == KB)
-    assert said["bc", MOST, 0, False] and said["eucm", MOST, 11, False] > 2 and said["eucm", MOST, 16, False]
+    assert said["bc", MOST, 0, False] and said["bc12", MOST, 0, False] and said["eucm", MOST, 11, False] > 2 and said["eucm", MOST, 16, False]
 
 
 # ---- the self-test

@@ -20,7 +20,7 @@ import hostile_calls
 import list_calls
 import model_questions
 from camera_lines import ARCTANGENT, BY_LENT, HANDED, LENT, LINE, OBSERVE, PUT, ROOT, heading, operation_question, question
-from lens_models import AFFINE, DISTORT, bits
+from lens_models import AFFINE, DISTORT, NO_MODEL, bits
 
 CRATE = pathlib.Path(__file__).resolve().parent.parent / "crates" / "test_camera_calls"
 SAMPLE = heading("the oracle's sample, from the Rust's own text")
@@ -29,7 +29,7 @@ NUMBERS = [bits(z) for z in (2.0, 4.0, 1.0, 0.0)]
 
 def no_models():
     """A model's number that is none, and numbers that are no byte but end in one that is a model."""
-    for model in (4, 255, 256, 2**32, 2**63):
+    for model in (NO_MODEL, 255, 256, 2**32, 2**63):
         yield question(model, DISTORT, 32, 16, NUMBERS, 0, 0)
 
 

@@ -18,21 +18,26 @@ import sys
 from collections import Counter
 from dataclasses import replace
 
-from lens_models import AFFINE, BC, COUNTS, EUCM, KB, UNDISTORT, answer
-from lens_tables import F32, FINISHED, I16, LIMITS, REFUSED, RUNNING, Job
+from lens_models import AFFINE, BC, BC12, COUNTS, EUCM, KB, LIMITS, MILD, MOST_PARAMS, NO_MODEL, UNDISTORT, answer
+from lens_models import MODELS as NAMES
+from lens_tables import F32, FINISHED, I16, REFUSED, RUNNING, Job
 from lens_tables import border, call_refused, camera_refused, fresh, narrow, samples, size_refused, thirty_seconds
 from lens_tables import total, turn
 from make_leaf_vectors import Splitmix
 from make_table_lookups import BOX, lookup
 from make_table_lookups import LISTED as LISTED_CELLS
-from make_table_vectors import BRINK, FLAT_UNSETTLED_LAST, HALF_EUCM, LISTED, LISTING, OWN_REFUSALS, SHAPES, UNSETTLED
+from make_table_vectors import BRINK, FLAT_UNSETTLED_LAST, HALF_EUCM, LISTED, LISTING, NO_PRISM, OWN_REFUSALS, SEARCHING
+from make_table_vectors import SHAPES, UNSETTLED
 from make_table_vectors import UNSETTLED_THEN_REFUSED, about_the_edge, first_unsettled, sample_at, unsettled_last
 
 FOLDER = pathlib.Path(__file__).resolve().parent.parent / "crates" / "test_head_calls"
 FIELDS, LINE = 12, 204
 BYTES, NUMBERS = 512, 64  # of a buffer, of the table
 FILL, BEFORE, BEFORE16 = 0xA5, struct.unpack("<I", struct.pack("<f", 12345.0))[0], 12345
-JOB, REGION_AT, TALLIES, MARK, CHECK = 208, 152, 184, 192, 200
+# A job's places (include/lens.h), and its words before the check word. Behind the parameters all is where they leave it.
+PARAMS, SIZE = 8, 8 + 8 * MOST_PARAMS
+DONE, EDGES_AT, REGION_AT, TALLIES, MARK, CHECK, JOB = (SIZE + n for n in (8, 16, 48, 80, 88, 96, 104))
+WORDS = CHECK // 8
 ANSWER, PIXEL, BOX_BYTES, OBSERVATION = 48, 16, 32, 40
 REFILL, PUT_READ, PUT_LENT, PUT_TABLE, JOB_NEW, TURN, OBSERVE, LOOKUP, FLIPS, TURN16, FLIPS16 = range(11)
 STATUS = {RUNNING: 0, FINISHED: 1, REFUSED: 2}
@@ -40,7 +45,6 @@ NAN, INF = math.nan, math.inf
 LARGEST, LEAST = sys.float_info.max, 2.0**-1074
 MAX32, MAX64 = 2**32 - 1, 2**64 - 1
 ODD = (NAN, INF, -INF, -0.0)  # what may stand where a number should
-NAMES = ("affine", "eucm", "kb", "bc")
 NAME = {F32: "lens_turn", I16: "lens_turn16"}
 
 
@@ -65,7 +69,7 @@ def summed(text, words):
 
 def check_word(data, text=b"LENSJOB2"):
     """Of the words before it, the sum from the text on, modulo 2^64 (docs/RULES.md 21.3)."""
-    return summed(text, struct.unpack_from("<25Q", data))
+    return summed(text, struct.unpack_from(f"<{WORDS}Q", data))
 
 
 def mended(data):
@@ -74,12 +78,12 @@ def mended(data):
 
 
 def record_bytes(job):
-    """The 208 bytes of a record (include/lens.h)."""
+    """The bytes of a record (include/lens.h)."""
     model, params = job.camera
-    twelve = [*params, *[0.0] * (12 - len(params))]
+    filled = [*params, *[0.0] * (MOST_PARAMS - len(params))]
     return mended(
         struct.pack("<2I", model, job.updates)
-        + doubles(*twelve)
+        + doubles(*filled)
         + struct.pack("<2IQ", job.width, job.height, job.done)
         + doubles(*job.edges, *job.region)
         + struct.pack("<2IQ", job.unsettled, job.first, job.strict)
@@ -87,14 +91,14 @@ def record_bytes(job):
 
 
 def record_of(data):
-    """The record that 208 bytes hold, or None for a model that there is not. A mark that is neither 0 nor 1 is nobody's
+    """The record that so many bytes hold, or None for a model that there is not. A mark that is neither 0 nor 1 is nobody's
     here: it is refused."""
     model, updates = struct.unpack_from("<2I", data, 0)
-    if model > BC:
+    if model >= NO_MODEL:
         return None
-    params = struct.unpack_from(f"<{COUNTS[model]}d", data, 8)
-    w, h, done = struct.unpack_from("<2IQ", data, 104)
-    edges, region = struct.unpack_from("<4d", data, 120), struct.unpack_from("<4d", data, REGION_AT)
+    params = struct.unpack_from(f"<{COUNTS[model]}d", data, PARAMS)
+    w, h, done = struct.unpack_from("<2IQ", data, SIZE)
+    edges, region = struct.unpack_from("<4d", data, EDGES_AT), struct.unpack_from("<4d", data, REGION_AT)
     unsettled, first, mark = struct.unpack_from("<2IQ", data, TALLIES)
     return Job((model, params), w, h, done, edges, region, updates, unsettled, first, mark == 1)
 
@@ -114,7 +118,7 @@ def poked(data, at, x):
 
 def camera_of(model, params):
     """1 or 3 and None, or 4, 5 or 0 and the camera."""
-    if model > BC:
+    if model >= NO_MODEL:
         return 1, None
     if len(params) != 8 * COUNTS[model]:
         return 3, None
@@ -318,7 +322,7 @@ def in_turns(head, camera, w, h, allowances, mark=0, kind=F32):
     """A job from its start to its end: the record and the cells."""
     started(head, camera, w, h, mark)
     turns = 0
-    while struct.unpack_from("<Q", head.lent, 112)[0] < total(w, h):
+    while struct.unpack_from("<Q", head.lent, DONE)[0] < total(w, h):
         number, _ = head.turn(allowances[turns % len(allowances)], 2 * w * h, stay=1, kind=kind)
         assert number == 0
         turns += 1
@@ -380,6 +384,10 @@ JOBS = [
      EUCM, (1e39, 1.0, 1e39, 0.5, *HALF_EUCM), 3, 2, 12, B + 2),
     ("bc 1 1 -1 -1 1e55 0 0 0 0 0 0 0, 3 by 3: the pixel of cell (2, 0) is too large for an f32",
      BC, (1.0, 1.0, -1.0, -1.0, 1e55, *[0.0] * 7), 3, 3, 12, border(3, 3) + 3),
+    ("bc12 1 1 -1 -1 1e55 and zeros, 3 by 3: the pixel of cell (2, 0) is too large for an f32",
+     BC12, (1.0, 1.0, -1.0, -1.0, 1e55, *[0.0] * 11), 3, 3, 12, border(3, 3) + 3),
+    ("bc12 1 4 0.5 0.5 and zeros but s2 0.25, 3 by 2: the prism's slope is -1 at the point of a sample, which has no finite one",
+     BC12, (1.0, 4.0, 0.5, 0.5, *[0.0] * 9, 0.25, 0.0, 0.0), 3, 2, 11, sample_at(3, 2, -0.5, 0.5)),
     ("eucm 2 2 0 0 0.4 -0.5, 3 by 2: the pixel of cell (2, 0) is NaN",
      EUCM, (2.0, 2.0, 0.0, 0.0, 0.4, -0.5), 3, 2, 11, B + 3),
     ("affine X 1 0 0, X = 002c000000000001, 7 by 2: the point of cell (6, 0) is infinite",
@@ -407,6 +415,7 @@ EDGES = (-0.5, -0.5, 2.5, 1.5)
 REGION = (-2.0, -1.5, 4.0, 2.5)
 KB_ORDINARY = (KB, (10.0, 10.0, 1.0, 0.5, 0.0, 0.0, 0.0, 0.0))
 BC_ORDINARY = (BC, (10.0, 10.0, 1.0, 0.5, 0.1, 0.0, 0.0, 0.0, 0.0, 0.0, 0.0, 0.0))
+BC12_ORDINARY = (BC12, (*BC_ORDINARY[1], 0.01, 0.0, -0.02, 0.005))
 EUCM_ORDINARY = (EUCM, (10.0, 10.0, 1.0, 0.5, 0.5, 1.0))
 STEEP = (JOBS[0][1], JOBS[0][2])
 
@@ -449,12 +458,13 @@ def limits(most):
 
 
 def updates_lines():
-    yield f"Updates: at most 0 (affine, eucm), 20 (kb) or 50 (bc) for each sample done, of which there are {B}."
+    yield f"Updates: at most 0 (affine, eucm), 20 (kb) or 50 (bc, bc12) for each sample done, of which there are {B}."
     for name, camera, rows in (
         ("affine", CAMERA, ((5, 0, SAMPLE), (5, 1, 13), (B + 3, 1, 13))),
         ("eucm", EUCM_ORDINARY, ((5, 0, SAMPLE), (5, 1, 13))),
         ("kb", KB_ORDINARY, ((0, 0, SAMPLE), (0, 1, 13), *limits(20))),
         ("bc", BC_ORDINARY, ((0, 1, 13), *limits(50), (B + 3, 2**32 - 1, 13))),
+        ("bc12", BC12_ORDINARY, ((0, 1, 13), *limits(50), (B + 3, 2**32 - 1, 13))),
     ):
         for done, updates, outcome in rows:
             yield f"{name}, units {done}, updates {updates}", record(camera, done, updates), outcome
@@ -523,6 +533,7 @@ def not_finite_lines():
     yield "eucm, beta NaN", record(with_last(EUCM_ORDINARY, NAN)), 4
     yield "kb, k3 -infinite", record(with_last(KB_ORDINARY, -INF)), 4
     yield "bc, k6 NaN", record(with_last(BC_ORDINARY, NAN)), 4
+    yield "bc12, s4 infinite", record(with_last(BC12_ORDINARY, INF)), 4
 
 
 def focal_lines():
@@ -628,15 +639,13 @@ def fresh_records(head):
 
 # ---- a hostile caller
 
-CAMERAS = (
-    (AFFINE, (10.0, 12.0, 1.0, 0.5)),
-    (EUCM, (10.0, 12.0, 1.0, 0.5, 0.5, 1.0)),
-    (KB, (10.0, 12.0, 1.0, 0.5, 0.0625, -0.03125, 0.015625, 0.0)),
-    (BC, (10.0, 12.0, 1.0, 0.5, 0.1, -0.05, 0.001, -0.002, 0.0, 0.01, 0.0, 0.0)),
-)
-MODELS8, MODELS32 = (0, 1, 2, 3, 4, 5, 255), (0, 1, 2, 3, 4, 5, 255, 256, MAX32)
+CAMERAS = [(model, (10.0, 12.0, 1.0, 0.5, *MILD[model])) for model in range(NO_MODEL)]
+LAST_CAMERA = CAMERAS[-1]  # of the most parameters
+MODELS8 = (*range(NO_MODEL + 2), 255)
+MODELS32 = (*MODELS8, 256, MAX32)
 SIZES = (0, 1, 2, 3, 4095, 4096, 4097, MAX32)
-PLACES = [*range(8, 104, 8), *range(120, TALLIES, 8)]  # of a record's f64s
+MOST_HANDED = 8 * MOST_PARAMS + 8  # bytes of parameters: one more than a model has
+PLACES = [*range(PARAMS, SIZE, 8), *range(EDGES_AT, TALLIES, 8)]  # of a record's f64s
 
 
 def after_units(camera, done, w=W, h=H):
@@ -647,6 +656,13 @@ def after_units(camera, done, w=W, h=H):
     return job
 
 
+def of_twelve(job):
+    """The 208 bytes that a record of the releases before P5 had, with room for twelve parameters. Without a prism the sum of
+    its words is the same."""
+    data = record_bytes(job)
+    return data[: PARAMS + 8 * 12] + data[SIZE:]
+
+
 def subsets(faults):
     for n in range(len(faults) + 1):
         yield from itertools.combinations(faults, n)
@@ -655,15 +671,20 @@ def subsets(faults):
 def hostile_turns(head):
     head.refill()
     good = after_units(CAMERAS[KB], 9)
-    for words, data in (("", record_bytes(good)), (", model 4", mended(struct.pack("<I", 4) + record_bytes(good)[4:]))):
+    none = mended(struct.pack("<I", NO_MODEL) + record_bytes(good)[4:])
+    for words, data in (("", record_bytes(good)), (f", model {NO_MODEL}", none)):
         head.heading(f"turn: records of every length from 0 to 300{words}")
         head.lends(data)
         for n in range(301):
             assert head.turn(1, 12, n)[0] == (7 if n != JOB else 1 if words else 0)
-    head.heading("turn: a record of before, which had 192 bytes, its own check word at 184; the first 207 bytes of one; 209")
-    body = record_bytes(good)[:TALLIES]
+    head.heading(f"turn: records of before, which had 192 and 208 bytes, each with its own check word; {JOB - 1} bytes of one; {JOB + 1}")
+    body = of_twelve(good)[:184]
     head.lends(body + struct.pack("<Q", summed(b"LENSJOB1", struct.unpack("<23Q", body))))
     assert head.turn(1, 12, 192) == head.turn(0, 12, 192, 32) == (7, ["kept"] * 3)
+    for camera in CAMERAS[:BC12]:
+        head.lends(of_twelve(after_units(camera, 9)))
+        for allowance, room in itertools.product((0, 1, MAX64), (48, 32)):
+            assert head.turn(allowance, 12, 208, room) == (7, ["kept"] * 3)
     head.lends(record_bytes(good))
     assert head.turn(1, 12, JOB - 1) == head.turn(1, 12, JOB + 1) == (7, ["kept"] * 3)
     head.heading("turn: answers of every length from 0 to 64, then tables of every length from 0 to 64")
@@ -672,10 +693,10 @@ def hostile_turns(head):
         assert head.turn(1, 12, room=n)[0] == (0 if n == ANSWER else 7)
     for n in range(65):
         assert head.turn(1, n)[0] == (0 if n == 12 else 7)
-    head.heading("turn: model numbers 0 to 5, 255, 256, 2^32 - 1, at 0 and at 9 units")
+    head.heading(f"turn: model numbers 0 to {NO_MODEL + 1}, 255, 256, 2^32 - 1, at 0 and at 9 units")
     for done, model in itertools.product((0, 9), MODELS32):
-        head.lends(mended(struct.pack("<2I", model, 0) + record_bytes(after_units(CAMERAS[BC], done))[8:]))
-        assert (head.turn(1, 12)[0] == 1) == (model > 3)
+        head.lends(mended(struct.pack("<2I", model, 0) + record_bytes(after_units(LAST_CAMERA, done))[8:]))
+        assert (head.turn(1, 12)[0] == 1) == (model >= NO_MODEL)
     for done in (5, B + 3):
         for camera in CAMERAS:
             head.heading(f"turn: {NAMES[camera[0]]} after {done} units; NaN, infinity, -infinity, -0 at each f64's place")
@@ -709,7 +730,7 @@ def impossible_records(head):
 
 
 FAULTS = {
-    1: "model 4",
+    1: f"model {NO_MODEL}",
     4: "fx NaN",
     5: "fy 0",
     6: "width 1",
@@ -718,18 +739,18 @@ FAULTS = {
     "mark": "mark 2",
     "check": "a wrong check word",
     "answer": "47 bytes of answer",
-    "record": "207 of record",
+    "record": f"{JOB - 1} of record",
 }
 
 
 def several_faults_of_a_turn(head, some=tuple(FAULTS), kind=F32):
-    """Every set of faults. Bytes of another length hold no record, so 207 of them are 7 whatever stands there."""
+    """Every set of faults. Bytes of another length hold no record, so one less of them is 7 whatever stands there."""
     head.refill()
     head.heading(f"{NAME[kind][5:]}: every set of: {', '.join(FAULTS[fault] for fault in some)}")
     good = after_units(CAMERAS[KB], 9)
     for faults in subsets(some):
         data = record_bytes(replace(good, done=T + 1 if 13 in faults else 9, width=1 if 6 in faults else 3))
-        data = struct.pack("<I", 4 if 1 in faults else KB) + data[4:]
+        data = struct.pack("<I", NO_MODEL if 1 in faults else KB) + data[4:]
         data = poked(data, 8, NAN) if 4 in faults else data
         data = poked(data, 16, 0.0) if 5 in faults else data
         data = mended(marked(data, 2) if "mark" in faults else data)
@@ -755,20 +776,20 @@ def damaged(head, data, number):
 
 
 def damaged_in_one_word(head, job):
-    """Zeros for each word in turn, where there are none. fx and fy are the words at 8 and 16, the size is the one at 104."""
+    """Zeros for each word in turn, where there are none. fx and fy are the words at 8 and 16."""
     head.heading("a job at 5 units with edges of -1e6 and 1e6; with zeros for a word of 8 bytes, each in turn; all zeros; all a5")
-    damaged(head, job[:120] + doubles(-1e6, -1e6, 1e6, 1e6) + job[152:], 13)
+    damaged(head, job[:EDGES_AT] + doubles(-1e6, -1e6, 1e6, 1e6) + job[REGION_AT:], 13)
     for at in range(0, JOB, 8):
         if any(job[at : at + 8]):
-            damaged(head, job[:at] + bytes(8) + job[at + 8 :], {8: 5, 16: 5, 104: 6}.get(at, 13))
+            damaged(head, job[:at] + bytes(8) + job[at + 8 :], {8: 5, 16: 5, SIZE: 6}.get(at, 13))
     damaged(head, bytes(JOB), 5)
     damaged(head, b"\xa5" * JOB, 1)
 
 
 def damaged_in_the_region(head, job):
     head.heading(f"a job at {B} units with one bit of the region flipped: its left edge is -4 for -2")
-    other = poked(job, 152, -4.0)
-    assert struct.unpack_from("<d", job, 152) == (-2.0,)
+    other = poked(job, REGION_AT, -4.0)
+    assert struct.unpack_from("<d", job, REGION_AT) == (-2.0,)
     assert bin(int.from_bytes(job, "little") ^ int.from_bytes(other, "little")).count("1") == 1
     damaged(head, other, 13)
 
@@ -830,13 +851,13 @@ def wrong_check_words(head):
     assert head.turn(1, 12)[0] == 0
     # what the sum does not show: changes of two words that come to 0
     head.heading("turn: the same with k0 a bit pattern up and k1 one down, with cx and cy exchanged, with both their signs flipped: taken")
-    words, sign = struct.unpack("<26Q", good), 1 << 63
+    words, sign = struct.unpack(f"<{WORDS + 1}Q", good), 1 << 63
     for i, j, new_i, new_j in (
         (5, 6, words[5] + 1, words[6] - 1),
         (3, 4, words[4], words[3]),
         (3, 4, words[3] ^ sign, words[4] ^ sign),
     ):
-        head.lends(struct.pack("<26Q", *(new_i if k == i else new_j if k == j else z for k, z in enumerate(words))))
+        head.lends(struct.pack(f"<{WORDS + 1}Q", *(new_i if k == i else new_j if k == j else z for k, z in enumerate(words))))
         assert head.turn(1, 12)[0] == 0
 
 
@@ -853,15 +874,16 @@ def random_records(head):
     for words, spoil in (("random bytes", 0), ("random bytes after a model", 1), ("random numbers in a likely record", 2)):
         head.heading(f"turn: 100 records of {words}")
         for _ in range(100):
-            data = b"".join(struct.pack("<Q", rng.bits(64)) for _ in range(25))
+            data = b"".join(struct.pack("<Q", rng.bits(64)) for _ in range(WORDS))
             places = 12
             if spoil:
-                data = struct.pack("<2I", rng.below(4), 0) + data[8:]
+                data = struct.pack("<2I", rng.below(NO_MODEL), 0) + data[8:]
             if spoil == 2:
                 w, h = 2 + rng.below(4), 2 + rng.below(4)
                 places = 2 * w * h
-                numbers = [(rng.below(4001) - 2000) / 2.0 ** rng.below(12) for _ in range(20)]
-                data = data[:8] + doubles(*numbers[:12]) + struct.pack("<2IQ", w, h, rng.below(total(w, h) + 1)) + doubles(*numbers[12:])
+                numbers = [(rng.below(4001) - 2000) / 2.0 ** rng.below(12) for _ in range(MOST_PARAMS + 8)]
+                size = struct.pack("<2IQ", w, h, rng.below(total(w, h) + 1))
+                data = data[:8] + doubles(*numbers[:MOST_PARAMS]) + size + doubles(*numbers[MOST_PARAMS:])
                 data += struct.pack("<2IQ", *likely_tallies(rng))
             head.lends(mended(data))
             head.turn(1 + rng.below(60), places)
@@ -870,31 +892,31 @@ def random_records(head):
 def hostile_jobs(head):
     head.refill()
     for model, params in CAMERAS:
-        head.heading(f"job_new: {NAMES[model]}, parameters of every length from 0 to 104; then NaN, infinity, -infinity, -0 in each place")
-        head.reads(doubles(*params).ljust(104, b"\0"))
-        for n in range(105):
+        head.heading(f"job_new: {NAMES[model]}, parameters of every length from 0 to {MOST_HANDED}; then NaN, infinity, -infinity, -0 in each place")
+        head.reads(doubles(*params).ljust(MOST_HANDED, b"\0"))
+        for n in range(MOST_HANDED + 1):
             assert head.job_new(model, head.read[:n], 3, 2)[0] == (0 if n == 8 * COUNTS[model] else 3)
         for place, x in itertools.product(range(COUNTS[model]), ODD):
             owed = 4 if not math.isfinite(x) else 5 if place < 2 else 0
             assert head.job_new(model, poked(doubles(*params), 8 * place, x), 3, 2)[0] == owed
-    model, params = CAMERAS[BC][0], doubles(*CAMERAS[BC][1])
-    head.heading("job_new: records of every length from 0 to 300; models 0 to 5 and 255; every width with every height")
+    model, params = LAST_CAMERA[0], doubles(*LAST_CAMERA[1])
+    head.heading(f"job_new: records of every length from 0 to 300; models 0 to {NO_MODEL + 1} and 255; every width with every height")
     for n in range(301):
         assert head.job_new(model, params, 3, 2, n)[0] == (0 if n == JOB else 7)
     for other in MODELS8:
-        assert head.job_new(other, params, 3, 2)[0] == (0 if other == BC else 3 if other < BC else 1)
+        assert head.job_new(other, params, 3, 2)[0] == (0 if other == model else 3 if other < NO_MODEL else 1)
     for w, h in itertools.product(SIZES, SIZES):
         assert head.job_new(model, params, w, h)[0] == (0 if 2 <= w <= 4096 and 2 <= h <= 4096 else 6)
     head.heading("job_new: marks 0, 1, 2, 3, 127, 128, 254, 255")
     for mark in (0, 1, 2, 3, 127, 128, 254, 255):
         assert head.job_new(model, params, 3, 2, mark=mark)[0] == (0 if mark < 2 else 13)
-    head.heading("job_new: every set of: model 4, 95 bytes of parameters, cx NaN, fx -0, height 4097, 209 bytes of record, mark 2")
+    head.heading(f"job_new: every set of: model {NO_MODEL}, a byte of parameters less, cx NaN, fx -0, height 4097, a byte of record more, mark 2")
     for faults in subsets((1, 3, 4, 5, 6, 7, 13)):
         data = poked(params, 16, NAN) if 4 in faults else params
         data = poked(data, 0, -0.0) if 5 in faults else data
-        data = data[:95] if 3 in faults else data
+        data = data[:-1] if 3 in faults else data
         w, h, mark = 3, 4097 if 6 in faults else 2, 2 if 13 in faults else 0
-        number, kept = head.job_new(4 if 1 in faults else BC, data, w, h, JOB + (7 in faults), mark=mark)
+        number, kept = head.job_new(NO_MODEL if 1 in faults else model, data, w, h, JOB + (7 in faults), mark=mark)
         assert number == min(faults, default=0) and (not faults or kept == ["kept"]), faults
 
 
@@ -929,30 +951,30 @@ def hostile_lists(head):
         head.heading(f"observe: {NAMES[model]}, 12 records, all ff behind their pixels; a byte less, a byte more, 11 records, none")
         for n in (480, 479, 481, 440, 0):
             assert head.observe(model, data, full, n)[0] == (7 if n % 40 else 0)
-        head.heading(f"observe: {NAMES[model]}, records that are all ff; parameters of every length from 0 to 104; odd numbers in each place")
+        head.heading(f"observe: {NAMES[model]}, records that are all ff; parameters of every length from 0 to {MOST_HANDED}; odd numbers in each place")
         assert head.observe(model, data, b"\xff" * 120)[0] == 0
         head.lends(full)
-        head.reads(data.ljust(104, b"\0"))
-        for n in range(105):
+        head.reads(data.ljust(MOST_HANDED, b"\0"))
+        for n in range(MOST_HANDED + 1):
             assert head.observe(model, head.read[:n], full[:40])[0] == (0 if n == 8 * COUNTS[model] else 3)
         for place, x in itertools.product(range(COUNTS[model]), ODD):
             owed = 4 if not math.isfinite(x) else 5 if place < 2 else 0
             assert head.observe(model, poked(data, 8 * place, x), full[:40])[0] == owed
     model, data = CAMERAS[KB][0], doubles(*CAMERAS[KB][1])
-    head.heading("observe: lists of every length from 0 to 90; models 0 to 5 and 255")
+    head.heading(f"observe: lists of every length from 0 to 90; models 0 to {NO_MODEL + 1} and 255")
     for n in range(91):
         assert head.observe(model, data, full, n)[0] == (7 if n % 40 else 0)
     for other in MODELS8:
-        assert head.observe(other, data, full[:80])[0] == (0 if other == KB else 3 if other <= BC else 1)
+        assert head.observe(other, data, full[:80])[0] == (0 if other == KB else 3 if other < NO_MODEL else 1)
     head.heading("observe: NaN, infinity, -infinity, -0 as each coordinate of the second record")
     for k, x in itertools.product((0, 1), ODD):
         assert head.observe(model, data, full[:40] + poked(observation(2.0, 2.0), 8 * k, x))[0] == 0
-    head.heading("observe: every set of: model 4, 63 bytes of parameters, cx NaN, fx -0, 81 bytes of list")
+    head.heading(f"observe: every set of: model {NO_MODEL}, 63 bytes of parameters, cx NaN, fx -0, 81 bytes of list")
     for faults in subsets((1, 3, 4, 5, 7)):
         own = poked(data, 16, NAN) if 4 in faults else data
         own = poked(own, 0, -0.0) if 5 in faults else own
         own = own[:63] if 3 in faults else own
-        number, kept = head.observe(4 if 1 in faults else KB, own, full, 81 if 7 in faults else 80)
+        number, kept = head.observe(NO_MODEL if 1 in faults else KB, own, full, 81 if 7 in faults else 80)
         assert number == min(faults, default=0) and (not faults or kept == ["kept"]), faults
 
 
@@ -1039,6 +1061,17 @@ def builds(head):
                 assert in_turns(head, camera, w, h, allowances) == first
 
 
+def without_a_prism(head):
+    """Zeros for bc12's prism: the job is bc's but for the model, the zeros and the check word, and the table is bc's."""
+    zeros = (0.0, -0.0, -0.0, 0.0)
+    for model, w, h, params in [(BC, 5, 4, CAMERAS[BC][1]), *(case for case in NO_PRISM if case[1:3] == (3, 2))]:
+        head.heading(f"bc and bc12 without a prism, {w} by {h}: at once; bc12 in turns of 9")
+        job, table = in_turns(head, (model, tuple(params)), w, h, [MAX64])
+        for allowances in ([MAX64], [9]):
+            other, cells = in_turns(head, (BC12, (*params, *zeros)), w, h, allowances)
+            assert cells == table and replace(record_of(other), camera=()) == replace(record_of(job), camera=())
+
+
 # ---- samples that don't settle, and strict jobs
 
 
@@ -1101,7 +1134,7 @@ def beside_18(head):
                     told, kept = head.turn(allowance, 2 * w * h, stay=1)
                 said = said_by(kept[2])
                 assert (told, said[0], said[1], *said[4:]) == (owed, 2, border(w, h) - 1, 0, 0)
-    for model in (KB, BC):
+    for model in SEARCHING:
         before_the_region(head, *unsettled_last(model))
 
 
@@ -1139,6 +1172,7 @@ def marks(head):
         ("affine, fresh", record(done=0, edges=(0.0,) * 4, region=(0.0,) * 4)),
         ("kb after 5 units", after_units(CAMERAS[KB], 5)),
         ("bc after its last unit", after_units(CAMERAS[BC], T)),
+        ("bc12 after 9 units", after_units(CAMERAS[BC12], 9)),
     ):
         head.refill()
         head.heading(f"turn: {words}, with the marks 0, 1, 2, 3, 255, 256, 2^32, 2^32 + 1, 2^56, 2^63, 2^64 - 1")
@@ -1168,6 +1202,8 @@ JOBS16 = [
      EUCM, (1e39, 1.0, 1e39, 0.5, *HALF_EUCM), 3, 2, 19, B + 1),
     ("bc 1 1 -1 -1 1e55 0 0 0 0 0 0 0, 3 by 3: the pixel of cell (0, 0) is too far, and fits a float",
      BC, (1.0, 1.0, -1.0, -1.0, 1e55, *[0.0] * 7), 3, 3, 19, border(3, 3) + 1),
+    ("bc12 1 1 -1 -1 1e55 and zeros, 3 by 3: the pixel of cell (0, 0) is too far, and fits a float",
+     BC12, (1.0, 1.0, -1.0, -1.0, 1e55, *[0.0] * 11), 3, 3, 19, border(3, 3) + 1),
     *((f"eucm with an s of {s!r}, {shape(s)[1]} by {shape(s)[2]}: {words} is the first s whose cell is too far",
        EUCM, tuple(shape(s)[3]), *shape(s)[1:3], 19, unit)
       for unit, words, shape in SHAPES for s in about_the_edge(shape)[1:]),
@@ -1249,7 +1285,7 @@ def hostile_turns_16(head):
     good = record_bytes(after_units(CAMERAS[KB], B + 2))
     head.lends(good)
     head.heading("turn16: records of some lengths; answers of every length from 0 to 64; tables of every length from 0 to 64")
-    for n in (0, 1, 8, 104, 184, 192, 207, 208, 209, 216, 300, 416, 512):
+    for n in (0, 1, 8, 136, 192, 208, 224, JOB - 1, JOB, JOB + 1, 300, 2 * JOB, 512):
         assert head.turn(1, 12, n, kind=I16)[0] == (0 if n == JOB else 7)
     for n in range(65):
         assert head.turn(1, 12, room=n, kind=I16)[0] == (0 if n == ANSWER else 7)
@@ -1262,7 +1298,7 @@ def hostile_turns_16(head):
 
 
 def strict_16(head):
-    for place in (0, 6, 13, 15):
+    for place in (0, 6, 13, 15, 19):
         pixels, (model, w, h, params) = UNSETTLED[place]
         first = first_unsettled(pixels, (model, w, h, params))
         head.heading(f"turn16. {NAMES[model]}, {w} by {h}, sample {first} is the first that doesn't settle: at once; strict")
@@ -1304,6 +1340,7 @@ def written():
         beside_a_refusal,
         fresh_records,
         builds,
+        without_a_prism,
         unsettled_builds,
         beside_18,
         damaged_tallies,
@@ -1345,26 +1382,32 @@ def self_test():
     boxes = (1.0, 2.0, 3.0, 4.0), (5.0, 6.0, 7.0, 8.0)
     job = Job((EUCM, (1.0, 2.0, 3.0, 4.0, 0.5, 1.0)), 3, 2, 5, *boxes, 0, 258, 3, True)
     data = record_bytes(job)
-    assert len(data) == JOB and record_of(data) == job and data[56:104] == bytes(48)
-    assert data[184:200] == bytes([2, 1, 0, 0, 3, 0, 0, 0, 1, 0, 0, 0, 0, 0, 0, 0]) and len(data[200:]) == 8
-    assert data[:8] == b"\1" + bytes(7) and data[104:120] == bytes([3, 0, 0, 0, 2, 0, 0, 0, 5, 0, 0, 0, 0, 0, 0, 0])
+    assert len(data) == JOB == 240 and record_of(data) == job and data[56:136] == bytes(80)
+    assert data[216:232] == bytes([2, 1, 0, 0, 3, 0, 0, 0, 1, 0, 0, 0, 0, 0, 0, 0]) and len(data[232:]) == 8
+    assert data[:8] == b"\1" + bytes(7) and data[136:152] == bytes([3, 0, 0, 0, 2, 0, 0, 0, 5, 0, 0, 0, 0, 0, 0, 0])
+    full = replace(job, camera=(BC12, tuple(float(n) for n in range(1, 17))))
+    assert record_of(record_bytes(full)) == full and record_bytes(full)[128:136] == doubles(16.0)
+    old = of_twelve(job)
+    assert len(old) == 208 and old[104:112] == bytes([3, 0, 0, 0, 2, 0, 0, 0])
+    assert summed(b"LENSJOB2", struct.unpack("<25Q", old[:200])) == struct.unpack("<Q", old[200:])[0]
+    assert camera_of(BC12, doubles(*[1.0] * 12))[0] == camera_of(BC, doubles(*[1.0] * 16))[0] == 3
     lens = doubles(2.0, 4.0, 1.0, 0.0)
     assert observe_owed(AFFINE, lens, observation(3.0, 8.0)) == (0, doubles(3.0, 8.0, 1.0, 2.0) + b"\1\0" + b"\xff" * 6)
     assert observe_owed(AFFINE, lens, observation(NAN, 8.0))[1][16:34] == bytes(17) + b"\4"
-    assert observe_owed(4, b"", b"1") == (1, b"1") and observe_owed(AFFINE, lens, b"1") == (7, b"1")
+    assert observe_owed(NO_MODEL, b"", b"1") == (1, b"1") and observe_owed(AFFINE, lens, b"1") == (7, b"1")
     number, made = job_new_owed(AFFINE, lens, 3, 2, 0, bytes(JOB))
-    body = bytes(8) + lens + bytes(64) + bytes([3, 0, 0, 0, 2, 0, 0, 0]) + bytes(88)
+    body = bytes(8) + lens + bytes(96) + bytes([3, 0, 0, 0, 2, 0, 0, 0]) + bytes(88)
     # 2 is 4000000000000000, 4 is 4010000000000000, 1 is 3ff0000000000000; the size is 200000003
     check = 0x32424F4A534E454C + 0x4000000000000000 + 0x4010000000000000 + 0x3FF0000000000000 + 0x200000003
     assert number == 0 and made == body + check.to_bytes(8, "little")
     number, strict = job_new_owed(AFFINE, lens, 3, 2, 1, bytes(JOB))
-    assert number == 0 and strict == body[:192] + b"\1" + bytes(7) + (check + 1).to_bytes(8, "little")
+    assert number == 0 and strict == body[:224] + b"\1" + bytes(7) + (check + 1).to_bytes(8, "little")
     assert job_new_owed(AFFINE, lens, 3, 2, 2, b"1" * JOB) == (13, b"1" * JOB)
     assert job_new_owed(AFFINE, lens, 3, 2, 2, b"")[0] == 7
-    assert check_word(bytes(200)) == 0x32424F4A534E454C and check_word(b"\xff" * 200) == 0x32424F4A534E454C - 25
+    assert check_word(bytes(232)) == 0x32424F4A534E454C and check_word(b"\xff" * 232) == 0x32424F4A534E454C - 29
     number, after, cells, said = turn_owed(made, [BEFORE] * 12, 1, bytes(ANSWER))
     assert (number, cells, said) == (0, [BEFORE] * 12, struct.pack("<6Q", 0, 1, T, 0, 0, 0))
-    assert after[120:152] == doubles(-0.75, -0.125, -0.75, -0.125) and after[152:200] == bytes(48)
+    assert after[152:184] == doubles(-0.75, -0.125, -0.75, -0.125) and after[184:232] == bytes(48)
     assert turn_owed(made, [BEFORE] * 11, 1, b"")[0] == 7 and turn_owed(made[1:], [], 1, b"")[0] == 7
     # in sixteen bits the first of 16 units is the same, and the eleventh puts -2 and -1.5 as -64 and -48
     assert turn_owed(made, [7] * 12, 1, bytes(ANSWER), I16) == (0, after, [7] * 12, said)

@@ -3,7 +3,7 @@
 
     crates/test_printer_inputs/stdin, stdout    many inputs, one after the other
     crates/table_printer/stdin, stdout     the rules' example
-    examples/NAME.camera                   a camera file for each model, and two of bc whose border takes updates
+    examples/NAME.camera                   a camera file for each model, and two more of bc whose border takes updates
 
     python3 tools/make_printer_inputs.py              writes the files
     python3 tools/make_printer_inputs.py --self-test  tests what can be tested beside that, and writes nothing
@@ -16,15 +16,15 @@ import pathlib
 import re
 import sys
 
-from lens_models import AFFINE, BC, COUNTS, EUCM, KB
+from lens_models import AFFINE, BC, BC12, COUNTS, EUCM, KB, MODELS
 from lens_tables import FINISHED, fresh, total, turn
 from make_leaf_vectors import value
-from model_questions import BC_EXAMPLE, spelled
+from model_questions import BC_EXAMPLE, PRISM, spelled
 from make_head_calls import JOBS
 from make_table_vectors import LISTING
 
 ROOT = pathlib.Path(__file__).resolve().parent.parent
-NAMES = {b"affine": AFFINE, b"eucm": EUCM, b"kb": KB, b"bc": BC}
+NAMES = {name.encode(): number for number, name in enumerate(MODELS)}
 FORM = re.compile(
     rb"camera\t([a-z0-9]{1,16})\t([1-9][0-9]{0,3})\t([1-9][0-9]{0,3})\nparams((?:\t[0-9a-f]{16})+)\n", re.DOTALL
 )
@@ -103,6 +103,8 @@ EXAMPLES = {
     "bc": camera_file(BC, BC_TEST, 20, 15),
     "bc_wide": camera_file(BC, (16.0, 16.0, 10.0, 7.5, *BC_EXAMPLE), 20, 15),
     "bc_barrel": camera_file(BC, (16.0, 16.0, 10.0, 7.5, *BARREL), 20, 15),
+    # bc_wide's lens with its last glass tilted a little
+    "bc12": camera_file(BC12, (16.0, 16.0, 10.0, 7.5, *BC_EXAMPLE, *PRISM), 20, 15),
 }
 
 
@@ -173,11 +175,18 @@ REFUSED = [
     (1, "an unknown name", instead(b"affine", b"pinhole")),
     (1, "an unknown name of 16 letters", instead(b"affine", b"abcdefghijklmnop")),
     (1, "an unknown name of digits", instead(b"affine", b"2")),
+    (1, "bc1, the first three letters of bc12", written(b"bc1", 3, 2, [ONE] * 16)),
+    (1, "bc120, more than bc12", written(b"bc120", 3, 2, [ONE] * 16)),
+    (1, "the number of bc12", written(b"4", 3, 2, [ONE] * 16)),
     (1, "4,096 bytes", sized(4096, 14)),
     (1, "an unknown name before a wrong count", written(b"pinhole", 3, 2, [NAN])),
     (3, "affine with the 6 of eucm", written(b"affine", 3, 2, [ONE] * 6)),
     (3, "eucm with the 8 of kb", written(b"eucm", 3, 2, [ONE] * 8)),
     (3, "kb with the 12 of bc", written(b"kb", 3, 2, [ONE] * 12)),
+    (3, "bc with the 16 of bc12", written(b"bc", 3, 2, [ONE] * 16)),
+    (3, "bc12 with the 12 of bc", written(b"bc12", 3, 2, [ONE] * 12)),
+    (3, "bc12 with 15", written(b"bc12", 3, 2, [ONE] * 15)),
+    (3, "bc12 with 17", written(b"bc12", 3, 2, [ONE] * 17)),
     (3, "bc with the 4 of affine", written(b"bc", 3, 2, [ONE] * 4)),
     (3, "affine with 1", written(b"affine", 3, 2, [ONE])),
     (3, "kb with 9", written(b"kb", 3, 2, [ONE] * 9)),
@@ -186,6 +195,8 @@ REFUSED = [
     *((4, f"{field.decode()} for parameter {place + 1}", with_field(place, field))
       for place in range(4) for field in (NAN, INF, MINUS_INF, LAST_NAN)),
     (4, "NaN before a zero focal length", written(b"affine", 3, 2, [ZERO, ONE, NAN, ZERO])),
+    (4, "NaN for s4", written(b"bc12", 3, 2, [*PLAIN, *[ZERO] * 11, NAN])),
+    (5, "bc12, fy -0", written(b"bc12", 3, 2, [ONE, MINUS_ZERO, *[ZERO] * 14])),
     (5, "fx 0", with_field(0, ZERO)),
     (5, "fx -0", with_field(0, MINUS_ZERO)),
     (5, "fy 0", with_field(1, ZERO)),
@@ -212,6 +223,10 @@ TABLES = [
     ("bc, so wide that 10 of the 22 samples take all 50 updates", camera_file(BC, (2.4, 2.4, 3.0, 2.5, *BC_EXAMPLE), 6, 5)),
     ("bc, barrel, five coefficients", camera_file(BC, (4.8, 4.8, 3.0, 2.5, *BARREL), 6, 5)),
     ("bc, barrel, with -0 for k4 and k6", camera_file(BC, (4.8, 4.9, 3.0, 2.5, *BARREL[:5], -0.0, 0.0, -0.0), 6, 5)),
+    ("bc12, the barrel with a prism", camera_file(BC12, (4.8, 4.8, 3.0, 2.5, *BARREL, *PRISM), 6, 5)),
+    ("bc12, the wide lens with a prism", camera_file(BC12, (4.8, 4.8, 3.0, 2.5, *BC_EXAMPLE, *PRISM), 6, 5)),
+    ("bc12, a prism alone", camera_file(BC12, (4.8, 4.8, 3.0, 2.5, *[0.0] * 8, 0.03, -0.01, -0.02, 0.005), 6, 5)),
+    ("bc12, the barrel with a prism of zeros, which is bc's table", camera_file(BC12, (4.8, 4.8, 3.0, 2.5, *BARREL, 0.0, -0.0, -0.0, 0.0), 6, 5)),
     ("4,096 cells, the most: 2 by 2048", camera_file(AFFINE, (100.0, 100.0, 0.5, 1024.0), 2, 2048)),
 ]
 
@@ -252,10 +267,15 @@ def self_test():
     for name, text in EXAMPLES.items():
         assert printed(text).startswith(b"table\t"), name
     # Newton's models take updates, but for the bc lens that is as good as flat.
-    for name in ("kb", "bc_wide", "bc_barrel"):
+    for name in ("kb", "bc_wide", "bc_barrel", "bc12"):
         assert updates(EXAMPLES[name]) > 0, name
+    assert all(any(name.split("_")[0] == model for name in EXAMPLES) for model in MODELS)
     taking = [words for words, text in TABLES if updates(text) > 0]
-    assert [words.split(",")[0] for words in taking] == ["kb", "bc", "bc", "bc", "bc"], taking
+    assert [words.split(",")[0] for words in taking] == ["kb", "bc", "bc", "bc", "bc", "bc12", "bc12", "bc12", "bc12"], taking
+    listings = {words: printed(text) for words, text in TABLES}
+    barrel, with_prism, flat = (next(t for w, t in listings.items() if w.startswith(words))
+                                for words in ("bc, barrel, five", "bc12, the barrel with a prism", "bc12, the barrel with a prism of"))
+    assert barrel == flat != with_prism
     texts = [text for _, text in TABLES] + [text for _, _, text in REFUSED]
     assert len(set(texts)) == len(texts)
     print("self-test passed")

@@ -31,8 +31,10 @@ import sys
 from collections import Counter
 from fractions import Fraction
 
+from lens_models import MODELS
+from lens_tables import FINISHED, fresh, turn
 from make_leaf_vectors import INF, LARGEST, NAN, SIGN, Splitmix, nearest, parts, value
-from model_questions import pattern
+from model_questions import lens, pattern
 
 FOLDER = pathlib.Path(__file__).resolve().parent.parent / "crates" / "test_table_lookups"
 PLACES = 24  # of a table at most
@@ -579,6 +581,25 @@ def misfits(rng):
     return table, region, w, h, x, y
 
 
+def of_a_lens(model):
+    """A table of 4 by 3 that an ordinary lens of the model has, by tools/lens_tables.py, at any point or next to a cell's."""
+
+    def made(rng):
+        while True:
+            camera = model, tuple([4.0, 4.25, 1.5, 1.0] + lens(rng, model)[4:])
+            table = [0] * 24
+            status, _, job = turn(fresh(camera, 4, 3)[1], table, 100)
+            if status == FINISHED:
+                break
+        region = [pattern(z) for z in job.region]
+        at = near if rng.bits(1) else lambda rng, lower, upper, _: inside(rng, lower, upper)
+        where = (at(rng, region[k], region[k + 2], cells) for k, cells in enumerate((4, 3)))
+        return [widened(z) for z in table], region, 4, 3, *where
+
+    made.__name__ = f"of {MODELS[model]}"
+    return made
+
+
 KINDS = (
     (ordinary, 80),
     (on_cells, 60),
@@ -589,6 +610,7 @@ KINDS = (
     (zeros, 50),
     (misfits, 40),
     (near_the_ends, 60),
+    *((of_a_lens(model), 12) for model in range(len(MODELS))),
 )
 
 ENDINGS = (0, 4, 6, 7, 8, 9, 11)

@@ -4,11 +4,11 @@
     python3 tools/make_table_vectors.py              writes both files, and says on stderr what they cover
     python3 tools/make_table_vectors.py --self-test  tests this script and lens_tables.py, and writes nothing
 
-A question is a line of 18 fields with tabs between, each 16 hexadecimal digits: the model (0 affine,
-1 eucm, 2 kb, 3 bc), the width, the height, the allowance of every turn, 1 for a strict job and 0 for
-another, 1 for cells of sixteen bits and 0 for f32s, and twelve parameters as bit patterns of f64s. A
-model with fewer parameters has zeros in the places that are left. So every line has 306 bytes with its
-end, and the program reads one at a time.
+A question is a line of 22 fields with tabs between, each 16 hexadecimal digits: the model's number,
+the width, the height, the allowance of every turn, 1 for a strict job and 0 for another, 1 for cells of
+sixteen bits and 0 for f32s, and sixteen parameters as bit patterns of f64s. A model with fewer
+parameters has zeros in the places that are left. So every line has 374 bytes with its end, and the
+program reads one at a time.
 
 The answer to a question takes several lines, with tabs between fields; counts are decimal:
 
@@ -23,8 +23,8 @@ The answer to a question takes several lines, with tabs between fields; counts a
 Turns follow one another, all with the question's allowance, as long as the status is running. An
 allowance of 0 stands for a single turn that may do nothing. Before the first turn every place of the
 table holds 3f000000, which is 0.5, or 16, in thirty-seconds. f64s have 16 digits, f32s have 8, and an i16 is
-spelled as the f32 that is the same number, 41800000 for 16. A line of another form, a model above 3 or a
-mark above 1 is answered by `bad`, and the last line of stdout counts the lines of stdin.
+spelled as the f32 that is the same number, 41800000 for 16. A line of another form, a number that
+is no model's or a mark above 1 is answered by `bad`, and the last line of stdout counts the lines of stdin.
 
 The program's table has room for 3,072 cells: no question that gets a fresh record asks for more.
 
@@ -43,12 +43,11 @@ from collections import Counter
 from dataclasses import replace
 from fractions import Fraction
 
-from lens_models import AFFINE, BC, COUNTS, DISTORT, EUCM, KB, MODELS, UNDISTORT, answer
+from lens_models import AFFINE, BC, BC12, COUNTS, DISTORT, EUCM, KB, LIMITS, MODELS, MOST_PARAMS, NO_MODEL, UNDISTORT, answer
 from lens_tables import (
     F32,
     FINISHED,
     I16,
-    LIMITS,
     MOST,
     REFUSED,
     RUNNING,
@@ -76,16 +75,18 @@ from lens_tables import (
 from make_leaf_vectors import INF, NANS, SIGN, Splitmix, value
 from make_leaf_vectors import narrow as exact_narrow
 from make_leaf_vectors import thirty_seconds as exact_thirty_seconds
-from model_questions import BC_EXAMPLE, misspelled, number_of, pattern, sized, spelled, uniform
+from model_questions import BC_EXAMPLE, PRISM, misspelled, number_of, pattern, sized, spelled, uniform
 from model_questions import unit as plain
 
 FOLDER = pathlib.Path(__file__).resolve().parent.parent / "crates" / "test_table_vectors"
 ROOM = 3072  # cells that the program's table has room for
 CELLS = (F32, I16)  # a line's kind of cell is its place here
 BEFORE = {F32: 0x3F000000, I16: 16}  # what every place of the table holds before the first turn: 0.5
+SEARCHING = [model for model in range(NO_MODEL) if LIMITS[model]]
 LARGE = 10**6  # an allowance that no job of this size uses up
 DIGITS = frozenset("0123456789abcdef")
-FIELDS, LINE = 18, 306
+FIELDS = 6 + MOST_PARAMS
+LINE = 17 * FIELDS
 
 
 # ---- a question's line, and its answer
@@ -97,7 +98,7 @@ def patterns(params):
 
 def question_line(model, w, h, allowance, params, strict=False, cells=F32):
     """A question's parameters are bit patterns here: a NaN would not keep its pattern in a float."""
-    unused = [0] * (12 - len(params))
+    unused = [0] * (MOST_PARAMS - len(params))
     return "\t".join(f"{n:016x}" for n in (model, w, h, allowance, strict, CELLS.index(cells), *params, *unused))
 
 
@@ -107,7 +108,7 @@ def read(line):
     if line[-1:] != "\n" or len(fields) != FIELDS or any(len(f) != 16 or not DIGITS.issuperset(f) for f in fields):
         return None
     model, w, h, allowance, mark, cells, *params = (int(f, 16) for f in fields)
-    if model > 3 or mark > 1 or cells > 1:
+    if model >= NO_MODEL or mark > 1 or cells > 1:
         return None
     return (model, tuple(value(p) for p in params[: COUNTS[model]])), w, h, allowance, mark == 1, CELLS[cells]
 
@@ -195,7 +196,7 @@ def by_hand():
     found += by((AFFINE, 2, 2, [1.0, 1.0, 0.0, 0.0]), 1, 0)
     found += by((AFFINE, 3, 2, [600.0, 600.0, 1.0, 0.5]), LARGE)  # the camera of the Rust's own test
     found += by((AFFINE, 3, 2, [3.0, 3.0, 0.7, 0.7]), LARGE)  # (lo + hi)/2 is not lo + (hi - lo)/2
-    for model in (EUCM, KB, BC):
+    for model in range(EUCM, NO_MODEL):
         found += by((model, 5, 4, plain(model)), 0)
     return found
 
@@ -205,6 +206,7 @@ ORDINARY = [
     (EUCM, [40.0, 41.0, 32.3, 23.1, 0.6, 1.1]),
     (KB, [45.0, 45.5, 31.6, 23.8] + KB_EXAMPLE),
     (BC, [60.0, 60.5, 31.6, 23.8] + BC_EXAMPLE),
+    (BC12, [60.0, 60.5, 31.6, 23.8] + BC_EXAMPLE + PRISM),
 ]
 
 
@@ -215,12 +217,13 @@ def ordinary():
 
 
 def by_sevens():
-    """16 by 9 cells of each model by turns of 7, and of a bc lens without a denominator."""
+    """16 by 9 cells of each model by turns of 7, of a bc lens without a denominator, and of one that is a prism alone."""
     found = []
     for model, params in ORDINARY:
         small = [z / 4 for z in params[:2]] + [7.4, 4.1]
         found.append((model, 16, 9, 7, small + params[4:]))
-    return found + [(BC, 16, 9, 7, [20.0, 21.0, 7.7, 3.9, -0.28, 0.07, 0.0002, -0.0003, 0.01, 0.0, 0.0, 0.0])]
+    found.append((BC, 16, 9, 7, [20.0, 21.0, 7.7, 3.9, -0.28, 0.07, 0.0002, -0.0003, 0.01, 0.0, 0.0, 0.0]))
+    return found + [(BC12, 16, 9, 7, [20.0, 21.0, 7.7, 3.9] + [0.0] * 8 + [0.03, -0.01, -0.02, 0.02])]
 
 
 def narrow_and_flat():
@@ -314,6 +317,11 @@ REFUSED_SAMPLES = [
     (11, 1, (EUCM, 3, 2, [1.0, 1.0, 0.0, -0.5, 2.0, 1.0])),  # NaN at once
     (11, 1, (BC, 2, 2, [1.0, 1.0, 0.5, 0.5, 0.0, 0.0, 0.0, 0.0, 0.0, 1.0, 0.0, 0.0])),
     (11, 2, (BC, 3, 3, [1e-51, 1e-51, -1.0, -1.0] + [0.0] * 8)),  # the sixth power of a radius overflows
+    (11, 1, (BC12, 2, 2, [1.0, 1.0, 0.5, 0.5, 0.0, 0.0, 0.0, 0.0, 0.0, 1.0, 0.0, 0.0] + [0.0] * 4)),
+    (11, 2, (BC12, 3, 3, [1e-51, 1e-51, -1.0, -1.0] + [0.0] * 12)),
+    # 1 + 2 s1 x and 1 + 4 s2 x^3 are 0 at x = -1
+    (11, 1, (BC12, 3, 2, [1.0, 4.0, 0.5, 0.5] + [0.0] * 8 + [0.5, 0.0, 0.0, 0.0])),
+    (11, sample_at(3, 2, -0.5, 0.5), (BC12, 3, 2, [1.0, 4.0, 0.5, 0.5] + [0.0] * 8 + [0.0, 0.25, 0.0, 0.0])),
 ]
 
 # All points have one x, so the region is refused with 8; and of all samples only the last hasn't settled, which a strict job
@@ -322,6 +330,7 @@ REFUSED_SAMPLES = [
 FLAT_UNSETTLED_LAST = [
     (BC, 3, 2, [4500000.0, 0.0103, -2.711e16, 0.5, 3.68e-12] + [0.0] * 7),
     (BC, 3, 2, [4700000.0, 0.00949, -2.748e16, 0.5, 1.36e-15] + [0.0] * 7),
+    (BC12, 3, 2, [4500000.0, 0.0103, -2.711e16, 0.5, 3.68e-12] + [0.0] * 7 + [0.0, -0.0, -0.0, 0.0]),
 ]
 
 REFUSED_REGIONS = [
@@ -336,11 +345,12 @@ REFUSED_REGIONS = [
     (8, border(3, 2), (EUCM, 3, 2, [1.0, 1.0, 1e17, 0.0, 0.0, 1.0])),
     (8, border(3, 2), (KB, 3, 2, [1e21, 1e21, 1e17, 0.0] + KB_EXAMPLE)),
     (8, border(3, 2), (BC, 3, 2, [1e21, 1e21, 0.0, 1e17] + BC_EXAMPLE)),
+    (8, border(3, 2), (BC12, 3, 2, [1e21, 1e21, 0.0, 1e17] + BC_EXAMPLE + PRISM)),
     *((8, border(3, 2), case) for case in FLAT_UNSETTLED_LAST),
 ]
 
-# Those of kb and bc whose samples have all settled: a strict job is refused there as any other.
-STRICT_REGIONS = [ending for ending in REFUSED_REGIONS if ending[2][0] in (KB, BC) and ending[2] not in FLAT_UNSETTLED_LAST]
+# Those of models that search whose samples have all settled: a strict job is refused there as any other.
+STRICT_REGIONS = [ending for ending in REFUSED_REGIONS if LIMITS[ending[2][0]] and ending[2] not in FLAT_UNSETTLED_LAST]
 
 # (upper - lower)/6 rounds up, and six times that overflows: an infinite point between finite edges
 BRINK = float.fromhex("0x1.c000000000001p-1021")
@@ -348,6 +358,8 @@ BRINK = float.fromhex("0x1.c000000000001p-1021")
 REFUSED_CELLS = [
     (12, border(2, 2) + 1, (BC, 2, 2, plain(BC, 1e60))),
     (12, border(3, 3) + 3, (BC, 3, 3, [1.0, 1.0, -1.0, -1.0, 1e55] + [0.0] * 7)),  # the end of a row
+    (12, border(2, 2) + 1, (BC12, 2, 2, plain(BC12, 1e60))),
+    (12, border(3, 3) + 3, (BC12, 3, 3, [1.0, 1.0, -1.0, -1.0, 1e55] + [0.0] * 11)),
     (12, border(2, 2) + 1, (KB, 2, 2, [3.0, 3.0, 0.5, 0.5, 0.0, 0.0, 0.0, 1e60])),
     (12, border(2, 2) + 1, (EUCM, 2, 2, [1.0, -1e39, 0.5, 7.5e38] + HALF_EUCM)),  # v alone is too large
     (12, border(2, 2) + 1, (EUCM, 2, 2, [1e39, 1.0, -7.5e38, 0.5] + HALF_EUCM)),  # u alone, below zero
@@ -355,6 +367,8 @@ REFUSED_CELLS = [
     (12, border(3, 2) + 2, (EUCM, 3, 2, [1e39, 1.0, 1e39, 0.5] + HALF_EUCM)),
     (11, border(3, 3) + 1, (BC, 3, 3, [2.2e-51, 2.2e-51, 3.0, 3.0] + [0.0] * 8)),  # a radius to the sixth overflows
     (11, border(3, 3) + 6, (BC, 3, 3, [2.2e-51, 2.2e-51, -1.0, -1.0] + [0.0] * 8)),
+    (11, border(3, 3) + 1, (BC12, 3, 3, [2.2e-51, 2.2e-51, 3.0, 3.0] + [0.0] * 12)),
+    (11, border(3, 3) + 6, (BC12, 3, 3, [2.2e-51, 2.2e-51, -1.0, -1.0] + [0.0] * 12)),
     (11, border(3, 3) + 9, (BC, 3, 3, [2.5e-51, 2.5e-51, -1.0, -1.0] + [0.0] * 8)),  # the same at the last cell of all
     (11, border(2, 2) + 1, (KB, 2, 2, [1.2, 1.2, 0.5, 0.5, 0.0, 0.0, 0.0, 5e307])),  # an infinite slope: theta stays
     (11, border(2, 2) + 2, (KB, 2, 2, [3.4, 3.4, -1.618, -1.618, 0.0, 0.0, 0.0, 5e307])),  # cell 1 lies at the centre
@@ -383,11 +397,12 @@ TIES = [
     (BC, 3, 2, [4.0, 4.0, 1.0, 0.5, -3 * 2.0**-20] + [0.0] * 7),
 ]
 
-# Pixels so small that the f32 is subnormal, or a zero.
+# Pixels so small that the f32 is subnormal, or a zero. With beta -1 eucm's k is 1 + q/4: the points of far pixels lie close
+# to the axis, where the lens is all but flat.
 SMALL_CELLS = [
-    (EUCM, 3, 2, [1e-20, -1e-20, 0.0, 0.0] + HALF_EUCM),
-    (EUCM, 3, 2, [1e-22, 2e-23, 0.0, -0.0] + HALF_EUCM),
-    (EUCM, 3, 2, [1e-40, -1e-40, 0.0, -0.0] + HALF_EUCM),
+    (EUCM, 3, 2, [1e-20, -1e-20, 0.0, 0.0, 0.5, -1.0]),
+    (EUCM, 3, 2, [1e-22, 2e-23, 0.0, -0.0, 0.5, -1.0]),
+    (EUCM, 3, 2, [1e-40, -1e-40, 0.0, -0.0, 0.5, -1.0]),
 ]
 
 # Every border sample takes all the updates there are, so that updates are at their limit in each record. Found by
@@ -395,6 +410,7 @@ SMALL_CELLS = [
 MOST_UPDATES = [
     (KB, 2, 2, [1.1035, 0.9418, 0.3335, 0.5, 0.106, -0.2004, 0.0025, -0.5064]),
     (BC, 2, 2, [1.54, 1.54, 0.5, 0.5, -0.85, 0.16, 0.04, 0.07, -0.06, -0.26, 0.33, 0.9]),
+    (BC12, 2, 2, [1.66, 1.66, 0.5, 0.5, -0.85, 0.16, 0.04, 0.07, -0.06, -0.26, 0.33, 0.9, -0.19, -0.03, -0.17, -0.16]),
 ]
 
 # Borders whose samples all have a point, and the pixels of those whose flag says no. `test_unsettled` holds them to it.
@@ -422,6 +438,16 @@ UNSETTLED = [
     ({(1.5, -0.5), (2.5, 0.5)}, (BC, 3, 2, [2.5, 3.68, -0.33, 1.44, 0.47, -0.29, 0.0, -0.03, -0.2, 0.0, 0.0, 0.09])),
     # all of them
     *((set(samples(*case[1:3])), case) for case in MOST_UPDATES),
+    # bc12: there is no point, or the search doesn't come to it; some bend by their prism alone
+    ({(-0.5, -0.5)}, (BC12, 3, 2, [2.9, 5.09, 1.8, 1.68, 0.86] + [0.0] * 7 + [0.0, 0.0, 0.2, 0.0])),
+    ({(1.5, -0.5)}, (BC12, 3, 2, [1.3, 2.14, 0.74, 0.67] + [0.0] * 8 + [0.22, 0.0, 0.0, 0.0])),
+    ({(-0.5, 0.5)}, (BC12, 3, 2, [3.3, 1.9, 0.47, 1.4, 0.41, 0.0, 0.0, 0.0, 0.17] + [0.0] * 3 + [0.0, 0.2, 0.0, 0.0])),
+    ({(2.5, 0.5)}, (BC12, 3, 2, [6.6, 1.1, 1.5, 1.13, 0.59] + [0.0] * 7 + [0.0, 0.0, 0.18, 0.0])),
+    ({(2.5, 1.5)}, (BC12, 3, 2, [2.03, 6.3, 0.44, 0.9] + [0.0] * 8 + [0.24, 0.0, 0.23, 0.18])),
+    (
+        {(1.5, -0.5), (2.5, 0.5)},
+        (BC12, 3, 2, [1.87, 1.21, 0.29, 0.21, 0.0, 0.0, 0.0, 0.0, -0.2] + [0.0] * 3 + [0.0, 0.0, 0.0, -0.06]),
+    ),
 ]
 
 # A sample's own refusal comes before 18: these have no point, and their searches haven't settled either.
@@ -430,6 +456,7 @@ OWN_REFUSALS = [
     (10, 5, (KB, 3, 2, [5.98, 5.06, -0.35, 1.29, -0.8, 0.1, 0.0, 0.0])),  # a small step, an angle of -2.45
     (11, 1, (KB, 3, 2, [1.0, 1.0, 0.5, -0.5, -1 / 3, 0.0, 0.0, 0.0])),  # NaN
     (11, 1, (BC, 2, 2, [1.0, 1.0, 0.5, 0.5, 0.0, 0.0, 0.0, 0.0, 0.0, 1.0, 0.0, 0.0])),
+    (11, 1, (BC12, 2, 2, [1.0, 1.0, 0.5, 0.5, 0.0, 0.0, 0.0, 0.0, 0.0, 1.0, 0.0, 0.0, 0.0, 0.0, -0.0, -0.0])),
 ]
 
 # A sample that didn't settle, and behind it one that is refused by its own number, which isn't counted: that number,
@@ -438,6 +465,7 @@ UNSETTLED_THEN_REFUSED = [
     (10, 2, 1, (KB, 3, 2, [4.72, 7.82, 2.29, 0.79, -1.11, 0.45, -0.21, 0.32])),
     (10, 8, 3, (KB, 3, 2, [3.3, 3.19, 0.46, 1.45, 0.93, -0.68, -0.08, -0.99])),
     (11, 3, 2, (BC, 3, 2, [1.94, 5.08, 2.23, 1.95, -0.97, 0.47, 0.0, 0.0, 0.0, 0.0, 0.91, -0.41])),
+    (11, 5, 2, (BC12, 3, 2, [1.08, 2.46, 0.3, 0.34] + [0.0] * 7 + [-0.99, 0.2, 0.09, 0.0, 0.0])),
 ]
 
 
@@ -465,6 +493,23 @@ def unsettled():
         yield from by(case, 1, first - 1, first, first + 1, LARGE)
     for _, refused, _, case in UNSETTLED_THEN_REFUSED:
         yield from by(case, 1, refused, LARGE)
+
+
+# ---- bc12 without a prism builds bc's table
+
+NO_PRISM = [
+    (BC, 16, 9, [15.0, 15.125, 7.4, 4.1] + BC_EXAMPLE),
+    (BC, 7, 5, [20.0, 21.0, 3.7, 2.9, -0.28, 0.07, 0.0002, -0.0003, 0.01, 0.0, 0.0, 0.0]),
+    *(case for _, case in UNSETTLED if case[0] == BC),
+]
+
+
+def without_a_prism():
+    """The same parameters with zeros of either sign behind them; and bc's own, asked beside it."""
+    for n, (_, w, h, params) in enumerate(NO_PRISM):
+        zeros = [(0.0, -0.0)[(n >> i) % 2] for i in range(4)]
+        yield from by((BC, w, h, params), LARGE)
+        yield from by((BC12, w, h, params + zeros), 7, LARGE)
 
 
 # ---- cells of sixteen bits
@@ -513,6 +558,7 @@ REFUSED_WIDE_16 = [
 REFUSED_CELLS_16 = [
     *((19, border(*shape(1e39)[1:3]) + 1, shape(1e39)) for _, _, shape in SHAPES),
     (19, border(2, 2) + 1, (BC, 2, 2, plain(BC, 1e60))),
+    (19, border(2, 2) + 1, (BC12, 2, 2, plain(BC12, 1e60))),
     (19, border(2, 2) + 1, (KB, 2, 2, [3.0, 3.0, 0.5, 0.5, 0.0, 0.0, 0.0, 1e60])),
     (11, border(2, 2) + 1, (KB, 2, 2, [1.2, 1.2, 0.5, 0.5, 0.0, 0.0, 0.0, 5e307])),
     (11, border(4, 3) + 4, (EUCM, 4, 3, [4.0, 4.0, 0.0, 0.0, 0.4, -0.6])),
@@ -600,6 +646,7 @@ def kinds():
     yield "small f32s", [q for case in SMALL_CELLS for q in by(case, LARGE)]
     yield "as many updates as can be", [q for case in MOST_UPDATES for q in by(case, 1, border(2, 2), LARGE)]
     yield "unsettled samples", unsettled()
+    yield "bc12 without a prism", without_a_prism()
     for model, name in enumerate(MODELS):
         yield f"{name}, wild", by_ending(Splitmix(70 + model), model, 3, 6, 3000)
 
@@ -609,7 +656,7 @@ def strict_kinds():
     yield "strict, settled", [(model, 5, 4, 7, [9.0, 8.0, 2.0, 1.5] + params[4:]) for model, params in ORDINARY]
     yield "strict, refused at a sample", each_way(strict_endings())
     yield "strict, refused at unit B", each_way(STRICT_REGIONS)
-    for model in (KB, BC):
+    for model in SEARCHING:
         yield f"{MODELS[model]}, wild, strict", by_ending(Splitmix(74 + model), model, 3, 6, 2000, True)
 
 
@@ -636,7 +683,7 @@ def strict_kinds_16():
 
 
 def bad_lines():
-    """Lines of 306 bytes that are not of the form: the program reads so many at a time. The last one is of the
+    """Lines of LINE bytes that are not of the form: the program reads so many at a time. The last one is of the
     form, and is bad because `main` cuts its end off."""
     model, w, h, params = LISTED
     good = question_line(model, w, h, LARGE, patterns(params))
@@ -645,7 +692,7 @@ def bad_lines():
     one = fields[6]
     # the model, the mark and the kind of cell: the first number past the last, and large ones that fit again once high
     # bits are lost
-    for wrong in (4, 2**8, 2**32, 2**63):
+    for wrong in (NO_MODEL, 2**8, 2**32, 2**63):
         bad.append("\t".join([f"{wrong:016x}"] + fields[1:]))
     for place, wrong in itertools.product((4, 5), (2, 2**8 + 1, 2**32, 2**63 + 1)):
         bad.append("\t".join(fields[:place] + [f"{wrong:016x}"] + fields[place + 1 :]))
@@ -775,9 +822,10 @@ def summary(said, count, bad):
     for key, n in said.items():
         if key[0] == "cells":
             say(f"{n:7} {'cells done' if key[1] == 'done' else key[1]}")
-    for name in ("kb", "bc"):
+    searching = [MODELS[model] for model in SEARCHING]
+    for name in searching:
         say(f"updates of a whole {name} border, at most: {said['updates', name]:.3f} of the limit")
-    for name in ("kb", "bc"):
+    for name in searching:
         some = {words: said["unsettled", name, *place] for words, place in UNSETTLED_PLACES}
         say(f"{name}, tables with unsettled samples:", ", ".join(f"{n} {words}" for words, n in some.items()))
         assert all(some.values()), name
@@ -789,12 +837,13 @@ def summary(said, count, bad):
     wanted += [("kb", 10, "unit 1"), ("kb", 10, "a sample"), ("affine", 11, "unit B")]
     wanted += [("eucm", 16, "unit 1"), ("eucm", 16, "a sample")]
     wanted += [("eucm", 16, "unit B")]
-    wanted += [(name, 18, place) for name in ("kb", "bc") for place in ("unit 1", "a sample", "unit B")]
+    wanted += [(name, 18, place) for name in searching for place in ("unit 1", "a sample", "unit B")]
     wanted += [(name, *ending) for name in MODELS[1:] for ending in ((11, "cell 1"), (12, "cell 1"), (12, "a cell"))]
     wanted += [(name, 19, "cell 1") for name in MODELS[1:]] + [(name, 19, "a cell") for name in MODELS]
     for ending in wanted:
         assert said[("ending", *ending)], ending
-    assert said["updates", "kb"] == said["updates", "bc"] == 1
+    assert all(said["updates", name] == 1 for name in searching)
+    assert said["cells", "f32s that are subnormal"] and said["cells", "f32s that are zeros"]
     for word, kind in itertools.product(("toward", "away"), ("f32s", "i16s")):
         assert said["cells", f"pixels halfway between two {kind}, rounded {word}"]
     assert said["cells", "i16s that are 32767"] and said["cells", "i16s that are -32768"]
@@ -832,7 +881,7 @@ def cases():
     found = [LISTED] + [case for _, _, case in ENDINGS + OWN_REFUSALS] + TIES + SMALL_CELLS
     found += [case for _, case in UNSETTLED] + [case for *_, case in UNSETTLED_THEN_REFUSED]
     found += [(model, w, h, params) for model, w, h, _, params in by_sevens() + narrow_and_flat()]
-    for model in range(4):
+    for model in range(NO_MODEL):
         rng = Splitmix(80 + model)
         found += [(model, 2 + i % 3, 2 + i % 2, wild(rng, model)) for i in range(150)]
     return [case for case in found if fresh((case[0], tuple(case[3])), *case[1:3])[0] == 0]
@@ -1015,6 +1064,19 @@ def hold_split(case, strict, cells, rng):
         assert (told, refusal) == (RUNNING, 0)
     assert repr(job) == repr(end)
     return status, number
+
+
+def test_without_a_prism():
+    """bc12 with zeros for its prism builds bc's table, bit by bit, and its border takes bc's updates and has its flags."""
+    tried = Counter()
+    for (_, w, h, params), cells in itertools.product(NO_PRISM, CELLS):
+        bc = built(((BC, tuple(params)), w, h, LARGE, False, cells))
+        for zeros in itertools.product((0.0, -0.0), repeat=4):
+            status, number, job, table, _ = built(((BC12, (*params, *zeros)), w, h, LARGE, False, cells))
+            assert (status, number, table) == (bc[0], bc[1], bc[3])
+            assert repr(replace(job, camera=())) == repr(replace(bc[2], camera=())), (params, zeros)
+            tried[status] += 1
+    print("bc12 without a prism, as bc:", dict(tried))
 
 
 def test_splits():
@@ -1235,6 +1297,7 @@ def self_test():
     test_by_hand()
     test_endings()
     test_unsettled()
+    test_without_a_prism()
     test_splits()
     test_admitted()
     test_impossible()

@@ -1,4 +1,4 @@
-"""The models' part of test_camera_calls: questions to the four operations of the four lens models, and the answers.
+"""The models' part of test_camera_calls: questions to the four operations of each lens model, and the answers.
 
     python3 tools/model_questions.py   tests this script
 
@@ -18,6 +18,7 @@ from collections import Counter
 from lens_models import (
     AFFINE,
     BC,
+    BC12,
     BY_PARAMS,
     BY_POINT,
     COUNTS,
@@ -27,19 +28,22 @@ from lens_models import (
     FUNCTIONS,
     KB,
     LIMIT,
+    LIMITS,
+    MILD,
     MODELS,
+    MOST_PARAMS,
+    NO_MODEL,
     OPERATIONS,
     SMALL,
     UNDISTORT,
     answer,
     arctangent,
-    back,
     bc_distortion_impl,
+    bc12_newton_jacobian,
     bc_newton_jacobian,
     bits,
     kb_newton,
     norm,
-    product,
     root,
     solved,
     tangent,
@@ -73,6 +77,9 @@ def sized(rng, span):
 # the coefficients of the Rust's own example
 BC_EXAMPLE = [0.726405, -0.0148413, 1.38447e-05, 0.000419742, -0.00514224, 1.06774, 0.128429, -0.019901]
 
+# s1 to s4 of a lens whose last glass is tilted a little
+PRISM = [0.0012, -0.00035, -0.0021, 0.0006]
+
 
 def camera(rng):
     """fx, fy, cx, cy of an ordinary camera."""
@@ -81,7 +88,8 @@ def camera(rng):
 
 
 def lens(rng, model):
-    """The parameters of an ordinary lens. Half of bc's are like the Rust's example, half without a denominator."""
+    """The parameters of an ordinary lens. Half of bc's are like the Rust's example, half without a denominator; bc12's
+    are such a one with a prism."""
     first = camera(rng)
     if model == AFFINE:
         return first
@@ -90,8 +98,10 @@ def lens(rng, model):
     if model == KB:
         return first + [uniform(rng, -s, s) for s in (0.1, 0.05, 0.02, 0.005)]
     if rng.bits(1):
-        return first + [c * uniform(rng, 0.8, 1.2) for c in BC_EXAMPLE]
-    return first + [uniform(rng, -s, s) for s in (0.3, 0.1, 0.003, 0.003, 0.03)] + [0.0, 0.0, 0.0]
+        first += [c * uniform(rng, 0.8, 1.2) for c in BC_EXAMPLE]
+    else:
+        first += [uniform(rng, -s, s) for s in (0.3, 0.1, 0.003, 0.003, 0.03)] + [0.0, 0.0, 0.0]
+    return first if model == BC else first + [uniform(rng, -s, s) for s in (0.01, 0.003, 0.01, 0.003)]
 
 
 def regular(rng, model, operation):
@@ -203,10 +213,55 @@ def touching_bc(rng):
     return BC, UNDISTORT, params, 2 / 3 + uniform(rng, 1e-8, 9e-7), 0.0
 
 
+def with_prism(make, draw):
+    """The question of a bc lens, asked of bc12 with a prism that draw gives."""
+
+    def made(rng):
+        _, operation, params, x, y = make(rng)
+        return BC12, operation, params + draw(rng), x, y
+
+    return made
+
+
+def strong_prism(rng):
+    return [uniform(rng, -0.4, 0.4) for _ in range(4)]
+
+
+def mild_prism(rng):
+    return [uniform(rng, -1, 1) * 10.0 ** -(1 + rng.below(7)) for _ in range(4)]
+
+
+def no_prism(rng):
+    """Zeros of either sign: bc12 is bc then, the sign of a zero aside."""
+    return [(0.0, -0.0)[rng.bits(1)] for _ in range(4)]
+
+
+def stiff_prism(rng):
+    """As stiff_bc, by the prism alone: u or v grows so fast with r2 or r4 that a small step leaves a residual above
+    EPS. On the other side there is no point, and the search goes on to its end."""
+    strong = uniform(rng, 0.5, 1) * 10.0 ** (6 + rng.below(9))
+    place, far = rng.below(4), uniform(rng, -1, 9) * 10.0 ** rng.below(4)
+    s = [strong if i == place else 0.0 for i in range(4)]
+    return BC12, UNDISTORT, prism(*s), *((far, 0.0) if place < 2 else (0.0, far))
+
+
+def without_a_prism(rng):
+    """Each operation of ordinary lenses, of uneven ones and of wild ones, with a prism of zeros."""
+    for make in (regular, uneven, wild):
+        for operation in range(4):
+            for _ in range(8):
+                yield with_prism(lambda r: make(r, BC, operation), no_prism)(rng)
+
+
 def unit(model, *rest):
     """Focal lengths 1, the centre 0, and the first of the other parameters; those after them are 0."""
     params = [1.0, 1.0, 0.0, 0.0, *rest]
     return params + [0.0] * (COUNTS[model] - len(params))
+
+
+def prism(*rest):
+    """bc12 that bends by its prism alone: s1 to s4, as many as are given."""
+    return unit(BC12, *[0.0] * 8, *rest)
 
 
 def everywhere(model, params, places, operations=range(4)):
@@ -232,6 +287,10 @@ def by_hand():
         (BC, DISTORT, unit(BC, 0.0, 0.0, 0.0, 1.0), 1.0, 1.0),
         (BC, UNDISTORT, unit(BC), 3.0, 4.0),
         (BC, BY_PARAMS, unit(BC), 1.0, 2.0),
+        (BC12, DISTORT, prism(1.0, 2.0, 3.0, 4.0), 1.0, 1.0),
+        (BC12, BY_POINT, prism(1.0, 2.0, 3.0, 4.0), 1.0, 1.0),
+        (BC12, UNDISTORT, prism(), 3.0, 4.0),
+        (BC12, BY_PARAMS, prism(), 1.0, 2.0),
         (AFFINE, UNDISTORT, [-0.0, 1.0, 0.0, 0.0], 1.0, 1.0),
     ]
 
@@ -240,7 +299,7 @@ def zeros(rng):
     """Zeros of both signs, as coordinates and as parameters: which zero is answered depends on them."""
     places = [(a, b) for a in (0.0, -0.0) for b in (0.0, -0.0)]
     found = []
-    for model in range(4):
+    for model in range(NO_MODEL):
         plain, turned = unit(model), [-1.0, -1.0] + [-0.0] * (COUNTS[model] - 2)
         found += everywhere(model, plain, places[:3]) + everywhere(model, turned, places[1:3])
         # the principal point's pixel, and a point on each axis
@@ -301,9 +360,10 @@ ENDS_AT_ZERO = [-22.0, 136.0, -256.0]
 
 def equality_edge():
     """Where a test of an undistort holds by equality: a step, a residual, a tangent of 0."""
-    found = [(model, UNDISTORT, unit(model, *STEP_IS_EPS), s, 0.0) for model in (KB, BC) for s in (1.0, -1.0)]
+    found = [(model, UNDISTORT, unit(model, *STEP_IS_EPS), s, 0.0) for model in (KB, BC, BC12) for s in (1.0, -1.0)]
     u, k1 = RESIDUAL_IS_EPS
-    found += [(BC, UNDISTORT, unit(BC, k1), u, 0.0), (BC, UNDISTORT, unit(BC, k1), 0.0, -u)]
+    for model in (BC, BC12):
+        found += [(model, UNDISTORT, unit(model, k1), u, 0.0), (model, UNDISTORT, unit(model, k1), 0.0, -u)]
     places = [(0.25, 0.0), (-0.25, 0.0), (0.0, 0.25), (-0.0, -0.25)]
     return found + everywhere(KB, unit(KB, *ENDS_AT_ZERO), places, [UNDISTORT])
 
@@ -330,14 +390,18 @@ def passing_overflow():
     # the denominator is infinite, so only the tangential part is left
     bc = unit(BC, 0.5, 0.0, 0.25, 0.125, 0.0, 1e300)
     found += everywhere(BC, bc, [(1e5, 2.0), (-3e7, 1e6)], (DISTORT, BY_PARAMS))
+    found += everywhere(BC12, bc + [0.0625, -0.5, 3.0, 0.03125], [(1e5, 2.0), (-3e7, 1e6)], (DISTORT, BY_PARAMS))
     return found
 
 
 def divided_by_zero():
-    """Denominators that are exactly zero: bc's own and its determinant, eucm's norm and its rho, kb's slope. All
-    give 11."""
+    """Denominators that are exactly zero: bc's own and its determinant, bc12's too, eucm's norm and its rho, kb's slope.
+    All give 11."""
     pole = unit(BC, 0.0, 0.0, 0.0, 0.0, 0.0, -1.0)
     found = everywhere(BC, pole, [(1.0, 0.0), (0.0, -1.0), (0.6, 0.8)])
+    found += everywhere(BC12, pole + PRISM, [(1.0, 0.0), (0.0, -1.0), (0.6, 0.8)])
+    # 1 + 2 s1 x is 0 at x = 1, as is 1 + 4 s2 x^3
+    found += [(BC12, UNDISTORT, prism(-0.5), 1.0, 0.0), (BC12, UNDISTORT, prism(0.0, -0.25), 1.0, 0.0)]
     found += [(BC, UNDISTORT, unit(BC, -7.0, 4.0), 1.0, 0.0), (BC, UNDISTORT, unit(BC, 0.0, 0.0, 0.5), 0.0, -1 / 3)]
     found += everywhere(EUCM, unit(EUCM, 2.0, -3.0), [(0.5, 0.0), (0.0, -0.5)], (DISTORT, BY_POINT, BY_PARAMS))
     found += everywhere(EUCM, unit(EUCM, 2.0, -1.0), [(1.0, 0.0), (0.0, -1.0)], (BY_POINT, BY_PARAMS))
@@ -349,8 +413,7 @@ def extremes():
     """The largest, the smallest and the subnormal numbers, as focal lengths and as coordinates."""
     top, least, tiny = value(LARGEST), value(NORMAL), value(1)
     found = []
-    for model in range(4):
-        rest = {AFFINE: [], EUCM: [0.5, 1.0], KB: [0.1, -0.02, 0.0, 0.0], BC: [0.1, -0.02] + [0.001] * 6}[model]
+    for model, rest in enumerate(map(list, MILD)):
         for fx, fy in ((top, -top), (least, -tiny), (-600.0, 500.0)):
             found += everywhere(model, [fx, fy, tiny, -least] + rest, [(0.25, -0.5), (tiny, -tiny), (1000.0, 3.0)])
         found += everywhere(model, [2.0, -2.0, 1.0, 1.0] + rest, [(top, tiny), (1e154, -1e154)])
@@ -367,7 +430,7 @@ def not_finite(rng):
     4 comes before 5."""
     patterns = NANS + [INF, SIGN + INF]
     found = []
-    for model in range(4):
+    for model in range(NO_MODEL):
         for operation in range(4):
             for place in range(COUNTS[model] + 2):
                 numbers = [bits(z) for z in (*lens(rng, model), 0.5, -0.25)]
@@ -381,7 +444,7 @@ def not_finite(rng):
 def zero_focal(rng):
     """fx or fy or both zero, of either sign."""
     found = []
-    for model in range(4):
+    for model in range(NO_MODEL):
         for operation in range(4):
             for fx, fy in ((0.0, 1.0), (1.0, 0.0), (-0.0, 600.0), (-600.0, -0.0), (0.0, -0.0)):
                 params = lens(rng, model)
@@ -426,7 +489,13 @@ def kinds():
     yield "bc, mild", by_ending(Splitmix(43), mild_bc, 4, 1000)
     yield "bc, stiff", by_ending(Splitmix(44), stiff_bc, 1, 1000)
     yield "bc, touching", by_ending(Splitmix(45), touching_bc, 3, 60)
-    yield "bc by its parameters, held to difference quotients", difference_quotients.questions()
+    yield "bc12, strong", by_ending(Splitmix(46), with_prism(strong_bc, strong_prism), 1, 4000)
+    yield "bc12, mild", by_ending(Splitmix(47), with_prism(mild_bc, mild_prism), 4, 1000)
+    yield "bc12, stiff", by_ending(Splitmix(48), stiff_prism, 1, 1000)
+    yield "bc12, touching", by_ending(Splitmix(49), with_prism(touching_bc, no_prism), 3, 60)
+    yield "bc12, no prism", without_a_prism(Splitmix(52))
+    yield "bc12, strong, no prism", by_ending(Splitmix(53), with_prism(strong_bc, no_prism), 1, 1000)
+    yield "held to difference quotients", difference_quotients.questions()
 
 
 def misspelled(fields, one):
@@ -456,7 +525,7 @@ def made():
     for kind, questions in kinds():
         before = len(asked)
         for model, operation, params, x, y in questions:
-            unused = [0] * (12 - len(params))
+            unused = [0] * (MOST_PARAMS - len(params))
             line = operation_question(model, operation, [pattern(z) for z in params] + unused, pattern(x), pattern(y))
             if line in asked:
                 continue
@@ -464,7 +533,7 @@ def made():
             number, given = answer(model, operation, [number_of(z) for z in params], number_of(x), number_of(y))
             owed.append(reply(number, b"" if number else answer_bytes(operation, given)))
             said[MODELS[model], OPERATIONS[operation], number] += 1
-            if operation == UNDISTORT and model >= KB and number == 0:
+            if operation == UNDISTORT and LIMITS[model] and number == 0:
                 said[MODELS[model], "updates", given[2], "yes" if given[3] else "no"] += 1
         said["kind", kind] = len(asked) - before
     summary(said, len(asked))
@@ -485,7 +554,9 @@ def summary(said, count):
     for name in MODELS:
         for operation in OPERATIONS:
             say(f"{name:7}{operation:17}" + "".join(f"{said[name, operation, n]:6}" for n in numbers))
-    for name, most in (("kb", 20), ("bc", 50)):
+    for name, most in zip(MODELS, LIMITS):
+        if most == 0:
+            continue
         for flag in ("yes", "no"):
             some = {k[2]: n for k, n in said.items() if k[:2] == (name, "updates") and k[3] == flag}
             # every count of updates up to 20 and the last one, and a flag of no at the last one
@@ -551,6 +622,11 @@ def test_by_hand():
         (0, (5.0, 3.0)),
         (0, (3.0, 4.0, 0, True)),
         (0, ([1, 0, 1, 0, 5, 25, 4, 7, 125, -5, -25, -125], [0, 2, 0, 1, 10, 50, 13, 4, 250, -10, -50, -250])),
+        (0, (11.0, 23.0)),
+        (0, ([19.0, 18.0], [38.0, 39.0])),
+        (0, (3.0, 4.0, 0, True)),
+        (0, ([1, 0, 1, 0, 5, 25, 4, 7, 125, -5, -25, -125, 5, 25, 0, 0],
+             [0, 2, 0, 1, 10, 50, 13, 4, 250, -10, -50, -250, 0, 0, 5, 25])),
         (5, None),
     ]
     for q, owed in zip(by_hand(), expected, strict=True):
@@ -596,16 +672,17 @@ def assert_near(rows, others, places, what):
 
 
 def test_derivatives():
-    """Each Jacobian against difference quotients, and bc's two blocks against each other."""
+    """Each Jacobian against difference quotients, and the two blocks of bc and of bc12 against each other."""
     rng, tried = Splitmix(50), 0
-    for model in range(4):
+    blocks = {BC: bc_newton_jacobian, BC12: bc12_newton_jacobian}
+    for model in range(NO_MODEL):
         distort, _, by_point, by_params = FUNCTIONS[model]
         for _ in range(200):
             params, x, y = lens(rng, model), uniform(rng, -0.9, 0.9), uniform(rng, -0.9, 0.9)
             assert_near(by_point(params, x, y), quotients(lambda at: distort(params, *at), [x, y]), 1e-5, model)
             assert_near(by_params(params, x, y), quotients(lambda at: distort(at, x, y), params), 1e-5, model)
-            if model == BC:
-                a, b, c, d = bc_newton_jacobian(params[4:], x, y)
+            if model in blocks:
+                a, b, c, d = blocks[model](params[4:], x, y)
                 fx, fy = params[:2]
                 assert_near(by_point(params, x, y), ([fx * a, fx * b], [fy * c, fy * d]), 1e-12, model)
             tried += 1
@@ -613,16 +690,16 @@ def test_derivatives():
 
 
 def test_round_trips():
-    """Undistort after distort comes back. bc's flag isn't held to yes: its last step isn't taken, so the
+    """Undistort after distort comes back. The flag of bc and bc12 isn't held to yes: the last step isn't taken, so the
     residual may stay a little above EPS on a good lens."""
     rng, tried = Splitmix(51), Counter()
-    for model in range(4):
+    for model in range(NO_MODEL):
         for _ in range(300):
             params, x, y = lens(rng, model), uniform(rng, -0.7, 0.7), uniform(rng, -0.7, 0.7)
             u, v = FUNCTIONS[model][DISTORT](params, x, y)
             back_x, back_y, _, flag = FUNCTIONS[model][UNDISTORT](params, u, v)
             assert math.hypot(back_x - x, back_y - y) < 1e-5, (model, params, x, y)
-            assert flag or model == BC
+            assert flag or model >= BC
             tried[MODELS[model], "yes" if flag else "no"] += 1
     print("round trips, by flag:", dict(tried))
 

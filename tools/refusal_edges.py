@@ -33,6 +33,8 @@ def refusal_4():
         "kb 1 1 0 0 0 0 0 X at (0.75, 0.5625)",
         "bc X 1 0 0 0 0 0 0 0 0 0 0 at (0.75, 0.5625)",
         "bc 1 1 0 0 0 0 0 0 0 0 0 X at (1e-200, 1e-200)",
+        "bc12 X 1 0 0 0 0 0 0 0 0 0 0 0 0 0 0 at (0.75, 0.5625)",
+        "bc12 1 1 0 0 0 0 0 0 0 0 0 0 0 0 0 X at (1e-200, 1e-200)",
         "affine 1 1 0 0 at (X, 0.5625)",
         "affine 1 1 0 0 at (0.75, X)",
     ):
@@ -47,7 +49,7 @@ def refusal_5():
     for words in ("affine X 1 0 0 at (0, 0)", "affine 1 X 0 0 at (0, 0)"):
         for operation in FOUR:
             yield operation, words, around_zero
-    for rest in ("eucm {} 0 0 0.5 1", "kb {} 0 0 0 0 0 0", "bc {} 0 0 0 0 0 0 0 0 0 0"):
+    for rest in ("eucm {} 0 0 0.5 1", "kb {} 0 0 0 0 0 0", "bc {} 0 0 0 0 0 0 0 0 0 0", "bc12 {} 0 0 0 0 0 0 0 0 0 0 0 0 0 0"):
         yield DISTORT, rest.format("X 1") + " at (0, 0)", around_zero
         yield DISTORT, rest.format("1 X") + " at (0, 0)", around_zero
 
@@ -93,6 +95,8 @@ def refusal_16():
 
 # the sixth power of X overflows, and a coefficient of 0 times that is NaN
 OVERFLOWN = "bc 1 1 0 0 0 0 0 0 0 0 0 0 at (X, 0)", {0x4A9965FEA53D6E3C: 0, 0x4A9965FEA53D6E3D: 11}
+# the same with a prism of zeros, which is refused no earlier: its largest power is the fourth
+NO_PRISM = "bc12 1 1 0 0 0 0 0 0 0 0 0 0 0 0 0 0 at (X, 0)", OVERFLOWN[1]
 
 # u is the angle times fx: with the largest fx that overflows once the angle passes 1, the angle of 1.557
 BENT = "kb largest 1 0 0 0 0 0 0 at (X, 0)", {0x3FF8EB245CBEE3A7: 0, 0x3FF8EB245CBEE3A8: 11}
@@ -116,6 +120,13 @@ def refusal_11_distort():
     yield DISTORT, "eucm 1 1 0 0 0.5 -1 at (X, 0)", {bits(1.0): 0, bits(1.0) + 1: 11}
     yield DISTORT, *BENT
     yield DISTORT, *OVERFLOWN
+    yield DISTORT, *NO_PRISM
+    # the squared radius is 2, and its square 4
+    yield from halves(DISTORT, "bc12 1 1 0 0 0 0 0 0 0 0 0 0 X 0 0 0 at (1, 1)")
+    yield from halves(DISTORT, "bc12 1 1 0 0 0 0 0 0 0 0 0 0 0 0 X 0 at (1, 1)", (0,))
+    quarter = bits(2.0**1022)
+    yield DISTORT, "bc12 1 1 0 0 0 0 0 0 0 0 0 0 0 X 0 0 at (1, 1)", {quarter - 1: 0, quarter: 11}
+    yield DISTORT, "bc12 1 1 0 0 0 0 0 0 0 0 0 0 0 0 0 X at (1, 1)", {quarter - 1: 0, quarter: 11}
 
 
 def refusal_11_undistort():
@@ -126,6 +137,7 @@ def refusal_11_undistort():
     yield UNDISTORT, LEVEL[0], {0x5FEFFFFFFFFFFFFF: 16, 0x5FF0000000000000: 11}
     yield UNDISTORT, "kb 1 1 0 0 0 0 0 1e299 at (X, 0)", {0x405C7AF03E0A18F3: 0, 0x405C7AF03E0A18F4: 11}
     yield UNDISTORT, *OVERFLOWN
+    yield UNDISTORT, *NO_PRISM
 
 
 def refusal_11_jacobians():
@@ -140,6 +152,14 @@ def refusal_11_jacobians():
     yield BY_PARAMS, "bc 1 1 0 0 0 0 0 0 0 0 0 0 at (X, 0)", {0x491381147622F886: 0, 0x491381147622F887: 11}
     pole = bits(-1.0)
     yield BY_PARAMS, "bc 1 1 0 0 0 0 0 0 0 X 0 0 at (1, 0)", {pole - 1: 0, pole: 11, pole + 1: 0}
+    # bc12 by the point: twice s1 or s3. By the parameters: on the axis x = 0 it is s2's column that overflows
+    yield BY_POINT, *NO_PRISM
+    yield from halves(BY_POINT, "bc12 1 1 0 0 0 0 0 0 0 0 0 0 X 0 0 0 at (1, 0)")
+    yield from halves(BY_POINT, "bc12 1 1 0 0 0 0 0 0 0 0 0 0 0 0 X 0 at (0, 1)", (0,))
+    sixteenth = bits(2.0**1020)
+    yield BY_PARAMS, "bc12 X 1 0 0 0 0 0 0 0 0 0 0 0 0 0 0 at (0, 2)", {sixteenth - 1: 0, sixteenth: 11}
+    yield BY_PARAMS, "bc12 1 X 0 0 0 0 0 0 0 0 0 0 0 0 0 0 at (2, 0)", {sixteenth - 1: 0, sixteenth: 11}
+    yield BY_PARAMS, "bc12 1 1 0 0 0 0 0 0 0 X 0 0 0 0 0 0 at (1, 0)", {pole - 1: 0, pole: 11, pole + 1: 0}
 
 
 def none_refused():
@@ -166,6 +186,8 @@ def by_hand():
     yield DISTORT, "bc 1 1 0 0 0 0 0 1 0 0 0 0 at (X, 1)", {1.0: 0}
     yield UNDISTORT, "bc 1 1 0 0 0 0 0 0 0 0 0 0 at (X, 4)", {3.0: 0}
     yield BY_PARAMS, "bc 1 1 0 0 0 0 0 0 0 0 0 0 at (X, 2)", {1.0: 0}
+    yield DISTORT, "bc12 1 1 0 0 0 0 0 0 0 0 0 0 1 2 3 4 at (X, 1)", {1.0: 0}
+    yield BY_PARAMS, "bc12 1 1 0 0 0 0 0 0 0 0 0 0 0 0 0 0 at (X, 2)", {1.0: 0}
 
 
 SECTIONS = (

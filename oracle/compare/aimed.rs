@@ -3,8 +3,9 @@
 use crate::cases::{valid, valid_camera, wild_place, Place, Random, LIMIT};
 use crate::judge::{Question, Trace};
 use crate::Oracle;
+use rust_text::Params;
 
-const KINDS: [&str; 12] = [
+const KINDS: [&str; 17] = [
     "eucm k above 0 by at most 1e-9",
     "eucm k below 0 by at most 1e-9, refused 16",
     "eucm k 0, refused 16",
@@ -17,10 +18,15 @@ const KINDS: [&str; 12] = [
     "bc k4 k5 k6 all +0",
     "bc k4 k5 k6 all -0",
     "bc k4 k5 k6 zeros of both signs",
+    "bc12 1/determinant above 1e9",
+    "bc12 determinant 0",
+    "bc12 s1 to s4 all +0",
+    "bc12 s1 to s4 all -0",
+    "bc12 s1 to s4 zeros of both signs",
 ];
 
 /// The z of an eucm ray, by docs/RULES.md 8.3.
-fn ray_z(params: &[f64; 12], pixel: [f64; 2]) -> f64 {
+fn ray_z(params: &Params, pixel: [f64; 2]) -> f64 {
     let [fx, fy, cx, cy, alpha, beta, ..] = *params;
     let (mx, my) = ((pixel[0] - cx) / fx, (pixel[1] - cy) / fy);
     let q = mx * mx + my * my;
@@ -28,26 +34,40 @@ fn ray_z(params: &[f64; 12], pixel: [f64; 2]) -> f64 {
     (1.0 - alpha * alpha * beta * q) / (alpha * (1.0 - (alpha - gamma) * beta * q).sqrt() + gamma)
 }
 
+/// Whether a bc12's prism is zeros, of either sign.
+fn no_prism(params: &Params) -> bool {
+    params[12..].iter().all(|&x| x == 0.0)
+}
+
 /// Which kinds an undistorted pixel is of.
-fn kinds(q: &Question, number: u8, trace: &Trace) -> [bool; 12] {
+fn kinds(q: &Question, number: u8, trace: &Trace) -> [bool; 17] {
     let k = if q.model == 1 { ray_z(&q.params, q.at) } else { f64::NAN };
     let near = |inverse: f64| 1e9 < inverse && inverse.is_finite();
     let theta = trace.theta;
-    let zeros = q.model == 3 && q.params[9..].iter().all(|&x| x == 0.0);
-    let minus = q.params[9..].iter().filter(|x| x.is_sign_negative()).count();
+    let (bc, bc12) = (q.model == 3, q.model == 4);
+    let zeros = bc && q.params[9..12].iter().all(|&x| x == 0.0);
+    let minus = |some: &[f64]| some.iter().filter(|x| x.is_sign_negative()).count();
+    let (last, prism) = (minus(&q.params[9..12]), minus(&q.params[12..]));
+    let singular = trace.inverse.iter().any(|x| x.is_infinite());
+    let flat = bc12 && no_prism(&q.params);
     [
         0.0 < k && k <= 1e-9,
         -1e-9 <= k && k < 0.0 && number == 16,
         k == 0.0 && number == 16,
-        near(trace.inverse[0]),
-        near(trace.inverse[1]),
-        trace.inverse.iter().any(|x| x.is_infinite()),
+        bc && near(trace.inverse[0]),
+        bc && near(trace.inverse[1]),
+        bc && singular,
         theta < 0.0 && number == 0,
         theta < -LIMIT && number == 10,
         theta == 0.0,
-        zeros && minus == 0,
-        zeros && minus == 3,
-        zeros && (minus == 1 || minus == 2),
+        zeros && last == 0,
+        zeros && last == 3,
+        zeros && (last == 1 || last == 2),
+        bc12 && trace.inverse.iter().any(|&inverse| near(inverse)),
+        bc12 && singular,
+        flat && prism == 0,
+        flat && prism == 4,
+        flat && (1..4).contains(&prism),
     ]
 }
 
@@ -62,7 +82,7 @@ fn about_one(r: &mut Random) -> f64 {
 }
 
 /// The pixel at a radius on the plane before focal lengths and centre, in any direction or on an axis.
-fn pixel_at(r: &mut Random, params: &[f64; 12], radius: f64) -> [f64; 2] {
+fn pixel_at(r: &mut Random, params: &Params, radius: f64) -> [f64; 2] {
     let turn = r.between(0.0, std::f64::consts::TAU);
     let zero = r.pick(&[0.0, -0.0]);
     let [x, y] = match r.below(4) {
@@ -74,7 +94,7 @@ fn pixel_at(r: &mut Random, params: &[f64; 12], radius: f64) -> [f64; 2] {
 }
 
 /// Somebody's focal lengths and centre, or such as keep a pixel's low bits: powers of two, or 1 and 0.
-fn plain(r: &mut Random, params: &mut [f64; 12]) {
+fn plain(r: &mut Random, params: &mut Params) {
     let size = (1 << r.below(8)) as f64;
     match r.below(3) {
         0 => {}
@@ -133,7 +153,7 @@ fn leading_to_singular() -> f64 {
 fn matrix_singular(r: &mut Random) -> Place {
     let at = r.pick(&[0.5, 1.0, 2.0, -0.5, -1.0, -2.0]);
     let q = at * at;
-    let mut params = [0.0; 12];
+    let mut params = Params::default();
     params[..4].copy_from_slice(&[r.pick(&[1.0, 256.0, -64.0]), r.pick(&[1.0, 128.0]), 0.0, r.pick(&[0.0, 64.0])]);
     params[4..6].copy_from_slice(&[3.0 / q, -2.0 / (q * q)]);
     let [x, y] = if r.one_in(2) { [at, 0.0] } else { [0.0, at] };
@@ -175,12 +195,46 @@ fn zeros_of_either_sign(r: &mut Random) -> Place {
     place
 }
 
+/// bc12 as a bc lens, somebody's, a wild one or one of zeros_of_either_sign, with zeros of either sign for its prism.
+fn prism_of_zeros(r: &mut Random) -> Place {
+    let mut place = [valid, wild_place, |r: &mut Random, _: usize| zeros_of_either_sign(r)][r.below(3)](r, 3);
+    for s in &mut place.params[12..] {
+        *s = r.pick(&[0.0, -0.0]);
+    }
+    if r.one_in(4) {
+        let all = r.pick(&[0.0, -0.0]);
+        place.params[12..].fill(all);
+    }
+    place
+}
+
+/// bc12 with s1 = -1/(2x) and s2 = -1/(4x³) by turns, or s3 and s4 and y: its matrix is singular there on the axis. Newton starts
+/// there.
+fn prism_near_singular(r: &mut Random) -> Place {
+    let mut params = valid_camera(r, 0, 640.0, 480.0);
+    plain(r, &mut params);
+    let exact = r.one_in(2);
+    let at = if exact { r.pick(&[0.5, 1.0, 2.0, -0.5, -1.0, -2.0]) } else { r.between(0.3, 2.0) };
+    let (second, fourth) = (r.one_in(2), r.one_in(2));
+    params[12 + 2 * second as usize + fourth as usize] = if fourth { -1.0 / (4.0 * at * at * at) } else { -1.0 / (2.0 * at) };
+    let off = if exact { at } else { at * about_one(r) };
+    let [x, y] = if second { [0.0, off] } else { [off, 0.0] };
+    let pixel = [x * params[0] + params[2], y * params[1] + params[3]];
+    Place { params, point: [x, y], pixel }
+}
+
 impl Oracle {
     /// So many points at each sort of place, by all four operations.
     pub fn aimed(&mut self, points: u64) {
-        let mut met = [0; 12];
-        let draws: [(usize, fn(&mut Random) -> Place); 4] =
-            [(1, ray_near_level), (3, matrix_near_singular), (2, angle_below_zero), (3, zeros_of_either_sign)];
+        let (mut met, mut like_bc) = ([0; KINDS.len()], [0; 3]);
+        let draws: [(usize, fn(&mut Random) -> Place); 6] = [
+            (1, ray_near_level),
+            (3, matrix_near_singular),
+            (2, angle_below_zero),
+            (3, zeros_of_either_sign),
+            (4, prism_of_zeros),
+            (4, prism_near_singular),
+        ];
         for (model, draw) in draws {
             for _ in 0..points {
                 let place = draw(&mut self.random);
@@ -192,7 +246,11 @@ impl Oracle {
                         continue;
                     }
                     let (owed, trace) = q.traced();
-                    self.hold(&q, q.ask_ours(), owed);
+                    let ours = q.ask_ours();
+                    self.hold(&q, ours, owed);
+                    if model == 4 && operation < 3 && no_prism(&q.params) {
+                        like_bc[operation] += self.hold_to_bc(&q, ours) as u64;
+                    }
                     if operation == 1 {
                         let of = kinds(&q, owed.number, &trace);
                         met.iter_mut().zip(of).for_each(|(count, is)| *count += is as u64);
@@ -201,7 +259,9 @@ impl Oracle {
             }
             self.points += points;
         }
-        println!("aimed: {} points", 4 * points);
+        println!("aimed: {} points", draws.len() as u64 * points);
+        println!("aimed: a prism of zeros, like bc's distort {}, undistort {}, dx_distort_x {}", like_bc[0], like_bc[1], like_bc[2]);
+        self.met("a prism of zeros, answered by bc", &like_bc, &[0, 1, 2]);
         for (kind, count) in KINDS.iter().zip(met) {
             println!("aimed: {}: {}", kind, count);
             self.met(kind, &[count], &[0]);

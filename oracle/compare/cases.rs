@@ -1,4 +1,5 @@
 // Random cameras and points, valid and wild.
+use rust_text::Params;
 
 /// The largest angle that has a tangent (docs/RULES.md 6.5).
 pub const LIMIT: f64 = 99.0 / 64.0;
@@ -61,14 +62,14 @@ pub fn wild(r: &mut Random) -> f64 {
 /// A camera, a point on its plane and a pixel.
 #[derive(Clone, Copy)]
 pub struct Place {
-    pub params: [f64; 12],
+    pub params: Params,
     pub point: [f64; 2],
     pub pixel: [f64; 2],
 }
 
 /// A lens that somebody might have, of an image of that size.
-pub fn valid_camera(r: &mut Random, model: usize, width: f64, height: f64) -> [f64; 12] {
-    let mut p = [0.0; 12];
+pub fn valid_camera(r: &mut Random, model: usize, width: f64, height: f64) -> Params {
+    let mut p = Params::default();
     p[0] = width * r.between(0.3, 2.5);
     p[1] = p[0] * r.between(0.9, 1.1);
     p[2] = width * r.between(0.4, 0.6);
@@ -87,6 +88,11 @@ pub fn valid_camera(r: &mut Random, model: usize, width: f64, height: f64) -> [f
         p[4] = r.between(0.0, 1.0);
         p[5] = r.between(0.3, 2.0);
     }
+    if model == 4 {
+        for (place, s) in p[12..].iter_mut().zip([0.02, 0.005, 0.02, 0.005]) {
+            *place = r.between(-s, s);
+        }
+    }
     p
 }
 
@@ -101,7 +107,7 @@ pub fn valid(r: &mut Random, model: usize) -> Place {
 }
 
 /// Points where a branch of the rules turns: kb's radius at the root of EPS, its angle at the tangent's limit, zero and one axis.
-fn edge(r: &mut Random, params: &[f64; 12]) -> [f64; 2] {
+fn edge(r: &mut Random, params: &Params) -> [f64; 2] {
     let size = match r.below(4) {
         0 => r.near(&[1e-3]),
         1 => {
@@ -121,19 +127,19 @@ fn edge(r: &mut Random, params: &[f64; 12]) -> [f64; 2] {
     }
 }
 
-/// A bc camera and a pixel whose first Newton step is as long as EPS, to within some units in the last place: the one place
+/// A camera of bc or bc12 and a pixel whose first Newton step is as long as EPS, to within some units in the last place: the one place
 /// where the way a norm is worked out shows. The pixel is close to the axis, so that the step keeps its low bits.
 fn settling(r: &mut Random) -> Place {
     let (radius, turn) = (r.between(4e-6, 3e-5), r.between(0.0, std::f64::consts::TAU));
     let at = [radius * turn.cos(), radius * turn.sin()];
-    let mut params = [0.0; 12];
+    let mut params = Params::default();
     params[..2].copy_from_slice(&[1.0, 1.0]);
     params[4] = 1e-6 / (radius * radius * radius - 3e-6 * radius * radius);
     Place { params, point: at, pixel: at }
 }
 
 pub fn wild_place(r: &mut Random, model: usize) -> Place {
-    if model == 3 && r.one_in(8) {
+    if model >= 3 && r.one_in(8) {
         return settling(r);
     }
     let mut place = valid(r, model);

@@ -1,7 +1,7 @@
 // Damaged questions.
 use crate::cases::{valid, Random};
 use crate::judge::{Question, MOST};
-use rust_text::COUNTS;
+use rust_text::{COUNTS, NO_MODEL};
 
 /// A NaN of any sign and payload, or an infinity.
 pub fn unfinished(r: &mut Random) -> f64 {
@@ -14,11 +14,11 @@ pub fn damage(r: &mut Random, q: &mut Question) {
     for _ in 0..1 + r.below(3) {
         match r.below(8) {
             0 => q.at[r.below(2)] = unfinished(r),
-            1 => q.params[r.below(COUNTS[q.model as usize & 3])] = unfinished(r),
+            1 => q.params[r.below(COUNTS[q.model as usize % NO_MODEL])] = unfinished(r),
             2 | 3 => q.params[r.below(2)] = r.pick(&[0.0, -0.0]),
             4 => q.params_length = r.below(MOST),
             5 => q.answer_length = r.below(MOST),
-            6 => q.params_length = 8 * COUNTS[r.below(4)],
+            6 => q.params_length = 8 * COUNTS[r.below(NO_MODEL)],
             _ => q.model = r.bits() as u8,
         }
     }
@@ -26,7 +26,7 @@ pub fn damage(r: &mut Random, q: &mut Question) {
 
 /// A camera, damaged or not.
 pub fn damaged_camera(r: &mut Random) -> Question {
-    let model = r.below(4);
+    let model = r.below(NO_MODEL);
     let mut q = Question::right(model, 0, valid(r, model).params, [0.0; 2]);
     if r.one_in(2) {
         damage(r, &mut q);

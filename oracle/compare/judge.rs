@@ -1,6 +1,6 @@
 // What the library owes on a question: document 01's refusals in their order, and else the Rust's answer, as bytes.
 use crate::lens;
-use rust_text::{ask, Angles, Answer, COUNTS};
+use rust_text::{ask, Angles, Answer, Params, COUNTS, NO_MODEL};
 use std::cell::Cell;
 
 /// What the Rust does without saying so, told by the stand-in.
@@ -82,7 +82,7 @@ impl Angles for PutIn {
 
 /// What is wrong with a camera that is handed over as bytes, or with the coordinates that go with it; the lowest number.
 pub fn camera_refused(model: u8, params: &[f64], params_length: usize, coordinates: &[f64]) -> Option<u8> {
-    if model > 3 {
+    if model as usize >= NO_MODEL {
         return Some(1);
     }
     let count = COUNTS[model as usize];
@@ -112,7 +112,7 @@ pub fn handed(numbers: &[f64]) -> [u8; MOST] {
 pub struct Question {
     pub model: u8,
     pub operation: usize,
-    pub params: [f64; 12],
+    pub params: Params,
     pub params_length: usize,
     pub at: [f64; 2],
     pub answer_length: usize,
@@ -123,7 +123,7 @@ pub const MOST: usize = 304;
 
 impl Question {
     /// A caller who keeps to the rules.
-    pub fn right(model: usize, operation: usize, params: [f64; 12], at: [f64; 2]) -> Question {
+    pub fn right(model: usize, operation: usize, params: Params, at: [f64; 2]) -> Question {
         let params_length = 8 * COUNTS[model];
         Question { model: model as u8, operation, params, params_length, at, answer_length: lens::LENGTHS[operation] }
     }
@@ -204,6 +204,12 @@ pub struct Given {
 impl Given {
     fn untouched(number: u8) -> Given {
         Given { number, bytes: [0xa5; MOST] }
+    }
+
+    /// Whether two answers are the same bits, the sign of a zero aside.
+    pub fn alike(&self, other: &Given) -> bool {
+        let same = |i: usize| self.float(i).to_bits() == other.float(i).to_bits() || self.float(i) == 0.0 && other.float(i) == 0.0;
+        self.number == other.number && (0..MOST / 8).all(same)
     }
 
     /// Number i of the answer.

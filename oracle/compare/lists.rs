@@ -6,6 +6,7 @@ use crate::lens;
 use crate::memory::{Lent, STRIP};
 use crate::record::bytes_of;
 use crate::{input, listed, Oracle, NUMBERS};
+use rust_text::NO_MODEL;
 
 const RECORD: usize = 40;
 const MOST_RECORDS: usize = 40;
@@ -80,7 +81,7 @@ impl Oracle {
         for _ in 0..lists {
             let r = &mut self.random;
             let camera = camera(r);
-            let (mut ours, pixels) = list(r, camera.model as usize & 3);
+            let (mut ours, pixels) = list(r, camera.model as usize % NO_MODEL);
             let mut owed = ours.clone();
             let whole = RECORD * pixels.len();
             let length = if r.one_in(8) { whole.saturating_sub(r.below(RECORD)) + r.below(STRIP) } else { whole };

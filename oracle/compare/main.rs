@@ -15,11 +15,10 @@ mod turns;
 
 use cases::{Random, LIMIT};
 use judge::{Given, Question};
-use rust_text::{ask, Platform};
+use rust_text::{ask, Platform, NAMES, NO_MODEL};
 use std::fs::File;
 use std::io::{BufWriter, Write};
 
-const MODELS: [&str; 4] = ["affine", "eucm", "kb", "bc"];
 const OPERATIONS: [&str; 4] = ["distort", "undistort", "dx_distort_x", "dx_distort_params"];
 
 /// Differences beyond this many are counted and not printed.
@@ -122,6 +121,16 @@ impl Oracle {
         }
     }
 
+    /// A bc12 whose prism is zeros gives what the Rust's bc gives where that answers, the sign of a zero aside. Says whether it
+    /// does.
+    fn hold_to_bc(&mut self, q: &Question, ours: Given) -> bool {
+        let bc = Question::right(3, q.operation, q.params, q.at).owed();
+        if bc.number == 0 && !ours.alike(&bc) {
+            self.differs(format!("{}: with a prism of zeros, ours {}, unlike bc's", input(q), ours.number));
+        }
+        bc.number == 0
+    }
+
     /// A question that the Rust has no answer to is answered, or refused with 11.
     fn hold_number(&mut self, q: &Question, ours: Given) {
         if ours.number != 0 && ours.number != 11 {
@@ -188,7 +197,7 @@ impl Oracle {
             let [valid, wild] = tally.outliers[operation];
             println!(
                 "{} {}: answered {}, refused {}; outliers of run two: valid {}, wild {}",
-                MODELS[model],
+                NAMES[model],
                 name,
                 numbers[0],
                 listed(numbers),
@@ -298,12 +307,8 @@ struct Tally {
     uncompared: [u64; 2],
 }
 
-/// Parts of a comparison, which standard error tells as they begin.
-const PARTS: [&str; 11] = [
-    "affine",
-    "eucm",
-    "kb",
-    "bc",
+/// Parts of a comparison behind the models, which standard error tells as they begin.
+const PARTS: [&str; 7] = [
     "root, arctangent, tangent",
     "the table printer",
     "tables in turns, and lookups in them",
@@ -314,34 +319,35 @@ const PARTS: [&str; 11] = [
 ];
 
 fn begins(part: usize) {
-    eprintln!("oracle: part {} of {}: {}", part + 1, PARTS.len(), PARTS[part]);
+    let name = if part < NO_MODEL { NAMES[part] } else { PARTS[part - NO_MODEL] };
+    eprintln!("oracle: part {} of {}: {}", part + 1, NO_MODEL + PARTS.len(), name);
 }
 
 fn all_parts(oracle: &mut Oracle, points: u64, tables: u64, printer: &[String]) {
-    for model in 0..4 {
+    for model in 0..NO_MODEL {
         begins(model);
         oracle.model(model, points);
     }
-    begins(4);
+    begins(NO_MODEL);
     oracle.functions_of_one_number(points);
-    begins(5);
+    begins(NO_MODEL + 1);
     if printer.is_empty() {
         println!("tables: none compared, no printer was named");
     } else {
         oracle.tables(tables, printer);
     }
-    begins(6);
+    begins(NO_MODEL + 2);
     oracle.random = Random(!oracle.seed);
     let mut lookups = lookups::Tally::default();
     oracle.turns(tables, |oracle, table| lookups.table(oracle, table));
     lookups.report(oracle);
-    begins(7);
+    begins(NO_MODEL + 3);
     oracle.jobs(points / 20);
-    begins(8);
+    begins(NO_MODEL + 4);
     oracle.lists(points / 50);
-    begins(9);
+    begins(NO_MODEL + 5);
     oracle.aimed(points / 10);
-    begins(10);
+    begins(NO_MODEL + 6);
     oracle.turns16(tables);
 }
 

@@ -1,29 +1,34 @@
 // The record of a build as bytes, by the layout in include/lens.h; and which bytes a turn refuses, by docs/RULES.md 5.2, 13.5.
 use crate::judge::camera_refused;
 use crate::tables::increments_number;
-use rust_text::COUNTS;
+use rust_text::{Params, COUNTS, LIMITS, MOST_PARAMS, NO_MODEL};
 
-pub const BYTES: usize = 208;
+pub const BYTES: usize = 240;
+/// Where the parameters stand, and behind all that there is room for: width and height, the units done, the edges.
+pub const PARAMS: usize = 8;
+pub const SIZE: usize = PARAMS + 8 * MOST_PARAMS;
+pub const DONE: usize = 144;
+pub const EDGES: usize = 152;
 /// Where count and first of the samples that haven't settled stand, and the strict mark.
-pub const TALLIES: usize = 184;
-pub const MARK: usize = 192;
+pub const TALLIES: usize = 216;
+pub const MARK: usize = 224;
 /// Where the check word stands, and what it is for words that are all 0: "LENSJOB2". Before the corners were done once it was
 /// "LENSJOB1".
-const CHECK: usize = 200;
+const CHECK: usize = 232;
 const CHECK_OF_ZEROS: u64 = 0x32424f4a534e454c;
 const CHECK_BEFORE: u64 = 0x31424f4a534e454c;
 /// Where the region stands, and its length.
-pub const REGION: usize = 152;
+pub const REGION: usize = 184;
 pub const REGION_BYTES: usize = 32;
 pub const ANSWER_BYTES: usize = 48;
-/// The most updates that one sample takes, by model.
-pub const LIMITS: [u64; 4] = [0, 0, 20, 50];
+/// A job of a release before bc12 had room for twelve parameters.
+pub const BYTES_OF_TWELVE: usize = 208;
 
 #[derive(Clone, Copy)]
 pub struct Record {
     pub model: u32,
     pub updates: u32,
-    pub params: [f64; 12],
+    pub params: Params,
     pub width: u32,
     pub height: u32,
     pub done: u64,
@@ -56,7 +61,7 @@ pub fn seal(bytes: &mut [u8]) {
     bytes[CHECK..].copy_from_slice(&check.to_le_bytes());
 }
 
-/// Makes of a right check word the one that the release before would have put.
+/// Makes of a right check word the one that a release with another border would have put.
 pub fn seal_as_before(bytes: &mut [u8]) {
     let check = word(bytes, CHECK).wrapping_sub(CHECK_OF_ZEROS).wrapping_add(CHECK_BEFORE);
     bytes[CHECK..].copy_from_slice(&check.to_le_bytes());
@@ -68,7 +73,7 @@ fn check_of(bytes: &[u8]) -> u64 {
 
 impl Record {
     /// Zeros for all but the camera, the size and the strict mark.
-    pub fn fresh(model: usize, params: [f64; 12], size: [u32; 2], strict: u8) -> Record {
+    pub fn fresh(model: usize, params: Params, size: [u32; 2], strict: u8) -> Record {
         let ([width, height], strict, box_of_zeros) = (size, strict as u64, [0.0; 4]);
         let (edges, region) = (box_of_zeros, box_of_zeros);
         Record { model: model as u32, updates: 0, params, width, height, done: 0, edges, region, unsettled: 0, first: 0, strict }
@@ -76,7 +81,7 @@ impl Record {
 
     /// Behind the model's own parameters stand zeros.
     pub fn bytes(&self) -> Vec<u8> {
-        let mut params = [0.0; 12];
+        let mut params = Params::default();
         let count = COUNTS[self.model as usize];
         params[..count].copy_from_slice(&self.params[..count]);
         let halves = |a: u32, b: u32| [a.to_le_bytes(), b.to_le_bytes()].concat();
@@ -93,15 +98,21 @@ impl Record {
         bytes
     }
 
+    /// As a release before bc12 held it: twelve parameters, and the same check word, since the others are zeros.
+    pub fn bytes_of_twelve(&self) -> Vec<u8> {
+        let bytes = self.bytes();
+        [&bytes[..PARAMS + 8 * 12], &bytes[SIZE..]].concat()
+    }
+
     pub fn read(bytes: &[u8]) -> Record {
         Record {
             model: half(bytes, 0),
             updates: half(bytes, 4),
-            params: floats(bytes, 8),
-            width: half(bytes, 104),
-            height: half(bytes, 108),
-            done: word(bytes, 112),
-            edges: floats(bytes, 120),
+            params: floats(bytes, PARAMS),
+            width: half(bytes, SIZE),
+            height: half(bytes, SIZE + 4),
+            done: word(bytes, DONE),
+            edges: floats(bytes, EDGES),
             region: floats(bytes, REGION),
             unsettled: half(bytes, TALLIES),
             first: half(bytes, TALLIES + 4),
@@ -157,7 +168,7 @@ pub fn refusal(job: &[u8], places: usize, answer_length: usize) -> u8 {
         return 7;
     }
     let held = Record::read(job);
-    if held.model > 3 {
+    if held.model as usize >= NO_MODEL {
         return 1;
     }
     let count = COUNTS[held.model as usize];

@@ -4,6 +4,7 @@ use crate::cases::{valid, wild, wild_place, Random};
 use crate::damage::damage;
 use crate::judge::{Given, Question};
 use crate::lens;
+use rust_text::{Params, NO_MODEL};
 use std::collections::HashMap;
 use std::fmt::Write;
 
@@ -21,8 +22,8 @@ fn draw(r: &mut Random, model: usize, operation: usize) -> Question {
     q
 }
 
-/// A line of 18 fields, 16 hexadecimal digits each: model, operation, bytes of parameters handed over, bytes lent, twelve
-/// parameters, two coordinates.
+/// A line of fields, 16 hexadecimal digits each: model, operation, bytes of parameters handed over, bytes lent, as many
+/// parameters as a model has at most, two coordinates.
 fn question_line(q: &Question) -> String {
     let counts = [q.model as u64, q.operation as u64, q.params_length as u64, q.answer_length as u64];
     let floats = q.params.iter().chain(&q.at).map(|x| x.to_bits());
@@ -47,8 +48,8 @@ pub fn sample(seed: u64) -> (String, String) {
     let mut have: HashMap<(usize, usize, u8), usize> = HashMap::new();
     let (mut questions, mut answers) = (String::new(), String::new());
     let mut lines = 0;
-    for turn in 0..400_000 {
-        let (model, operation) = (turn % 4, turn / 4 % 4);
+    for turn in 0..500_000 {
+        let (model, operation) = (turn % NO_MODEL, turn / NO_MODEL % 4);
         let q = draw(&mut r, model, operation);
         if q.without_rust() {
             continue;
@@ -64,7 +65,7 @@ pub fn sample(seed: u64) -> (String, String) {
     }
     // Roots: operation 4, of which the first coordinate is the number.
     for _ in 0..ANSWERED {
-        let mut q = Question::right(0, 0, [0.0; 12], [wild(&mut r), 0.0]);
+        let mut q = Question::right(0, 0, Params::default(), [wild(&mut r), 0.0]);
         q.operation = 4;
         questions += &question_line(&q);
         let root = q.at[0].sqrt();

@@ -4,15 +4,13 @@ use crate::cases::{valid_camera, wild_place, Random};
 use crate::judge::{camera_refused, trace, PutIn};
 use rust_text::distortion_table::distort_table;
 use rust_text::dyn_camera::{DynCameraF64, Lens};
-use rust_text::{ask, ImageSize, COUNTS};
+use rust_text::{ask, ImageSize, Params, COUNTS, NAMES, NO_MODEL};
 use std::cell::RefCell;
 use std::collections::HashSet;
 use std::fmt::Write as _;
 use std::io::Write as _;
 use std::process::{Command, Stdio};
 use std::rc::Rc;
-
-const NAMES: [&str; 4] = ["affine", "eucm", "kb", "bc"];
 
 /// What a camera file asks for.
 #[derive(Clone)]
@@ -42,7 +40,7 @@ struct Notes {
 
 struct Noting {
     model: usize,
-    params: [f64; 12],
+    params: Params,
     notes: Rc<RefCell<Notes>>,
 }
 
@@ -160,7 +158,7 @@ impl Built {
 
 impl Asked {
     pub fn random(r: &mut Random) -> Asked {
-        let model = r.below(4);
+        let model = r.below(NO_MODEL);
         let (mut width, mut height) = (2 + r.below(63), 2 + r.below(63));
         if r.one_in(20) {
             (width, height) = [(2, 2048), (2048, 2), (1, 9), (9, 1), (65, 64), (4097, 2), (64, 64)][r.below(7)];
@@ -193,15 +191,15 @@ impl Asked {
         camera_refused(self.model as u8, &self.params, 8 * self.params.len(), &[]).or(if sized { None } else { Some(6) })
     }
 
-    /// The parameters, and zeros up to twelve.
-    pub fn twelve(&self) -> [f64; 12] {
+    /// The parameters, and zeros up to the most.
+    pub fn filled(&self) -> Params {
         std::array::from_fn(|i| self.params.get(i).copied().unwrap_or(0.0))
     }
 
     /// The Rust's table.
     pub fn built(&self) -> Built {
         let notes = Rc::new(RefCell::new(Notes::default()));
-        let lens = Noting { model: self.model, params: self.twelve(), notes: notes.clone() };
+        let lens = Noting { model: self.model, params: self.filled(), notes: notes.clone() };
         let size = ImageSize { width: self.width, height: self.height };
         let table = distort_table(&DynCameraF64 { lens: Box::new(lens), size });
         let Notes { samples: all, pixels } = notes.take();

@@ -9,7 +9,7 @@ use crate::tables::{is_tie, nearest_32nd, too_far, Asked, Built};
 use crate::{damage, listed, Oracle, NUMBERS};
 use rust_text::linalg::VecF64;
 use rust_text::region::BoxRegion;
-use rust_text::COUNTS;
+use rust_text::{COUNTS, LIMITS, MOST_PARAMS, NO_MODEL};
 
 /// A kind of table: one number of a cell, as the oracle keeps it.
 trait Cell: Junk {
@@ -88,7 +88,7 @@ pub struct Tally {
     turns_refused: [u64; NUMBERS],
     calls_refused: [u64; NUMBERS],
     taken: u64,
-    /// Sound jobs but for the check word, which is that of the release before.
+    /// Sound jobs as two releases before held them: by another check word, and by another length.
     of_before: u64,
     unsettled: Unsettled,
     corners: Corners,
@@ -168,7 +168,7 @@ impl<T: Cell> Build<T> {
         Record {
             model: self.asked.model as u32,
             updates: swept.updates,
-            params: self.asked.twelve(),
+            params: self.asked.filled(),
             width: self.asked.width as u32,
             height: self.asked.height as u32,
             done: self.done as u64,
@@ -244,18 +244,24 @@ impl<T: Cell> Build<T> {
         self.owed = self.owed.moved(&mut Random(seed));
     }
 
-    /// The job as it is but for the check word, which is the one of the release before: refused with 13, and nothing written.
+    /// The job as releases before held it, refused and nothing written: the same bytes but for the check word, which 13
+    /// refuses; and with room for twelve parameters, which 7 does.
     fn of_before(&mut self, allowance: u64) -> Result<(), String> {
         let right = self.record().bytes();
-        let mut job = right.clone();
-        record::seal_as_before(&mut job);
-        self.ours.job.put(&job);
-        self.owed.job.put(&job);
-        let kept = &mut self.ours;
-        let given = T::turn(kept.job.lend(), kept.table.lend(), allowance, kept.answer.lend());
-        let judged = self.judged(given, 13, "a job of the release before");
-        self.ours.job.put(&right);
-        self.owed.job.put(&right);
+        let mut other_border = right.clone();
+        record::seal_as_before(&mut other_border);
+        let of_twelve = self.record().bytes_of_twelve();
+        assert_eq!(of_twelve.len(), record::BYTES_OF_TWELVE);
+        let mut judged = Ok(());
+        for (job, number) in [(other_border, 13), (of_twelve, 7)] {
+            self.ours.job.put(&job);
+            self.owed.job.put(&job);
+            let kept = &mut self.ours;
+            let given = T::turn(kept.job.lend_of_length(job.len()), kept.table.lend(), allowance, kept.answer.lend());
+            judged = judged.and(self.judged(given, number, "a job of a release before"));
+            self.ours.job.put(&right);
+            self.owed.job.put(&right);
+        }
         judged
     }
 
@@ -315,17 +321,17 @@ fn damage_of_record(r: &mut Random, held: &Record) -> (usize, usize, u64) {
     let any = r.bits();
     let count = COUNTS[held.model as usize];
     let samples = held.samples_done();
-    let limit = record::LIMITS[held.model as usize] * samples;
+    let limit = LIMITS[held.model as usize] * samples;
     match r.below(16) {
-        0 => (0, 4, [4, 255, 256, 1 << 31, any, any % 4][r.below(6)]),
-        1 => (8 + 8 * r.below(count), 8, unfinished),
-        2 => (8 + 8 * r.below(2), 8, [0, 1 << 63][r.below(2)]),
+        0 => (0, 4, [NO_MODEL as u64, 255, 256, 1 << 31, any, any % NO_MODEL as u64][r.below(6)]),
+        1 => (record::PARAMS + 8 * r.below(count), 8, unfinished),
+        2 => (record::PARAMS + 8 * r.below(2), 8, [0, 1 << 63][r.below(2)]),
         // not read, and 0 after the turn
-        3 if count < 12 => (8 + 8 * (count + r.below(12 - count)), 8, any),
-        3 | 4 => (104 + 4 * r.below(2), 4, [0, 1, 2, 4096, 4097, any][r.below(6)]),
+        3 if count < MOST_PARAMS => (record::PARAMS + 8 * (count + r.below(MOST_PARAMS - count)), 8, any),
+        3 | 4 => (record::SIZE + 4 * r.below(2), 4, [0, 1, 2, 4096, 4097, any][r.below(6)]),
         5 => (4, 4, [limit, limit + 1, u32::MAX as u64, any][r.below(4)]),
-        6 | 7 => (112, 8, [held.border(), held.all(), held.all() + 1, u64::MAX, any % (2 * held.all())][r.below(5)]),
-        8 => (120 + 8 * r.below(4), 8, unfinished),
+        6 | 7 => (record::DONE, 8, [held.border(), held.all(), held.all() + 1, u64::MAX, any % (2 * held.all())][r.below(5)]),
+        8 => (record::EDGES + 8 * r.below(4), 8, unfinished),
         9 => (record::REGION + 8 * r.below(4), 8, unfinished),
         // an edge where another is, or far off
         10 => (record::REGION + 8 * r.below(4), 8, held.region[r.below(4)].to_bits()),
@@ -358,9 +364,10 @@ fn allowance<T>(r: &mut Random, style: usize, build: &Build<T>) -> u64 {
     units as u64
 }
 
-/// Tables whose units are refused, each number among them, and the two zeros of bc's last coefficients.
+/// Tables whose units are refused, each number among them, and the two zeros of bc's last coefficients and of bc12's prism.
 fn refused_tables() -> Vec<(usize, Vec<f64>, usize, usize)> {
     let bc = |k1: f64, last: f64| vec![1.0, 1.0, -1.0, -1.0, k1, 0.0, 0.0, 0.0, 0.0, last, last, last];
+    let bc12 = |k1: f64, s: f64| [bc(k1, s), vec![s; 4]].concat();
     vec![
         (0, vec![1.0, 1.0, 1e300, 0.0], 3, 2),
         (0, vec![1.0, 2e-308, 1e300, 0.0], 5, 2),
@@ -371,6 +378,9 @@ fn refused_tables() -> Vec<(usize, Vec<f64>, usize, usize)> {
         (2, vec![1.0, 1.0, 0.0, 0.0, 0.0, 0.0, 0.0, 0.0], 3, 2),
         (3, bc(1e55, 0.0), 3, 3),
         (3, bc(1e55, -0.0), 4, 3),
+        (4, bc12(1e55, 0.0), 3, 3),
+        (4, bc12(1e55, -0.0), 4, 3),
+        (4, bc12(0.0, 1e307), 3, 3),
     ]
 }
 
@@ -388,6 +398,8 @@ fn unsettled_tables() -> Vec<(usize, Vec<f64>, usize, usize)> {
         (3, vec![4.81, 4.11, 0.44, -0.41, -0.95, -0.07, -0.04, 0.0, 0.06, 0.0, 0.0, -0.36], 3, 2),
         (3, vec![1.54, 1.54, 0.5, 0.5, -0.85, 0.16, 0.04, 0.07, -0.06, -0.26, 0.33, 0.9], 2, 2),
         (3, vec![12.0, 12.0, 16.0, 12.0, 0.4, -1.2, 0.0, 0.0, -0.2, 0.0, 2.1, 0.0], 32, 24),
+        (4, vec![3.68, 6.69, 0.58, 1.13, 0.59, 0.52, 0.0, 0.0, -0.1, -0.49, -0.63, -0.16, 0.01, 0.0, -0.02, 0.01], 3, 2),
+        (4, vec![9.0, 9.0, 16.0, 12.0, 0.0, 0.0, 0.0, 0.0, 0.0, 0.0, 0.0, 0.0, 0.4, -0.3, -0.5, 0.1], 32, 24),
     ]
 }
 
@@ -397,7 +409,7 @@ fn fixed_tables(r: &mut Random) -> Vec<Asked> {
     let of = |model: usize, params: &[f64], width: usize, height: usize| Asked { model, params: params.to_vec(), width, height };
     let kb = [1000.0, 1000.0, 320.0, 280.0, 0.1, 0.01, 0.001, 0.0001];
     let mut fixed = vec![of(2, &kb, 640, 480), of(2, &kb, 640, 480)];
-    for (model, width, height) in [(0, 640, 480), (1, 640, 480), (3, 640, 480), (0, 4096, 2), (3, 2, 4096)] {
+    for (model, width, height) in [(0, 640, 480), (1, 640, 480), (3, 640, 480), (4, 640, 480), (0, 4096, 2), (4, 2, 4096)] {
         let params = valid_camera(r, model, width as f64, height as f64);
         fixed.push(of(model, &params[..COUNTS[model]], width, height));
     }
@@ -443,7 +455,7 @@ fn begun<T: Cell>(r: &mut Random, asked: Asked, strict: bool) -> Result<Option<B
     let given = lens::job_new(asked.model as u8, params, size, strict as u8, job.lend());
     let refused = asked.refused_at_once();
     if refused.is_none() {
-        owed_job.put(&Record::fresh(asked.model, asked.twelve(), size, strict as u8).bytes());
+        owed_job.put(&Record::fresh(asked.model, asked.filled(), size, strict as u8).bytes());
     }
     if given != refused.unwrap_or(0) || job != owed_job {
         return Err(format!("fresh job of {:?}: gave {}, owed {:?}", asked.text(), given, refused));
@@ -538,7 +550,7 @@ impl Unsettled {
 fn corner_updates(asked: &Asked) -> u64 {
     let (right, bottom) = (asked.width as f64 - 0.5, asked.height as f64 - 0.5);
     let corners = [[-0.5, -0.5], [-0.5, bottom], [right, -0.5], [right, bottom]];
-    corners.iter().map(|&pixel| Question::right(asked.model, 1, asked.twelve(), pixel).traced().1.updates as u64).sum()
+    corners.iter().map(|&pixel| Question::right(asked.model, 1, asked.filled(), pixel).traced().1.updates as u64).sum()
 }
 
 impl Corners {
@@ -630,7 +642,7 @@ impl Oracle {
             listed(&tally.units_refused)
         );
         println!(
-            "turns of sixteen bits before any unit: refused {}; damaged records taken {}; jobs of the release before {}",
+            "turns of sixteen bits before any unit: refused {}; damaged records taken {}; jobs of releases before {}",
             listed(&tally.calls_refused),
             tally.taken,
             tally.of_before
@@ -678,9 +690,9 @@ impl Oracle {
             "corners once: {} borders, {} with updates at a corner; updates of the Rust's sweeps {}, of ours {}, of the corners {}",
             borders, taking, rust, ours, corners
         );
-        println!("jobs of the release before, refused 13: {}", tally.of_before);
+        println!("jobs of releases before, refused 13 by the check word and 7 by the length: {}", tally.of_before);
         self.met("corners with updates, and without", &[*taking, borders - taking], &[0, 1]);
-        self.met("jobs of the release before", &[tally.of_before], &[0]);
+        self.met("jobs of releases before", &[tally.of_before], &[0]);
         self.met("first unsettled sample: none, 1, a later one, the last", first, &[0, 1, 2, 3]);
         self.met("the last sample unsettled", &[0, *last], &[1]);
         self.met("18 before the region's 8, its own number before 18", &[*before_8, *own_number], &[0, 1]);

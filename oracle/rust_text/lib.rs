@@ -3,7 +3,8 @@
 // than the five files ask for. `extern crate self` puts this crate in the place of each crate that they name.
 //
 // What a reader should check is short: the order of operations in norm, matrix times vector, scaled matrix, and the box
-// region's centre and range, which the five files don't show. They are docs/DIFFERENCES.md, section 3.
+// region's centre and range, which the five files don't show. They are docs/DIFFERENCES.md, section 3. And thin_prism, bc12: the
+// five files have none of it.
 extern crate self as log;
 extern crate self as nalgebra;
 extern crate self as sophus_autodiff;
@@ -14,9 +15,10 @@ mod arrays;
 mod ask;
 mod scalar;
 mod tables;
+mod thin_prism;
 
 pub use arrays::{SMatrix, SVector, UnitVector3};
-pub use ask::{ask, ask_model, Answer, Platform, COUNTS};
+pub use ask::{ask, ask_model, Answer, Params, Platform, COUNTS, LIMITS, MOST_PARAMS, NAMES, NO_MODEL};
 pub use scalar::{Angles, Num};
 pub use tables::{interpolate_xf32, ArcImage2F32, ImageSize, MutImage2F32};
 

@@ -1,35 +1,36 @@
--- Which camera is read, case by case. Assumes nothing.
-use mathlib.Core.Path.{_≡_, refl, sym, ap, _∙_, subst}
+-- What an operation gives of what is read, where 4 is tried before it. Assumes nothing.
+use mathlib.Core.Path.{_≡_, refl, sym, ap, _∙_}
+use mathlib.Core.Bool.{Bool, true, false, cond}
 use mathlib.Core.List.{List}
 use Prim.Native.Nat.{ℕ}
+use native.Mathlib.Omega.{arith}
 use Rattle.lens.specs.Finite.{all-finite}
-use Rattle.lens.specs.Judgement.{decided}
-use Rattle.lens.specs.declared.Judgement.{Judgement}
-use Rattle.lens.specs.declared.Judgement.the-variants as Judged
-use Rattle.lens.specs.declared.Refusal.{Refusal}
+use Rattle.lens.specs.declared.Refusal.the-variants.{NotFinite}
 use Rattle.camera.specs.Camera.{parameters}
-use Rattle.camera_bytes.specs.Reading.{camera-of, known, judged, read}
-use Rattle.camera_bytes.specs.declared.Tested.{Tested}
-use Rattle.camera_bytes.proofs.Laws.{read-is}
+use Rattle.camera.specs.declared.Camera.{Camera}
+use Rattle.camera_bytes.specs.Reading.{read, finite-only, read-finite}
 use Rattle.camera_bytes.specs.declared.Asked.{Asked}
 use Rattle.camera_bytes.specs.declared.Asked.the-variants.{Of, Refused}
 
-module _ (model : ℕ) (p : List ℕ) where
-  -- once 1 and 3 are tried
-  read-refused : {refusal : Refusal} → judged model p ≡ Judged.Refused refusal → read model p ≡ Refused refusal
-  read-refused e = read-is model p ∙ ap (λ (j : Judgement). decided j Refused (Of (camera-of model p))) e
+-- a camera that passed is finite
+pub passed : {camera : Camera} (a : Asked) → finite-only a ≡ Of camera → all-finite (parameters camera) ≡ true
+passed (Refused r) e = let z : _≡_ {A = ℕ} 0 1 = cc in absurd (omega arith)
+passed {camera} (Of c) e = by-finite (all-finite (parameters c)) refl e
+  where
+    by-finite : (b : Bool) → all-finite (parameters c) ≡ b → cond b (Of c) (Refused NotFinite) ≡ Of camera → all-finite (parameters camera) ≡ true
+    by-finite true f g = let same : c ≡ camera = cc in sym (ap (λ (k : Camera). all-finite (parameters k)) same) ∙ f
+    by-finite false f g = let z : _≡_ {A = ℕ} 0 1 = cc in absurd (omega arith)
 
-  read-taken : judged model p ≡ Judged.Taken → read model p ≡ Of (camera-of model p)
-  read-taken e = read-is model p ∙ ap (λ (j : Judgement). decided j Refused (Of (camera-of model p))) e
+-- an operation that refuses with 4 by itself
+module _ {D : Type 0} (operation : Asked → D) (four : (camera : Camera) → all-finite (parameters camera) ≡ false → operation (Of camera) ≡ operation (Refused NotFinite)) where
+  tried-before : (a : Asked) → operation (finite-only a) ≡ operation a
+  tried-before (Refused r) = refl
+  tried-before (Of c) = by-finite (all-finite (parameters c)) refl
+    where
+      by-finite : (b : Bool) → all-finite (parameters c) ≡ b → operation (cond b (Of c) (Refused NotFinite)) ≡ operation (Of c)
+      by-finite true f = refl
+      by-finite false f = sym (four c f)
 
-  -- a camera that is read is tested
-  pub tested-sure : {tested : Tested} → tested ≡ known model p → tested .finite ≡ all-finite (parameters (tested .camera))
-  tested-sure {tested} e = subst (λ (t : Tested). t .finite ≡ all-finite (parameters (t .camera))) (sym e) refl
-
-  -- what an operation gives of what is read
-  module _ {D : Type 0} (operation : Asked → D) {d : D} {j : Judgement} (tried : j ≡ judged model p) where
-    pub when-refused : {refusal : Refusal} → j ≡ Judged.Refused refusal → d ≡ operation (Refused refusal) → d ≡ operation (read model p)
-    when-refused e f = f ∙ sym (ap operation (read-refused (sym tried ∙ e)))
-
-    pub when-taken : {tested : Tested} → j ≡ Judged.Taken → tested ≡ known model p → d ≡ operation (Of (tested .camera)) → d ≡ operation (read model p)
-    when-taken e k f = f ∙ ap (λ (t : Tested). operation (Of (t .camera))) k ∙ sym (ap operation (read-taken (sym tried ∙ e)))
+  -- what it gives of what was read, whichever case that is, it gives of what is asked
+  pub answers : {d : D} {q case : Asked} (model : ℕ) (p : List ℕ) → q ≡ read-finite model p → q ≡ case → d ≡ operation case → d ≡ operation (read model p)
+  answers model p e f g = g ∙ sym (ap operation f) ∙ ap operation e ∙ tried-before (read model p)

@@ -9,19 +9,18 @@ ghost use Rattle.lens.specs.Distorted.{told-pixel};
 ghost use Rattle.lens.specs.Undistorted.{told};
 ghost use Rattle.lens.specs.Finite.{all-finite};
 ghost use Rattle.lens.specs.Jacobian.{entries};
-ghost use Rattle.camera.specs.Camera.{parameters, judged, distort, undistort, dx-distort-x, dx-distort-params};
+ghost use Rattle.camera.specs.Camera.{parameters, distort, undistort, dx-distort-x, dx-distort-params};
 ghost use Rattle.camera_bytes.specs.Reading.{read};
 ghost use Rattle.given.specs.Given.{given};
 ghost use Rattle.answer_bytes.specs.Answer.{columns-place, give-pixel, give-point, give-jacobian};
 ghost use Rattle.answer_bytes.specs.Answer.{distorted, undistorted, slopes, parameter-slopes, distort-bytes, undistort-bytes, dx-distort-x-bytes, dx-distort-params-bytes};
 use camera::Camera;
 use camera::Differentiated;
-use camera_bytes::Tested;
+use camera_bytes::Asked;
 use lens::Distorted;
 use lens::Judgement;
 use lens::Pixel;
 use lens::Point;
-use lens::Refusal;
 use lens::Settled;
 use lens::Undistorted;
 
@@ -48,25 +47,12 @@ pub fn told_pixel(distorted: Distorted) -> ToldPixel
     }
 }
 
-// 4 and then 5, of a camera of which it is known whether its parameters are finite.
-fn judged(finite: bool, camera: Camera, x: f64, y: f64) -> Judgement
-    requires { ⌜ finite ≡ all-finite (parameters camera) ⌝ }
-    ensures { λ r. ⌜ r ≡ judged camera x y ⌝ }
+// The pixel that a camera gives whose parameters are finite.
+fn distorted_by(camera: Camera, point: Point) -> Distorted
+    requires { ⌜ all-finite (parameters camera) ≡ true ⌝ }
+    ensures { λ r. ⌜ told-pixel r ≡ told-pixel (distort camera point) ⌝ }
 {
-    if finite {
-        camera::placed(camera, x, y)
-    } else {
-        Judgement::Refused(Refusal::NotFinite)
-    }
-}
-
-// The pixel that such a camera gives.
-fn distorted_by(tested: Tested, point: Point) -> Distorted
-    requires { ⌜ tested .finite ≡ all-finite (parameters (tested .camera)) ⌝ }
-    ensures { λ r. ⌜ told-pixel r ≡ told-pixel (distort (tested .camera) point) ⌝ }
-{
-    let camera = tested.camera;
-    match judged(tested.finite, camera, point.0, point.1) {
+    match camera::placed(camera, point.0, point.1) {
         Judgement::Refused(refusal) => Distorted::Refused(refusal),
         Judgement::Taken => camera::distort_judged(camera, point),
     }
@@ -76,9 +62,9 @@ fn distorted_by(tested: Tested, point: Point) -> Distorted
 fn distorted(model: u8, params: &[u8], point: Point) -> Distorted
     ensures { λ r. ⌜ told-pixel r ≡ told-pixel (distorted (read model (now (params .entry))) point) ⌝ }
 {
-    match camera_bytes::judged(model, params) {
-        Judgement::Refused(refusal) => Distorted::Refused(refusal),
-        Judgement::Taken => distorted_by(camera_bytes::known(model, params), point),
+    match camera_bytes::read_finite(model, params) {
+        Asked::Refused(refusal) => Distorted::Refused(refusal),
+        Asked::Of(camera) => distorted_by(camera, point),
     }
 }
 
@@ -129,12 +115,11 @@ fn told_point(undistorted: Undistorted) -> ToldPoint
     }
 }
 
-fn undistorted_by(tested: Tested, pixel: Pixel) -> Undistorted
-    requires { ⌜ tested .finite ≡ all-finite (parameters (tested .camera)) ⌝ }
-    ensures { λ r. ⌜ told r ≡ told (undistort (tested .camera) pixel) ⌝ }
+fn undistorted_by(camera: Camera, pixel: Pixel) -> Undistorted
+    requires { ⌜ all-finite (parameters camera) ≡ true ⌝ }
+    ensures { λ r. ⌜ told r ≡ told (undistort camera pixel) ⌝ }
 {
-    let camera = tested.camera;
-    match judged(tested.finite, camera, pixel.0, pixel.1) {
+    match camera::placed(camera, pixel.0, pixel.1) {
         Judgement::Refused(refusal) => Undistorted::Refused(refusal),
         Judgement::Taken => camera::undistort_judged(camera, pixel),
     }
@@ -143,9 +128,9 @@ fn undistorted_by(tested: Tested, pixel: Pixel) -> Undistorted
 fn undistorted(model: u8, params: &[u8], pixel: Pixel) -> Undistorted
     ensures { λ r. ⌜ told r ≡ told (undistorted (read model (now (params .entry))) pixel) ⌝ }
 {
-    match camera_bytes::judged(model, params) {
-        Judgement::Refused(refusal) => Undistorted::Refused(refusal),
-        Judgement::Taken => undistorted_by(camera_bytes::known(model, params), pixel),
+    match camera_bytes::read_finite(model, params) {
+        Asked::Refused(refusal) => Undistorted::Refused(refusal),
+        Asked::Of(camera) => undistorted_by(camera, pixel),
     }
 }
 
@@ -174,12 +159,11 @@ pub fn undistort(model: u8, params: &[u8], u: f64, v: f64, answer: &mut [u8]) ->
 }
 
 // The derivatives that such a camera gives, by the point,
-fn slopes_by(tested: Tested, point: Point) -> Differentiated
-    requires { ⌜ tested .finite ≡ all-finite (parameters (tested .camera)) ⌝ }
-    ensures { λ r. ⌜ r ≡ dx-distort-x (tested .camera) point ⌝ }
+fn slopes_by(camera: Camera, point: Point) -> Differentiated
+    requires { ⌜ all-finite (parameters camera) ≡ true ⌝ }
+    ensures { λ r. ⌜ r ≡ dx-distort-x camera point ⌝ }
 {
-    let camera = tested.camera;
-    match judged(tested.finite, camera, point.0, point.1) {
+    match camera::placed(camera, point.0, point.1) {
         Judgement::Refused(refusal) => camera::refused(refusal),
         Judgement::Taken => camera::dx_distort_x_judged(camera, point),
     }
@@ -188,19 +172,18 @@ fn slopes_by(tested: Tested, point: Point) -> Differentiated
 fn slopes(model: u8, params: &[u8], point: Point) -> Differentiated
     ensures { λ r. ⌜ r ≡ slopes (read model (now (params .entry))) point ⌝ }
 {
-    match camera_bytes::judged(model, params) {
-        Judgement::Refused(refusal) => camera::refused(refusal),
-        Judgement::Taken => slopes_by(camera_bytes::known(model, params), point),
+    match camera_bytes::read_finite(model, params) {
+        Asked::Refused(refusal) => camera::refused(refusal),
+        Asked::Of(camera) => slopes_by(camera, point),
     }
 }
 
 // and by its parameters.
-fn parameter_slopes_by(tested: Tested, point: Point) -> Differentiated
-    requires { ⌜ tested .finite ≡ all-finite (parameters (tested .camera)) ⌝ }
-    ensures { λ r. ⌜ r ≡ dx-distort-params (tested .camera) point ⌝ }
+fn parameter_slopes_by(camera: Camera, point: Point) -> Differentiated
+    requires { ⌜ all-finite (parameters camera) ≡ true ⌝ }
+    ensures { λ r. ⌜ r ≡ dx-distort-params camera point ⌝ }
 {
-    let camera = tested.camera;
-    match judged(tested.finite, camera, point.0, point.1) {
+    match camera::placed(camera, point.0, point.1) {
         Judgement::Refused(refusal) => camera::refused(refusal),
         Judgement::Taken => camera::dx_distort_params_judged(camera, point),
     }
@@ -209,9 +192,9 @@ fn parameter_slopes_by(tested: Tested, point: Point) -> Differentiated
 fn parameter_slopes(model: u8, params: &[u8], point: Point) -> Differentiated
     ensures { λ r. ⌜ r ≡ parameter-slopes (read model (now (params .entry))) point ⌝ }
 {
-    match camera_bytes::judged(model, params) {
-        Judgement::Refused(refusal) => camera::refused(refusal),
-        Judgement::Taken => parameter_slopes_by(camera_bytes::known(model, params), point),
+    match camera_bytes::read_finite(model, params) {
+        Asked::Refused(refusal) => camera::refused(refusal),
+        Asked::Of(camera) => parameter_slopes_by(camera, point),
     }
 }
 

@@ -11,15 +11,17 @@ use Rattle.enhanced_unified.proofs.Fits as eucm
 use Rattle.kannala_brandt.proofs.Fits as kb
 use Rattle.lens.specs.Fits.{PointFits}
 use Rattle.brown_conrady.proofs.Fits as bc
+use Rattle.thin_prism.proofs.Fits as bc12
 use Rattle.camera.specs.Camera.{point-of, finite-point, undistort-judged}
 use Rattle.camera.specs.declared.Camera.{Camera}
-use Rattle.camera.specs.declared.Camera.the-variants.{Affine, EnhancedUnified, KannalaBrandt, BrownConrady}
+use Rattle.camera.specs.declared.Camera.the-variants.{Affine, EnhancedUnified, KannalaBrandt, BrownConrady, ThinPrism}
 
 point-fits : (camera : Camera) (pixel : Pixel) → PointFits (point-of camera pixel)
 point-fits (Affine p) pixel = affine.undistort-fits p pixel
 point-fits (EnhancedUnified p) pixel = eucm.undistort-fits p pixel
 point-fits (KannalaBrandt p) pixel = kb.undistort-fits tangent p pixel
 point-fits (BrownConrady p) pixel = bc.undistort-fits p pixel
+point-fits (ThinPrism p) pixel = bc12.undistort-fits p pixel
 
 still-fits : (u : Undistorted) → PointFits u → PointFits (finite-point u)
 still-fits (Refused r) h = tt

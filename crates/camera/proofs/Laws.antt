@@ -1,36 +1,33 @@
--- What a caller may rely on, of the definitions of specs/ and of the contracts of src/. Assumes nothing.
+-- What a caller may rely on, of the definitions of specs/ and of the contracts of src/; ByHand and Reached have more.
+-- Assumes nothing.
 use mathlib.Core.Path.{_≡_, refl, sym, ap, _∙_}
 use mathlib.Core.Bool.{true, false, _&&_}
-use mathlib.Core.Logic.{_↔_}
-use mathlib.Core.List.{[], _∷_}
+use mathlib.Core.Logic.{_↔_, _⊎_}
 use Prim.Native.Nat.{ℕ, suc, _≤_}
 use lib.Dec.{T, lit≤}
-use lib.Ieee.{Float, nan, le, add, sub, mul, div, neg, ofBits, ofInt, lt, isNan}
+use lib.Ieee.{Float, le, lt, isNan}
 use lib.Ieee.Scale.{finite}
 use lib.ListN.{length}
 use Rattle.exact.specs.Determined.{Determined}
-use Rattle.exact.specs.F64.{f64, minus, magnitude, isZero}
+use Rattle.exact.specs.F64.{magnitude}
 use Rattle.exact.specs.Fraction.{exactly, _≺_}
-use Rattle.formula.specs.Term.{rounded}
 use Rattle.root.specs.Root.{root}
-use Rattle.root.proofs.Laws as root-laws
 use Rattle.arctan.specs.Series as series
 use Rattle.arctan.specs.Tangent.{tangent}
-use Rattle.arctan.specs.declared.Slope.{Slope}
-use Rattle.arctan.specs.declared.Slope.the-variants.{Is}
-use Rattle.lens.specs.ByHand.{halves, quarters, xy, uv}
-use Rattle.lens.specs.Constants.{zeros, ones, eps, int}
+use Rattle.lens.specs.Alike.{AlikePixels, AlikeJacobians, AlikeSettled}
+use Rattle.lens.specs.Constants.{zeros, eps}
 use Rattle.lens.specs.Finite.{all-finite}
+use Rattle.lens.specs.Refusal.{number}
 use Rattle.lens.specs.Rows.{first}
 use Rattle.lens.specs.Undistorted.{told}
 use Rattle.lens.specs.declared.Pixel.{Pixel}
 use Rattle.lens.specs.declared.Point.{Point}
-use Rattle.lens.specs.declared.Refusal.the-variants.{AnswerNotFinite, RayNotForward}
+use Rattle.lens.specs.declared.Refusal.{Refusal}
+use Rattle.lens.specs.declared.Refusal.the-variants.{AnswerNotFinite}
 use Rattle.lens.specs.declared.Settled.{Settled}
 use Rattle.lens.specs.declared.Undistorted.{Undistorted}
 use Rattle.lens.specs.declared.Undistorted.the-variants as found
 use Rattle.lens.proofs.Laws.{told-pixel-one-to-one, told-one-to-one}
-use Rattle.affine.specs.Affine as affine
 use Rattle.affine.specs.declared.AffineParams.{AffineParams}
 use Rattle.enhanced_unified.specs.EnhancedUnified as eucm
 use Rattle.enhanced_unified.specs.declared.EnhancedUnifiedParams.{EnhancedUnifiedParams}
@@ -39,22 +36,28 @@ use Rattle.enhanced_unified.proofs.Sides.{not-above}
 use Rattle.kannala_brandt.specs.KannalaBrandt as kb
 use Rattle.kannala_brandt.specs.declared.KannalaBrandtParams.{KannalaBrandtParams}
 use Rattle.kannala_brandt.proofs.Fits.{angle-fits}
-use Rattle.kannala_brandt.proofs.Laws as kb-laws
-use Rattle.brown_conrady.specs.BrownConrady as bc
-use Rattle.brown_conrady.specs.Formula as bc-formula
-use Rattle.camera.specs.Camera.{parameters, zero-focal, judged, pixel-of, distort, point-of, finite-point, undistort-judged, undistort, limit, slopes, dx-distort-x, parameter-slopes, dx-distort-params, point-before, undistort-before}
+use Rattle.thin_prism.specs.ThinPrism.{NoPrism}
+use Rattle.thin_prism.specs.declared.ThinPrismParams.{ThinPrismParams}
+use Rattle.thin_prism.proofs.Laws as bc12-laws
+use Rattle.camera.specs.Camera.{parameters, zero-focal, judged, pixel-of, distort, point-of, finite-point}
+use Rattle.camera.specs.Camera.{undistort-judged, undistort, limit, slopes, dx-distort-x, parameter-slopes}
+use Rattle.camera.specs.Camera.{dx-distort-params, point-before, undistort-before}
 use Rattle.camera.specs.Numbers as numbers
-use Rattle.camera.specs.Rows.{not-finite, steep, too-steep, point-not-finite, distort-rows, undistort-rows, dx-distort-x-rows, dx-distort-params-rows, mirrored}
+use Rattle.camera.specs.Rows.{not-finite, steep, too-steep, point-not-finite, distort-rows, undistort-rows}
+use Rattle.camera.specs.Rows.{dx-distort-x-rows, dx-distort-params-rows, mirrored}
 use Rattle.lens.specs.Distorted.{told-pixel, finite-pixel}
 use Rattle.camera.specs.declared.Camera.{Camera}
 use Rattle.camera.specs.declared.Camera.the-variants.{Affine, EnhancedUnified, KannalaBrandt, BrownConrady}
+use Rattle.camera.specs.declared.Camera.the-variants.{ThinPrism}
 use Rattle.lens.specs.declared.Judgement.the-variants as Judged
 use Rattle.lens.specs.declared.Distorted.the-variants.{At, Refused}
-use Rattle.camera.proofs.ByHand.{at-once, answer, affines, eucms, kbs, bcs}
+use Rattle.camera.proofs.ByHand.{answer}
 use Rattle.camera.proofs.Models.{each-model}
 use Rattle.camera.proofs.Past.{steep-past, first-is-10, first-is-16}
-use Rattle.camera.proofs.Steep as far-out
-use Rattle.camera.proofs.Told.{before, behind, given, pixel-number, point-number, answer-number, agree, jacobian-number, distort-own, undistort-own, jacobian-own, jacobian-finite, kept, most, found-own, as-before, undistort-as-before}
+use Rattle.camera.proofs.PrismZero.{same-judged, distort-alike, undistort-alike, jacobian-alike, focal-finite}
+use Rattle.camera.proofs.Told.{before, behind, given, pixel-number, point-number, answer-number, agree}
+use Rattle.camera.proofs.Told.{jacobian-number, distort-own, undistort-own, jacobian-own, jacobian-finite}
+use Rattle.camera.proofs.Told.{kept, most, found-own, as-before, undistort-as-before, own-refusal}
 use Rattle.camera.proofs.finite_parameters.Reads as finite-parameters-contract
 use Rattle.camera.proofs.zero_focal.Reads as zero-focal-contract
 use Rattle.camera.proofs.distort_judged.Reads as distort-judged-contract
@@ -89,7 +92,8 @@ determined = (
 -- and so for the five functions that a table is built with,
 pub determined-parts :
     Determined finite-parameters-contract.Post × Determined zero-focal-contract.Post
-    × Determined distort-judged-contract.Post × Determined undistort-judged-contract.Post × Determined limit-contract.Post
+    × Determined distort-judged-contract.Post × Determined undistort-judged-contract.Post
+    × Determined limit-contract.Post
 determined-parts = (
   λ κ a s s' r r' p q. p ∙ sym q,
   λ κ a s s' r r' p q. p ∙ sym q,
@@ -131,28 +135,47 @@ camera-back (Affine p) = (refl, refl)
 camera-back (EnhancedUnified p) = (refl, refl)
 camera-back (KannalaBrandt p) = (refl, refl)
 camera-back (BrownConrady p) = (refl, refl)
+camera-back (ThinPrism p) = (refl, refl)
 
 module _ (n : ℕ → Float) where
   -- A model's camera is made of as many numbers as the model has: the first.
-  pub camera-first : (model : ℕ) → numbers.camera-of model n ≡ numbers.camera-of model (numbers.at (numbers.first-of (numbers.count model) n))
-  camera-first = each-model (λ m. m .camera n ≡ m .camera (numbers.at (numbers.first-of (m .count) n))) (refl, (refl, (refl, (refl, tt)))) refl
+  pub camera-first :
+      (model : ℕ)
+      → numbers.camera-of model n ≡ numbers.camera-of model (numbers.at (numbers.first-of (numbers.count model) n))
+  camera-first =
+      each-model (λ m. m .camera n ≡ m .camera (numbers.at (numbers.first-of (m .count) n)))
+      (refl, (refl, (refl, (refl, (refl, tt))))) refl
+
+  -- The first `most` numbers are enough for every model's camera.
+  pub camera-most :
+      (model : ℕ) → numbers.camera-of model (numbers.at (numbers.first-of numbers.most n)) ≡ numbers.camera-of model n
+  camera-most =
+      each-model (λ m. m .camera (numbers.at (numbers.first-of numbers.most n)) ≡ m .camera n)
+      (refl, (refl, (refl, (refl, (refl, tt))))) refl
 
   -- The parameters of the camera of a model and numbers are the numbers, in order, as many as the model has.
   pub parameters-are : (model : ℕ) → parameters (numbers.camera-of model n) ≡ numbers.first-of (numbers.count model) n
-  parameters-are = each-model (λ m. parameters (m .camera n) ≡ numbers.first-of (m .count) n) (refl, (refl, (refl, (refl, tt)))) refl
+  parameters-are =
+      each-model (λ m. parameters (m .camera n) ≡ numbers.first-of (m .count) n)
+      (refl, (refl, (refl, (refl, (refl, tt))))) refl
 
 -- `last` is the highest number of the table, and the most parameters of a model in it are `most`.
 pub table-ends :
     (length numbers.models ≡ suc numbers.last)
     × ((model : ℕ) → numbers.count model ≤ numbers.most) × (numbers.count numbers.last ≡ numbers.most)
-table-ends = (refl, each-model (λ m. m .count ≤ numbers.most) (lit≤ tt, (lit≤ tt, (lit≤ tt, (lit≤ tt, tt)))) (lit≤ tt), refl)
+table-ends =
+    let few = each-model (λ m. m .count ≤ numbers.most) (lit≤ tt, (lit≤ tt, (lit≤ tt, (lit≤ tt, (lit≤ tt, tt))))) (lit≤ tt) in
+    (refl, few, refl)
 
 -- No camera's number is above `last`, and its parameters are as many as its model has.
-pub camera-known : (camera : Camera) → (numbers.model-number camera ≤ numbers.last) × (length (parameters camera) ≡ numbers.count (numbers.model-number camera))
+pub camera-known :
+    (camera : Camera) → (numbers.model-number camera ≤ numbers.last)
+    × (length (parameters camera) ≡ numbers.count (numbers.model-number camera))
 camera-known (Affine p) = (lit≤ tt, refl)
 camera-known (EnhancedUnified p) = (lit≤ tt, refl)
 camera-known (KannalaBrandt p) = (lit≤ tt, refl)
 camera-known (BrownConrady p) = (lit≤ tt, refl)
+camera-known (ThinPrism p) = (lit≤ tt, refl)
 
 -- Padded parameters are `most`, of every camera.
 pub padded-length : (camera : Camera) → length (numbers.padded camera) ≡ numbers.most
@@ -160,30 +183,41 @@ padded-length (Affine p) = refl
 padded-length (EnhancedUnified p) = refl
 padded-length (KannalaBrandt p) = refl
 padded-length (BrownConrady p) = refl
+padded-length (ThinPrism p) = refl
 
 -- ---- the refusals: the number told is that of the first row that holds, and 0 if none does
 
 -- Distort gives 4, 5 or 11 exactly when the table says so, the lowest first.
-pub distort-number : (camera : Camera) (point : Point) → told-pixel (distort camera point) .number ≡ first (distort-rows camera point)
+pub distort-number :
+    (camera : Camera) (point : Point) → told-pixel (distort camera point) .number ≡ first (distort-rows camera point)
 unfolding judged
 distort-number camera point =
     let pixel = pixel-of camera point in
     let answer = behind pixel-number (At pixel) (Refused AnswerNotFinite) refl refl (finite (pixel .0) && finite (pixel .1)) in
-    before pixel-number Refused (finite-pixel pixel) (λ r. refl) answer (given camera (point .0) (point .1)) (zero-focal camera)
+    before pixel-number Refused (finite-pixel pixel) (λ r. refl) answer (given camera (point .0) (point .1))
+    (zero-focal camera)
 
 -- Undistort gives 4, 5, 10, 16 or 11 exactly when the table says so, tried in this order.
-pub undistort-number : (camera : Camera) (pixel : Pixel) → told (undistort camera pixel) .number ≡ first (undistort-rows camera pixel)
+pub undistort-number :
+    (camera : Camera) (pixel : Pixel) → told (undistort camera pixel) .number ≡ first (undistort-rows camera pixel)
 unfolding judged
 undistort-number camera pixel =
     let answer = answer-number (point-of camera pixel) (point-before camera pixel) (too-steep camera pixel) (mirrored camera pixel) (agree camera pixel) in
-    before point-number found.Refused (finite-point (point-of camera pixel)) (λ r. refl) answer (given camera (pixel .0) (pixel .1)) (zero-focal camera)
+    before point-number found.Refused (finite-point (point-of camera pixel)) (λ r. refl) answer
+    (given camera (pixel .0) (pixel .1)) (zero-focal camera)
+
+-- What a model refuses by itself, before 11 is asked, it refuses with 10 or 16.
+pub model-refuses :
+    (camera : Camera) (pixel : Pixel) (r : Refusal)
+    → point-of camera pixel ≡ found.Refused r → (number r ≡ 10) ⊎ (number r ≡ 16)
+model-refuses = own-refusal
 
 -- where kb's Newton ends, for a pixel
 abbrev theta : KannalaBrandtParams → Pixel → Float
 theta p pixel = kb.newton p (root (kb.rth2 p pixel)) .th
 
--- Undistort of kb refuses with 10 exactly if neither 4 nor 5 does, the squared radius isn't ≤ EPS, and the last theta is finite and its size,
--- as an exact fraction, above the limit that arctan names.
+-- Undistort of kb refuses with 10 exactly if neither 4 nor 5 does, the squared radius isn't ≤ EPS, and the last theta
+-- is finite and its size, as an exact fraction, above the limit that arctan names.
 pub refused-10 :
     (p : KannalaBrandtParams) (pixel : Pixel)
     → (told (undistort (KannalaBrandt p) pixel) .number ≡ 10)
@@ -203,7 +237,8 @@ refused-10 p pixel =
       λ h. says ∙ rows .1 (h .0, h .1, h .2, past .1 (h .3, h .4)),
     )
 
--- Undistort of eucm refuses with 16 exactly if neither 4 nor 5 does, and the z of the pixel's ray is a number and not above 0. A NaN z leaves it to 11.
+-- Undistort of eucm refuses with 16 exactly if neither 4 nor 5 does, and the z of the pixel's ray is a number and not
+-- above 0. A NaN z leaves it to 11.
 pub mirrored-exactly :
     (p : EnhancedUnifiedParams) (pixel : Pixel)
     → (told (undistort (EnhancedUnified p) pixel) .number ≡ 16)
@@ -225,32 +260,42 @@ mirrored-exactly p pixel =
 pub elsewhere-as-before :
     (camera : Camera) (pixel : Pixel) → (told (undistort camera pixel) .number ≡ 16 → ⊥) → undistort camera pixel ≡ undistort-before camera pixel
 elsewhere-as-before camera pixel =
-    undistort-as-before (judged camera (pixel .0) (pixel .1)) (point-of camera pixel) (point-before camera pixel) (as-before camera pixel)
+    undistort-as-before (judged camera (pixel .0) (pixel .1)) (point-of camera pixel) (point-before camera pixel)
+    (as-before camera pixel)
 
 -- A point that undistort of eucm answers lies on the pixel's side of the centre, zeros aside.
 pub same-side :
     (p : EnhancedUnifiedParams) (pixel : Pixel) (s : Settled)
     → undistort (EnhancedUnified p) pixel ≡ found.At s → eucm-laws.SameSide p pixel (s .point)
-same-side p pixel s h = eucm-laws.same-side p pixel s (found-own s (judged (EnhancedUnified p) (pixel .0) (pixel .1)) (point-of (EnhancedUnified p) pixel) h)
+same-side p pixel s h =
+    eucm-laws.same-side p pixel s
+    (found-own s (judged (EnhancedUnified p) (pixel .0) (pixel .1)) (point-of (EnhancedUnified p) pixel) h)
 
 -- The derivative by the point gives 4, 5 or 11 exactly when the table says so, the lowest first.
-pub dx-distort-x-number : (camera : Camera) (point : Point) → dx-distort-x camera point .number ≡ first (dx-distort-x-rows camera point)
+pub dx-distort-x-number :
+    (camera : Camera) (point : Point) → dx-distort-x camera point .number ≡ first (dx-distort-x-rows camera point)
 dx-distort-x-number camera point = jacobian-number camera point (slopes camera point)
 
 -- The derivative by the parameters gives 4, 5 or 11 exactly when the table says so, the lowest first: 2 of no camera.
-pub dx-distort-params-number : (camera : Camera) (point : Point) → dx-distort-params camera point .number ≡ first (dx-distort-params-rows camera point)
+pub dx-distort-params-number :
+    (camera : Camera) (point : Point)
+    → dx-distort-params camera point .number ≡ first (dx-distort-params-rows camera point)
 dx-distort-params-number camera point = jacobian-number camera point (parameter-slopes camera point)
 
 -- ---- an answered call has the number 0, and its answer is the model's own
 
 -- A distort that tells 0 is the pixel of the model's formula.
-pub distort-answered : (camera : Camera) (point : Point) → told-pixel (distort camera point) .number ≡ 0 → distort camera point ≡ At (pixel-of camera point)
+pub distort-answered :
+    (camera : Camera) (point : Point) → told-pixel (distort camera point) .number ≡ 0
+    → distort camera point ≡ At (pixel-of camera point)
 distort-answered camera point =
     let pixel = pixel-of camera point in
     distort-own (judged camera (point .0) (point .1)) (finite (pixel .0) && finite (pixel .1)) pixel
 
 -- An undistort that tells 0 is the point, updates and flag of the model's rules.
-pub undistort-answered : (camera : Camera) (pixel : Pixel) → told (undistort camera pixel) .number ≡ 0 → undistort camera pixel ≡ point-of camera pixel
+pub undistort-answered :
+    (camera : Camera) (pixel : Pixel) → told (undistort camera pixel) .number ≡ 0
+    → undistort camera pixel ≡ point-of camera pixel
 undistort-answered camera pixel = undistort-own (judged camera (pixel .0) (pixel .1)) (point-of camera pixel)
 
 -- A derivative that tells 0 is the Jacobian of the model's formula, by the point or by the parameters.
@@ -260,7 +305,8 @@ pub dx-answered :
     × (dx-distort-params camera point .number ≡ 0 → dx-distort-params camera point .jacobian ≡ parameter-slopes camera point)
 dx-answered camera point = (
   jacobian-own (judged camera (point .0) (point .1)) (all-finite (slopes camera point .entries)) (slopes camera point),
-  jacobian-own (judged camera (point .0) (point .1)) (all-finite (parameter-slopes camera point .entries)) (parameter-slopes camera point),
+  jacobian-own (judged camera (point .0) (point .1)) (all-finite (parameter-slopes camera point .entries))
+      (parameter-slopes camera point),
 )
 
 -- A derivative that tells 0 has finite numbers only.
@@ -273,6 +319,35 @@ jacobians-finite camera point = (
   jacobian-finite (judged camera (point .0) (point .1)) (parameter-slopes camera point),
 )
 
+-- ---- bc12 without a prism
+
+-- With s1 to s4 at zero, of either sign, bc12 answers wherever bc with the same twelve parameters does, and gives its
+-- answer, the sign of a zero aside: the pixel, the point with its updates and flag, and the derivative by the point.
+pub prism-zero :
+    (p : ThinPrismParams) → NoPrism p →
+    ((point : Point) → told-pixel (distort (BrownConrady (p .bc)) point) .number ≡ 0
+    → (told-pixel (distort (ThinPrism p) point) .number ≡ 0)
+    × AlikePixels
+    (told-pixel (distort (BrownConrady (p .bc)) point) .pixel) (told-pixel (distort (ThinPrism p) point) .pixel))
+    × ((pixel : Pixel) → told (undistort (BrownConrady (p .bc)) pixel) .number ≡ 0
+    → (told (undistort (ThinPrism p) pixel) .number ≡ 0)
+    × AlikeSettled
+    (told (undistort (BrownConrady (p .bc)) pixel) .settled) (told (undistort (ThinPrism p) pixel) .settled))
+    × ((point : Point) → dx-distort-x (BrownConrady (p .bc)) point .number ≡ 0
+    → (dx-distort-x (ThinPrism p) point .number ≡ 0)
+    × AlikeJacobians (dx-distort-x (BrownConrady (p .bc)) point .jacobian) (dx-distort-x (ThinPrism p) point .jacobian))
+prism-zero p zs =
+    let models = bc12-laws.prism-zero p zs in (
+      λ point e. rw (same-judged p zs (point .0) (point .1))
+          (distort-alike (judged (BrownConrady (p .bc)) (point .0) (point .1)) _ _ (models .0 point) e),
+      λ pixel e. rw (same-judged p zs (pixel .0) (pixel .1))
+          (undistort-alike (judged (BrownConrady (p .bc)) (pixel .0) (pixel .1)) _ _ (models .1 pixel) e),
+      λ point e.
+          let f = focal-finite p (point .0) (point .1) (slopes (BrownConrady (p .bc)) point) e in
+          rw (same-judged p zs (point .0) (point .1))
+          (jacobian-alike (judged (BrownConrady (p .bc)) (point .0) (point .1)) _ _ (models .2 point (f .0) (f .1)) e),
+    )
+
 -- ---- updates and flag
 
 -- No model's limit is above 50.
@@ -281,13 +356,15 @@ limit-most (Affine p) = lit≤ tt
 limit-most (EnhancedUnified p) = lit≤ tt
 limit-most (KannalaBrandt p) = lit≤ tt
 limit-most (BrownConrady p) = lit≤ tt
+limit-most (ThinPrism p) = lit≤ tt
 
--- No undistort makes more updates than its model's limit: 0 for affine and eucm, 20 for kb, 50 for bc.
+-- No undistort makes more updates than its model's limit: 0 for affine and eucm, 20 for kb, 50 for bc and bc12.
 pub updates-limit : (camera : Camera) (pixel : Pixel) → told (undistort camera pixel) .settled .updates ≤ limit camera
 updates-limit camera pixel = kept (judged camera (pixel .0) (pixel .1)) (point-of camera pixel) (most camera pixel)
 
 -- The same of a judged camera and pixel.
-pub updates-limit-judged : (camera : Camera) (pixel : Pixel) → told (undistort-judged camera pixel) .settled .updates ≤ limit camera
+pub updates-limit-judged :
+    (camera : Camera) (pixel : Pixel) → told (undistort-judged camera pixel) .settled .updates ≤ limit camera
 updates-limit-judged camera pixel = kept Judged.Taken (point-of camera pixel) (most camera pixel)
 
 -- Affine and eucm always settle: an answer of theirs has 0 updates and the flag yes.
@@ -298,111 +375,6 @@ pub settled :
 settled pixel s a e = (
   λ h. let f = found-own s (judged (Affine a) (pixel .0) (pixel .1)) (point-of (Affine a) pixel) h in
       let t : Undistorted → Settled = λ u. told u .settled in (sym (ap (λ (u : Undistorted). t u .updates) f), sym (ap (λ (u : Undistorted). t u .flag) f)),
-  λ h. eucm-laws.settled e pixel s (found-own s (judged (EnhancedUnified e) (pixel .0) (pixel .1)) (point-of (EnhancedUnified e) pixel) h),
-)
-
--- ---- each refusal is reached
-
--- a NaN; a lens with a zero focal length; (2 ^ 1000, 0), whose squared radius overflows
-abbrev nowhere : Point
-nowhere = xy nan zeros
-
-abbrev flat : Camera
-flat = Affine (affine.camera zeros ones zeros zeros)
-
-abbrev far : Point
-far = xy (f64 0x7e70_0000_0000_0000) zeros
-
--- fx is 2 ^ 1000
-abbrev long : Camera
-long = Affine (affine.camera (f64 0x7e70_0000_0000_0000) ones zeros zeros)
-
--- bc with no coefficient
-abbrev plain : Camera
-plain = BrownConrady (bc.camera ones ones zeros zeros zeros zeros zeros zeros zeros zeros zeros zeros)
-
--- Distort is refused with 4, 5 and 11.
-pub distort-reached :
-    (told-pixel (distort flat nowhere) .number ≡ 4)
-    × (told-pixel (distort flat far) .number ≡ 5)
-    × (told-pixel (distort long far) .number ≡ 11)
-unfolding judged all-finite isZero add mul ofBits
-distort-reached = (refl, refl, refl)
-
--- Undistort with 4, 5, 10, 16 and 11.
-pub undistort-reached :
-    (told (undistort flat (uv nan zeros)) .number ≡ 4)
-    × (told (undistort flat (uv zeros zeros)) .number ≡ 5)
-    × (told (undistort (KannalaBrandt far-out.lens) far-out.pixel) .number ≡ 10)
-    × (told (undistort (EnhancedUnified (eucm.camera (int 1) (int 1) (int 0) (int 0) (halves 1) (int 1))) (uv (int 2) (int 0))) .number ≡ 16)
-    × (told (undistort (Affine (affine.camera (f64 0x0000_0000_0000_0001) ones zeros zeros)) (uv ones zeros)) .number ≡ 11)
-unfolding judged all-finite isZero add sub mul div ofBits ofInt
-undistort-reached =
-    (refl, refl, ap (λ (u : Undistorted). told (finite-point u) .number) far-out.refused, ap (λ (u : Undistorted). told u .number) (eucms .1), refl)
-
--- The derivative by the point with 4, 5 and 11.
-pub dx-distort-x-reached : (dx-distort-x flat nowhere .number ≡ 4) × (dx-distort-x flat far .number ≡ 5) × (dx-distort-x plain far .number ≡ 11)
-unfolding judged all-finite isZero bc.slopes-at bc.shared-at add mul div ofBits
-dx-distort-x-reached = (refl, refl, refl)
-
--- The derivative by the parameters with 4, 5 and 11, bc's too.
-pub dx-distort-params-reached :
-    (dx-distort-params flat nowhere .number ≡ 4)
-    × (dx-distort-params flat far .number ≡ 5)
-    × (dx-distort-params (EnhancedUnified (eucm.camera ones ones zeros zeros (halves 1) ones)) far .number ≡ 11)
-    × (dx-distort-params plain nowhere .number ≡ 4)
-    × (dx-distort-params plain far .number ≡ 11)
-unfolding judged all-finite isZero bc-formula.dx-distort-params rounded root add sub mul div neg ofBits ofInt
-dx-distort-params-reached = (refl, refl, refl, refl, refl)
-
--- ---- the numbers to check by hand
-
--- The rules' numbers to check by hand that are to be proved (docs/RULES.md, 17), as they stand there: 600 is `int 600`, -149.5 `minus (halves 299)`, and a
--- camera's numbers come in its model's order. An answer `at-once` has 0 updates and the flag yes. Off the axis kb's hold for any arctangent, or tangent,
--- that has the value said; the other lines are of the camera itself.
-pub by-hand :
-    (distort (Affine (affine.camera (int 600) (int 600) (int 1) (halves 1))) (xy (halves 1) (minus (quarters 1))) ≡ At (uv (int 301) (minus (halves 299))))
-    × (undistort (Affine (affine.camera (int 600) (int 600) (int 1) (halves 1))) (uv (int 301) (minus (halves 299)))
-    ≡ at-once (xy (halves 1) (minus (quarters 1))))
-    × (distort (EnhancedUnified (eucm.camera (int 1) (int 1) (int 0) (int 0) (halves 1) (int 1))) (xy (int 2) (int 2)) ≡ At (uv (int 1) (int 1)))
-    × (undistort (EnhancedUnified (eucm.camera (int 1) (int 1) (int 0) (int 0) (halves 1) (int 1))) (uv (int 1) (int 1)) ≡ at-once (xy (int 2) (int 2)))
-    × (undistort (EnhancedUnified (eucm.camera (int 1) (int 1) (int 0) (int 0) (halves 1) (int 1))) (uv (int 2) (int 0)) ≡ found.Refused RayNotForward)
-    × (undistort (EnhancedUnified (eucm.camera (int 1) (int 1) (int 0) (int 0) (halves 1) (int 1))) (uv (int 2) (int 2)) ≡ found.Refused RayNotForward)
-    × (distort (KannalaBrandt (kb.camera (int 1000) (int 1000) (int 320) (int 280) (int 0) (int 0) (int 0) (int 0))) (xy (int 0) (int 0))
-    ≡ At (uv (int 320) (int 280)))
-    × (undistort (KannalaBrandt (kb.camera (int 1000) (int 1000) (int 320) (int 280) (int 0) (int 0) (int 0) (int 0))) (uv (int 320) (int 280))
-    ≡ at-once (xy (int 0) (int 0)))
-    × ((f : Float → Float) → f (int 5) ≡ int 1
-    → kb.distort f (kb.camera (int 10) (int 10) (int 1) (int 2) (halves 3) (int 0) (int 0) (int 0)) (xy (int 3) (int 4)) ≡ uv (int 16) (int 22))
-    × ((g : Float → Slope) → g (halves 1) ≡ Is (quarters 3)
-    → kb.undistort g (kb.camera (int 4) (int 4) (int 1) (int 2) (minus (int 2)) (int 0) (int 0) (int 0)) (uv (int 2) (int 2))
-    ≡ found.At record { point = xy (quarters 3) (int 0); updates = 1; flag = true })
-    × (distort (BrownConrady (bc.camera (int 1) (int 1) (int 0) (int 0) (int 0) (int 0) (int 1) (int 0) (int 0) (int 0) (int 0) (int 0))) (xy (int 1) (int 1))
-    ≡ At (uv (int 3) (int 5)))
-    × (distort (BrownConrady (bc.camera (int 1) (int 1) (int 0) (int 0) (int 0) (int 0) (int 0) (int 1) (int 0) (int 0) (int 0) (int 0))) (xy (int 1) (int 1))
-    ≡ At (uv (int 5) (int 3)))
-    × (undistort (BrownConrady (bc.camera (int 1) (int 1) (int 0) (int 0) (int 0) (int 0) (int 0) (int 0) (int 0) (int 0) (int 0) (int 0))) (uv (int 3) (int 4))
-    ≡ at-once (xy (int 3) (int 4)))
-    × (dx-distort-params (BrownConrady (bc.camera (int 1) (int 1) (int 0) (int 0) (int 0) (int 0) (int 0) (int 0) (int 0) (int 0) (int 0) (int 0))) (xy (int 1) (int 2))
-    ≡ answer
-    (int 1 ∷ int 0 ∷ int 1 ∷ int 0 ∷ int 5 ∷ int 25 ∷ int 4 ∷ int 7 ∷ int 125 ∷ minus (int 5) ∷ minus (int 25) ∷ minus (int 125) ∷ [])
-    (int 0 ∷ int 2 ∷ int 0 ∷ int 1 ∷ int 10 ∷ int 50 ∷ int 13 ∷ int 4 ∷ int 250 ∷ minus (int 10) ∷ minus (int 50) ∷ minus (int 250) ∷ []))
-    × (root (quarters 9) ≡ halves 3)
-unfolding div ofBits ofInt
-by-hand = (
-  affines .0,
-  affines .1,
-  eucms .0 .0,
-  eucms .0 .1,
-  eucms .1,
-  eucms .2,
-  kbs .0,
-  kbs .1,
-  kb-laws.by-hand-bent,
-  kb-laws.by-hand-unbent,
-  bcs .0,
-  bcs .1,
-  bcs .2,
-  bcs .3,
-  root-laws.by-hand,
+  λ h. eucm-laws.settled e pixel s
+      (found-own s (judged (EnhancedUnified e) (pixel .0) (pixel .1)) (point-of (EnhancedUnified e) pixel) h),
 )

@@ -3,6 +3,8 @@ pub mod Fits
 pub mod Known
 pub mod Laws
 pub mod Models
+pub mod PrismZero
+pub mod Reached
 pub mod Steep
 pub mod Told
 pub mod Past

@@ -3,7 +3,7 @@ use mathlib.Core.Path.{_≡_, refl}
 use mathlib.Core.List.{List, [], _∷_}
 use Prim.Native.Nat.{ℕ, zero, suc}
 use lib.ListN.{getD}
-use Rattle.camera.specs.Numbers.{Model, models, brown-conrady, model-of}
+use Rattle.camera.specs.Numbers.{Model, models, thin-prism, model-of}
 
 module _ (P : Model → Type 0) where
   abbrev Each : List Model → Type 0
@@ -16,13 +16,14 @@ module _ (P : Model → Type 0) where
   in-table (m ∷ rest) each p (suc number) = in-table rest (each .1) p number
 
   -- what each model of the table has, the last said once more for the numbers past it, every number's has
-  pub each-model : Each models → P brown-conrady → (number : ℕ) → P (model-of number)
+  pub each-model : Each models → P thin-prism → (number : ℕ) → P (model-of number)
   each-model = in-table models
 
 -- a number that is none of those before the last
-pub last-model : (number : ℕ) → (number ≡ 0 → ⊥) → (number ≡ 1 → ⊥) → (number ≡ 2 → ⊥) → model-of number ≡ brown-conrady
-last-model zero a b c = absurd (a refl)
-last-model (suc zero) a b c = absurd (b refl)
-last-model (suc (suc zero)) a b c = absurd (c refl)
-last-model (suc (suc (suc zero))) a b c = refl
-last-model (suc (suc (suc (suc number)))) a b c = refl
+pub last-model : (number : ℕ) → (number ≡ 0 → ⊥) → (number ≡ 1 → ⊥) → (number ≡ 2 → ⊥) → (number ≡ 3 → ⊥) → model-of number ≡ thin-prism
+last-model zero a b c d = absurd (a refl)
+last-model (suc zero) a b c d = absurd (b refl)
+last-model (suc (suc zero)) a b c d = absurd (c refl)
+last-model (suc (suc (suc zero))) a b c d = absurd (d refl)
+last-model (suc (suc (suc (suc zero)))) a b c d = refl
+last-model (suc (suc (suc (suc (suc number))))) a b c d = refl

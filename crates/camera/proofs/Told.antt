@@ -1,5 +1,5 @@
 -- What a camera tells of a call, put together from what is judged before, the model's answer, and what is judged behind. Assumes nothing.
-use mathlib.Core.Path.{_≡_, refl, sym, ap, _∙_}
+use mathlib.Core.Path.{_≡_, refl, sym, ap, _∙_, subst}
 use mathlib.Core.Bool.{Bool, true, false, not, cond, _&&_}
 use mathlib.Core.List.{[], _∷_}
 use mathlib.Core.Logic.{_⊎_, inl, inr}
@@ -30,12 +30,13 @@ use Rattle.enhanced_unified.specs.EnhancedUnified as eucm
 use Rattle.kannala_brandt.specs.KannalaBrandt as kb
 use Rattle.kannala_brandt.proofs.Laws as kb-laws
 use Rattle.brown_conrady.proofs.Laws as bc-laws
+use Rattle.thin_prism.proofs.Laws as bc12-laws
 use Rattle.kannala_brandt.specs.declared.Reached.{Reached}
 use Rattle.camera.specs.Camera.{parameters, zero-focal, judged, point-of, point-before, finite-point, limit, finite-jacobian, refused}
 use Rattle.camera.specs.Rows.{not-finite, steep, too-steep, mirrored, point-not-finite}
 use Rattle.lens.specs.Distorted.{told-pixel}
 use Rattle.camera.specs.declared.Camera.{Camera}
-use Rattle.camera.specs.declared.Camera.the-variants.{Affine, EnhancedUnified, KannalaBrandt, BrownConrady}
+use Rattle.camera.specs.declared.Camera.the-variants.{Affine, EnhancedUnified, KannalaBrandt, BrownConrady, ThinPrism}
 use Rattle.camera.specs.declared.Differentiated.{Differentiated}
 use Rattle.lens.specs.declared.Judgement.{Judgement}
 use Rattle.lens.specs.declared.Judgement.the-variants as Judged
@@ -89,6 +90,15 @@ agree (Affine p) pixel = (refl, refl, refl)
 agree (EnhancedUnified p) pixel = eucm-agree (le (eucm.ray-z p pixel) zeros) (eucm.undistort-before p pixel)
 agree (KannalaBrandt p) pixel = kb-agree (le (kb.rth2 p pixel) eps) (tangent (kb.newton p (root (kb.rth2 p pixel)) .th)) _ _ _ _ _
 agree (BrownConrady p) pixel = (refl, refl, refl)
+agree (ThinPrism p) pixel = (refl, refl, refl)
+
+-- what a model refuses by itself
+pub own-refusal : (camera : Camera) (pixel : Pixel) (r : Refusal) → point-of camera pixel ≡ found.Refused r → (number r ≡ 10) ⊎ (number r ≡ 16)
+own-refusal camera pixel r e = go (subst (λ (u : Undistorted). Agree u (point-before camera pixel) (too-steep camera pixel) (mirrored camera pixel)) e (agree camera pixel))
+  where
+    go : Agree (found.Refused r) (point-before camera pixel) (too-steep camera pixel) (mirrored camera pixel) → (number r ≡ 10) ⊎ (number r ≡ 16)
+    go (inl e) = inl (e .0)
+    go (inr e) = inr (e .0)
 
 abbrev pub slope-number : Differentiated → ℕ
 slope-number d = d .number
@@ -103,7 +113,7 @@ jacobian-number camera point j =
 
 -- ---- an answer
 
-none : (r : Refusal) → number r ≡ 0 → ⊥
+pub none : (r : Refusal) → number r ≡ 0 → ⊥
 none r e = omega (arith, number-within r)
 
 pub distort-own : (j : Judgement) (f : Bool) (pixel : Pixel) → pixel-number (decided j Refused (cond f (At pixel) (Refused AnswerNotFinite))) ≡ 0 → decided j Refused (cond f (At pixel) (Refused AnswerNotFinite)) ≡ At pixel
@@ -158,6 +168,7 @@ most (Affine p) pixel = omega arith
 most (EnhancedUnified p) pixel = eucm-most (le (eucm.ray-z p pixel) zeros) (eucm.undistort-before p pixel) refl
 most (KannalaBrandt p) pixel = kb-laws.updates-limit p pixel tangent
 most (BrownConrady p) pixel = bc-laws.updates-limit p pixel
+most (ThinPrism p) pixel = bc12-laws.updates-limit p pixel
 
 -- what a camera answers, its model found
 pub found-own : (s : Settled) (j : Judgement) (u : Undistorted) → decided j found.Refused (finite-point u) ≡ found.At s → u ≡ found.At s
@@ -176,6 +187,7 @@ as-before (EnhancedUnified p) pixel n = go (le (eucm.ray-z p pixel) zeros) n
     go false n = refl
 as-before (KannalaBrandt p) pixel n = refl
 as-before (BrownConrady p) pixel n = refl
+as-before (ThinPrism p) pixel n = refl
 
 pub undistort-as-before : (j : Judgement) (u v : Undistorted) → ((point-number (finite-point u) ≡ 16 → ⊥) → u ≡ v)
     → (point-number (decided j found.Refused (finite-point u)) ≡ 16 → ⊥) → decided j found.Refused (finite-point u) ≡ decided j found.Refused (finite-point v)

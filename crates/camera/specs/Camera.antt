@@ -1,7 +1,7 @@
 -- The four operations of a camera: what refuses a call beforehand, the model's own definition, and what refuses its
 -- answer. Definitions only.
 use mathlib.Core.Bool.{Bool, cond, _&&_, _||_}
-use mathlib.Core.List.{List, [], _∷_}
+use mathlib.Core.List.{List, [], _∷_, _++_}
 use Prim.Native.Nat.{ℕ}
 use lib.Ieee.{Float}
 use lib.Ieee.Scale.{finite}
@@ -25,8 +25,10 @@ use Rattle.enhanced_unified.specs.EnhancedUnified as eucm
 use Rattle.kannala_brandt.specs.KannalaBrandt as kb
 use Rattle.brown_conrady.specs.BrownConrady as bc
 use Rattle.brown_conrady.specs.Formula as bc-formula
+use Rattle.brown_conrady.specs.declared.BrownConradyParams.{BrownConradyParams}
+use Rattle.thin_prism.specs.ThinPrism as bc12
 use Rattle.camera.specs.declared.Camera.{Camera}
-use Rattle.camera.specs.declared.Camera.the-variants.{Affine, EnhancedUnified, KannalaBrandt, BrownConrady}
+use Rattle.camera.specs.declared.Camera.the-variants.{Affine, EnhancedUnified, KannalaBrandt, BrownConrady, ThinPrism}
 use Rattle.camera.specs.declared.Differentiated.{Differentiated}
 use Rattle.lens.specs.declared.Distorted.{Distorted}
 use Rattle.lens.specs.declared.Distorted.the-variants as pixels
@@ -35,12 +37,16 @@ use Rattle.lens.specs.declared.Judgement.the-variants.{Taken, Refused}
 
 -- ---- before: 4, then 5
 
+abbrev bc-parameters : BrownConradyParams → List Float
+bc-parameters p =
+    p .fx ∷ p .fy ∷ p .cx ∷ p .cy ∷ p .k1 ∷ p .k2 ∷ p .p1 ∷ p .p2 ∷ p .k3 ∷ p .k4 ∷ p .k5 ∷ p .k6 ∷ []
+
 abbrev pub parameters : Camera → List Float
 parameters (Affine p) = p .fx ∷ p .fy ∷ p .cx ∷ p .cy ∷ []
 parameters (EnhancedUnified p) = p .fx ∷ p .fy ∷ p .cx ∷ p .cy ∷ p .alpha ∷ p .beta ∷ []
 parameters (KannalaBrandt p) = p .fx ∷ p .fy ∷ p .cx ∷ p .cy ∷ p .k0 ∷ p .k1 ∷ p .k2 ∷ p .k3 ∷ []
-parameters (BrownConrady p) =
-    p .fx ∷ p .fy ∷ p .cx ∷ p .cy ∷ p .k1 ∷ p .k2 ∷ p .p1 ∷ p .p2 ∷ p .k3 ∷ p .k4 ∷ p .k5 ∷ p .k6 ∷ []
+parameters (BrownConrady p) = bc-parameters p
+parameters (ThinPrism p) = bc-parameters (p .bc) ++ (p .s1 ∷ p .s2 ∷ p .s3 ∷ p .s4 ∷ [])
 
 abbrev pub either-zero : Float → Float → Bool
 either-zero fx fy = isZero fx || isZero fy
@@ -50,6 +56,7 @@ zero-focal (Affine p) = either-zero (p .fx) (p .fy)
 zero-focal (EnhancedUnified p) = either-zero (p .fx) (p .fy)
 zero-focal (KannalaBrandt p) = either-zero (p .fx) (p .fy)
 zero-focal (BrownConrady p) = either-zero (p .fx) (p .fy)
+zero-focal (ThinPrism p) = either-zero (p .bc .fx) (p .bc .fy)
 
 -- of a camera, and the point or pixel (x, y)
 unfoldable pub judged : Camera → Float → Float → Judgement
@@ -70,6 +77,7 @@ pixel-of (Affine p) point = affine.distort p point
 pixel-of (EnhancedUnified p) point = eucm.distort p point
 pixel-of (KannalaBrandt p) point = kb.distort arctangent p point
 pixel-of (BrownConrady p) point = bc.distort p point
+pixel-of (ThinPrism p) point = bc12.distort p point
 
 abbrev pub distort-judged : Camera → Point → Distorted
 distort-judged camera point = finite-pixel (pixel-of camera point)
@@ -84,6 +92,7 @@ point-of (Affine p) pixel = found.At (affine.undistort p pixel)
 point-of (EnhancedUnified p) pixel = eucm.undistort p pixel
 point-of (KannalaBrandt p) pixel = kb.undistort tangent p pixel
 point-of (BrownConrady p) pixel = found.At (bc.undistort p pixel)
+point-of (ThinPrism p) pixel = found.At (bc12.undistort p pixel)
 
 abbrev pub finite-point : Undistorted → Undistorted
 finite-point (found.At settled) =
@@ -102,6 +111,7 @@ point-before (Affine p) pixel = point-of (Affine p) pixel
 point-before (EnhancedUnified p) pixel = found.At (eucm.undistort-before p pixel)
 point-before (KannalaBrandt p) pixel = point-of (KannalaBrandt p) pixel
 point-before (BrownConrady p) pixel = point-of (BrownConrady p) pixel
+point-before (ThinPrism p) pixel = point-of (ThinPrism p) pixel
 
 abbrev pub undistort-before : Camera → Pixel → Undistorted
 undistort-before camera pixel =
@@ -113,6 +123,7 @@ limit (Affine p) = 0
 limit (EnhancedUnified p) = 0
 limit (KannalaBrandt p) = kb.limit
 limit (BrownConrady p) = bc.limit
+limit (ThinPrism p) = bc.limit
 
 -- ---- the derivatives: number 0 and the model's, or a refusal's number and zeros, 11 among them
 
@@ -128,6 +139,7 @@ slopes (Affine p) point = affine.dx-distort-x p point
 slopes (EnhancedUnified p) point = eucm.dx-distort-x p point
 slopes (KannalaBrandt p) point = kb.dx-distort-x arctangent p point
 slopes (BrownConrady p) point = bc.dx-distort-x p point
+slopes (ThinPrism p) point = bc12.dx-distort-x p point
 
 abbrev pub dx-distort-x-judged : Camera → Point → Differentiated
 dx-distort-x-judged camera point = finite-jacobian (slopes camera point)
@@ -141,6 +153,7 @@ parameter-slopes (Affine p) point = affine.dx-distort-params p point
 parameter-slopes (EnhancedUnified p) point = eucm.dx-distort-params p point
 parameter-slopes (KannalaBrandt p) point = kb.dx-distort-params arctangent p point
 parameter-slopes (BrownConrady p) point = bc-formula.dx-distort-params p point
+parameter-slopes (ThinPrism p) point = bc12.dx-distort-params p point
 
 abbrev pub dx-distort-params-judged : Camera → Point → Differentiated
 dx-distort-params-judged camera point = finite-jacobian (parameter-slopes camera point)

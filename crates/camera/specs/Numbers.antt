@@ -5,9 +5,10 @@ use Prim.Native.Nat.{ℕ, zero, suc}
 use lib.Ieee.{Float, nan}
 use lib.ListN.{getD, take, replicate}
 use Rattle.lens.specs.Constants.{zeros}
+use Rattle.brown_conrady.specs.declared.BrownConradyParams.{BrownConradyParams}
 use Rattle.camera.specs.Camera.{parameters}
 use Rattle.camera.specs.declared.Camera.{Camera}
-use Rattle.camera.specs.declared.Camera.the-variants.{Affine, EnhancedUnified, KannalaBrandt, BrownConrady}
+use Rattle.camera.specs.declared.Camera.the-variants.{Affine, EnhancedUnified, KannalaBrandt, BrownConrady, ThinPrism}
 
 -- ---- a model: how many parameters it has, and the camera whose k-th parameter is the k-th number
 
@@ -31,40 +32,46 @@ kannala-brandt = record {
       KannalaBrandt record { fx = n 0; fy = n 1; cx = n 2; cy = n 3; k0 = n 4; k1 = n 5; k2 = n 6; k3 = n 7 };
 }
 
-abbrev pub brown-conrady : Model
-brown-conrady = record {
-  count = 12;
-  camera = λ n. BrownConrady record {
-    fx = n 0;
-    fy = n 1;
-    cx = n 2;
-    cy = n 3;
-    k1 = n 4;
-    k2 = n 5;
-    p1 = n 6;
-    p2 = n 7;
-    k3 = n 8;
-    k4 = n 9;
-    k5 = n 10;
-    k6 = n 11;
-  };
+abbrev pub brown-conrady-params : (ℕ → Float) → BrownConradyParams
+brown-conrady-params n = record {
+  fx = n 0;
+  fy = n 1;
+  cx = n 2;
+  cy = n 3;
+  k1 = n 4;
+  k2 = n 5;
+  p1 = n 6;
+  p2 = n 7;
+  k3 = n 8;
+  k4 = n 9;
+  k5 = n 10;
+  k6 = n 11;
 }
 
--- ---- the table of them: 0 affine, 1 eucm, 2 kb, 3 bc
+abbrev pub brown-conrady : Model
+brown-conrady = record { count = 12; camera = λ n. BrownConrady (brown-conrady-params n) }
+
+abbrev pub thin-prism : Model
+thin-prism = record {
+  count = 16;
+  camera = λ n. ThinPrism record { bc = brown-conrady-params n; s1 = n 12; s2 = n 13; s3 = n 14; s4 = n 15 };
+}
+
+-- ---- the table of them: 0 affine, 1 eucm, 2 kb, 3 bc, 4 bc12
 
 abbrev pub models : List Model
-models = affine ∷ enhanced-unified ∷ kannala-brandt ∷ brown-conrady ∷ []
+models = affine ∷ enhanced-unified ∷ kannala-brandt ∷ brown-conrady ∷ thin-prism ∷ []
 
 -- the highest number, and the most parameters that a model has
 abbrev pub last : ℕ
-last = 3
+last = 4
 
 abbrev pub most : ℕ
-most = 12
+most = 16
 
 -- the model of a number. Past the last it is the last: whoever knows numbers of none asks `last` first
 abbrev pub model-of : ℕ → Model
-model-of number = getD models number brown-conrady
+model-of number = getD models number thin-prism
 
 abbrev pub count : ℕ → ℕ
 count model = model-of model .count
@@ -77,6 +84,7 @@ model-number (Affine p) = 0
 model-number (EnhancedUnified p) = 1
 model-number (KannalaBrandt p) = 2
 model-number (BrownConrady p) = 3
+model-number (ThinPrism p) = 4
 
 -- ---- numbers in a row
 

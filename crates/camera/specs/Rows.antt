@@ -19,7 +19,7 @@ use Rattle.enhanced_unified.specs.EnhancedUnified as eucm
 use Rattle.kannala_brandt.specs.KannalaBrandt as kb
 use Rattle.camera.specs.Camera.{parameters, zero-focal, pixel-of, point-before, slopes, parameter-slopes}
 use Rattle.camera.specs.declared.Camera.{Camera}
-use Rattle.camera.specs.declared.Camera.the-variants.{Affine, EnhancedUnified, KannalaBrandt, BrownConrady}
+use Rattle.camera.specs.declared.Camera.the-variants.{Affine, EnhancedUnified, KannalaBrandt, BrownConrady, ThinPrism}
 
 -- 4: a parameter or a number of the point or pixel (x, y) is NaN or infinite
 abbrev pub not-finite : Camera → Float → Float → Bool
@@ -36,6 +36,7 @@ too-steep (EnhancedUnified p) pixel = false
 too-steep (KannalaBrandt p) pixel =
     not (le (kb.rth2 p pixel) eps) && steep (tangent (kb.newton p (root (kb.rth2 p pixel)) .th))
 too-steep (BrownConrady p) pixel = false
+too-steep (ThinPrism p) pixel = false
 
 -- 16: the z of eucm's ray is zero, of either sign, or negative; NaN is neither
 abbrev pub mirrored : Camera → Pixel → Bool
@@ -43,6 +44,7 @@ mirrored (Affine p) pixel = false
 mirrored (EnhancedUnified p) pixel = le (eucm.ray-z p pixel) zeros
 mirrored (KannalaBrandt p) pixel = false
 mirrored (BrownConrady p) pixel = false
+mirrored (ThinPrism p) pixel = false
 
 -- 11: a number of the answer is NaN or infinite. Of eucm's the answer is that of whatever z, so that 16 and 11 may both
 -- hold

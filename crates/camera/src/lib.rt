@@ -1,4 +1,4 @@
-// One of four cameras: its model's four operations with the refusals that stand before and behind them. This is where
+// One of five cameras: its model's four operations with the refusals that stand before and behind them. This is where
 // nothing goes unanswered: whatever is handed in, there is a finite answer or a refusal's number, which the models' own
 // functions don't promise.
 ghost use mathlib.Core.Path.{_≡_};
@@ -17,6 +17,7 @@ use lens::Pixel;
 use lens::Point;
 use lens::Refusal;
 use lens::Undistorted;
+use thin_prism::ThinPrismParams;
 
 pub mod numbers;
 
@@ -26,6 +27,7 @@ pub enum Camera {
     EnhancedUnified(EnhancedUnifiedParams),
     KannalaBrandt(KannalaBrandtParams),
     BrownConrady(BrownConradyParams),
+    ThinPrism(ThinPrismParams),
 }
 
 // What the derivatives answer: number 0 and a Jacobian, or a refusal's number and zeros. No enum, since an enum can't
@@ -33,6 +35,27 @@ pub enum Camera {
 pub struct Differentiated {
     pub number: u8,
     pub jacobian: Jacobian,
+}
+
+fn finite_brown_conrady(p: BrownConradyParams) -> bool
+    ensures { λ r. ⌜ r ≡ all-finite (parameters (Camera.BrownConrady p)) ⌝ }
+{
+    lens::all_finite(
+        &[
+            p.fx,
+            p.fy,
+            p.cx,
+            p.cy,
+            p.k1,
+            p.k2,
+            p.p1,
+            p.p2,
+            p.k3,
+            p.k4,
+            p.k5,
+            p.k6,
+        ],
+    )
 }
 
 // Whether every parameter is finite.
@@ -45,22 +68,10 @@ pub fn finite_parameters(camera: Camera) -> bool
         Camera::KannalaBrandt(p) => lens::all_finite(
             &[p.fx, p.fy, p.cx, p.cy, p.k0, p.k1, p.k2, p.k3],
         ),
-        Camera::BrownConrady(p) => lens::all_finite(
-            &[
-                p.fx,
-                p.fy,
-                p.cx,
-                p.cy,
-                p.k1,
-                p.k2,
-                p.p1,
-                p.p2,
-                p.k3,
-                p.k4,
-                p.k5,
-                p.k6,
-            ],
-        ),
+        Camera::BrownConrady(p) => finite_brown_conrady(p),
+        Camera::ThinPrism(p) => {
+            finite_brown_conrady(p.bc) && lens::all_finite(&[p.s1, p.s2, p.s3, p.s4])
+        }
     }
 }
 
@@ -80,6 +91,7 @@ pub fn zero_focal(camera: Camera) -> bool
         Camera::EnhancedUnified(p) => either_zero(p.fx, p.fy),
         Camera::KannalaBrandt(p) => either_zero(p.fx, p.fy),
         Camera::BrownConrady(p) => either_zero(p.fx, p.fy),
+        Camera::ThinPrism(p) => either_zero(p.bc.fx, p.bc.fy),
     }
 }
 
@@ -118,6 +130,7 @@ fn pixel_of(camera: Camera, point: Point) -> Pixel
         Camera::EnhancedUnified(p) => enhanced_unified::distort(p, point),
         Camera::KannalaBrandt(p) => kannala_brandt::distort(p, point),
         Camera::BrownConrady(p) => brown_conrady::distort(p, point),
+        Camera::ThinPrism(p) => thin_prism::distort(p, point),
     }
 }
 
@@ -147,6 +160,7 @@ fn point_of(camera: Camera, pixel: Pixel) -> Undistorted
         Camera::EnhancedUnified(p) => enhanced_unified::undistort(p, pixel),
         Camera::KannalaBrandt(p) => kannala_brandt::undistort(p, pixel),
         Camera::BrownConrady(p) => Undistorted::At(brown_conrady::undistort(p, pixel)),
+        Camera::ThinPrism(p) => Undistorted::At(thin_prism::undistort(p, pixel)),
     }
 }
 
@@ -191,6 +205,7 @@ pub fn limit(camera: Camera) -> u32
         Camera::EnhancedUnified(_) => 0,
         Camera::KannalaBrandt(_) => kannala_brandt::LIMIT,
         Camera::BrownConrady(_) => brown_conrady::LIMIT,
+        Camera::ThinPrism(_) => brown_conrady::LIMIT,
     }
 }
 
@@ -226,6 +241,7 @@ fn slopes(camera: Camera, point: Point) -> Jacobian
         Camera::EnhancedUnified(p) => enhanced_unified::dx_distort_x(p, point),
         Camera::KannalaBrandt(p) => kannala_brandt::dx_distort_x(p, point),
         Camera::BrownConrady(p) => brown_conrady::dx_distort_x(p, point),
+        Camera::ThinPrism(p) => thin_prism::dx_distort_x(p, point),
     }
 }
 
@@ -255,6 +271,7 @@ fn parameter_slopes(camera: Camera, point: Point) -> Jacobian
         Camera::EnhancedUnified(p) => enhanced_unified::dx_distort_params(p, point),
         Camera::KannalaBrandt(p) => kannala_brandt::dx_distort_params(p, point),
         Camera::BrownConrady(p) => brown_conrady::dx_distort_params(p, point),
+        Camera::ThinPrism(p) => thin_prism::dx_distort_params(p, point),
     }
 }
 

@@ -1,17 +1,18 @@
-// The models by number, and their parameters as numbers: what bytes and text know of a camera. Nobody else says in which
-// order a model's parameters stand.
+// The models by number, and their parameters as numbers: what bytes and text know of a camera. Nobody else says in
+// which order a model's parameters stand.
 ghost use mathlib.Core.Path.{_≡_};
-ghost use Rattle.camera.specs.Numbers.{count, at, brown-conrady, camera-of, model-number, padded};
+ghost use Rattle.camera.specs.Numbers.{count, at, brown-conrady-params, camera-of, model-number, padded};
 use crate::Camera;
 use affine::AffineParams;
 use brown_conrady::BrownConradyParams;
 use enhanced_unified::EnhancedUnifiedParams;
 use kannala_brandt::KannalaBrandtParams;
+use thin_prism::ThinPrismParams;
 
 // The highest number of a model, and the most parameters that one has.
-pub const LAST: u8 = 3;
+pub const LAST: u8 = 4;
 
-pub const MOST: usize = 12;
+pub const MOST: usize = 16;
 
 // How many parameters a model has.
 pub fn count(model: u8) -> u8
@@ -23,15 +24,17 @@ pub fn count(model: u8) -> u8
         6
     } else if model == 2 {
         8
-    } else {
+    } else if model == 3 {
         12
+    } else {
+        16
     }
 }
 
-fn brown_conrady_of(n: &[f64; MOST]) -> Camera
-    ensures { λ r. ⌜ r ≡ brown-conrady .camera (at (now (n .entry))) ⌝ }
+fn brown_conrady_of(n: &[f64; MOST]) -> BrownConradyParams
+    ensures { λ r. ⌜ r ≡ brown-conrady-params (at (now (n .entry))) ⌝ }
 {
-    Camera::BrownConrady(BrownConradyParams {
+    BrownConradyParams {
         fx: n[0],
         fy: n[1],
         cx: n[2],
@@ -44,7 +47,7 @@ fn brown_conrady_of(n: &[f64; MOST]) -> Camera
         k4: n[9],
         k5: n[10],
         k6: n[11],
-    })
+    }
 }
 
 // The camera of a model, its k-th parameter the k-th number.
@@ -77,8 +80,16 @@ pub fn camera_of(model: u8, n: &[f64; MOST]) -> Camera
             k2: n[6],
             k3: n[7],
         })
+    } else if model == 3 {
+        Camera::BrownConrady(brown_conrady_of(n))
     } else {
-        brown_conrady_of(n)
+        Camera::ThinPrism(ThinPrismParams {
+            bc: brown_conrady_of(n),
+            s1: n[12],
+            s2: n[13],
+            s3: n[14],
+            s4: n[15],
+        })
     }
 }
 
@@ -91,6 +102,7 @@ pub fn model_number(camera: Camera) -> u8
         Camera::EnhancedUnified(_) => 1,
         Camera::KannalaBrandt(_) => 2,
         Camera::BrownConrady(_) => 3,
+        Camera::ThinPrism(_) => 4,
     }
 }
 
@@ -103,6 +115,7 @@ pub fn padded(camera: Camera) -> [f64; MOST]
         Camera::EnhancedUnified(p) => of_enhanced_unified(p),
         Camera::KannalaBrandt(p) => of_kannala_brandt(p),
         Camera::BrownConrady(p) => of_brown_conrady(p),
+        Camera::ThinPrism(p) => of_thin_prism(p),
     }
 }
 
@@ -161,5 +174,16 @@ fn of_brown_conrady(p: BrownConradyParams) -> [f64; MOST]
     n[9] = p.k4;
     n[10] = p.k5;
     n[11] = p.k6;
+    n
+}
+
+fn of_thin_prism(p: ThinPrismParams) -> [f64; MOST]
+    ensures { λ r. ⌜ r ≡ padded (Camera.ThinPrism p) ⌝ }
+{
+    let mut n = of_brown_conrady(p.bc);
+    n[12] = p.s1;
+    n[13] = p.s2;
+    n[14] = p.s3;
+    n[15] = p.s4;
     n
 }

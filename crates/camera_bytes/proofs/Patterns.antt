@@ -1,14 +1,14 @@
 -- A camera whose parameters are finite, by their bit patterns. Assumes nothing.
-use mathlib.Core.Path.{_≡_, refl, sym, ap, ap₂, _∙_, subst}
-use mathlib.Core.Bool.{Bool, true, _&&_}
+use mathlib.Core.Path.{_≡_, refl, sym, ap, ap₂, _∙_}
+use mathlib.Core.Bool.{Bool, true, false, cond, _&&_}
 use mathlib.Core.List.{List, [], _∷_}
 use mathlib.Core.Logic.{inl, inr}
 use Prim.Native.Nat.{ℕ, zero, suc, _+_, _-_, _*_, _/_, _%_, _^_, _≤_, _<_}
 use native.Mathlib.Nat.{eq-zero-or-pos}
 use native.Mathlib.Omega.{arith}
 use borrow.Author.Count.{below-more}
-use lib.Dec.{T, leb}
-use lib.Ieee.{Float, nan, binary64, top, hid, low}
+use lib.Dec.{eqb, leb}
+use lib.Ieee.{Float, nan, inf, binary64, top, hid, low, ofFields, ofBits}
 use lib.Ieee.Bits.{is-true}
 use lib.Ieee.Scale.{finite}
 use lib.ListN.{length, set, take, replicate, length-set, getD-replicate, drop-of-length-le}
@@ -19,12 +19,15 @@ use Rattle.exact.proofs.Pattern.{low-value, mid-value}
 use Rattle.lens.specs.Constants.{zeros}
 use Rattle.lens.specs.Finite.{all-finite}
 use Rattle.little_endian.specs.Bytes.{value, word}
+use Rattle.lens.specs.declared.Refusal.the-variants.{NotFinite}
+use Rattle.camera.specs.Camera.{parameters}
 use Rattle.camera.specs.Numbers as numbers
 use Rattle.camera.specs.Numbers.{most, count, first-of}
 use Rattle.camera.specs.declared.Camera.{Camera}
 use Rattle.camera.proofs.Laws.{camera-first, parameters-are, table-ends}
-use Rattle.camera_bytes.specs.Reading.{at, camera-of, Plain, known, SameTo, FiniteTo, Two, All}
-use Rattle.camera_bytes.specs.declared.Tested.{Tested}
+use Rattle.camera.proofs.Models.{each-model}
+use Rattle.camera_bytes.specs.Reading.{at, camera-of, finite-only, Plain, SameTo, FiniteTo, Broken, Two, All}
+use Rattle.camera_bytes.specs.declared.Asked.the-variants.{Of, Refused}
 
 -- ---- a finite number's pattern
 
@@ -39,9 +42,25 @@ plain-finite b h = is-true (finite (f64 b)) (elim (eq-zero-or-pos (b % top binar
       (mid-value binary64 b l (below (b % 0x8000_0000_0000_0000) h))
 ])
 
--- what a test that was passed says
-pub told : {r : Bool} {X : Type 0} → (T r → X) → r ≡ true → X
-told f e = f (subst T (sym e) tt)
+pub odd-not : (b : ℕ) → 0x7ff0_0000_0000_0000 ≤ b % 0x8000_0000_0000_0000 → finite (f64 b) ≡ false
+unfolding ofBits ofFields
+odd-not b h = ap (λ (x : ℕ). finite (ofFields binary64 sign x digits)) full ∙ no-number (eqb digits 0)
+  where
+    sign : Bool
+    sign = leb (top binary64) b
+
+    digits : ℕ
+    digits = b % hid binary64
+
+    full : b % top binary64 / hid binary64 ≡ 2047
+    full = below-all (b % 0x8000_0000_0000_0000) h (omega arith)
+      where
+        below-all : (m : ℕ) → 0x7ff0_0000_0000_0000 ≤ m → m < 0x8000_0000_0000_0000 → m / 0x10_0000_0000_0000 ≡ 2047
+        below-all m l k = omega arith
+
+    no-number : (none : Bool) → finite (cond none (inf sign) nan) ≡ false
+    no-number true = refl
+    no-number false = refl
 
 -- ---- a model's camera has no more numbers than any model has
 
@@ -56,6 +75,23 @@ unfolding all-finite
 first-finite zero n s = refl
 first-finite (suc k) n s = ap₂ _&&_ (s 0 (omega arith)) (first-finite k (λ j. n (suc j)) (λ j h. s (suc j) (omega arith)))
 
+first-broken : (k : ℕ) (n : ℕ → Float) (j : ℕ) → j < k → finite (n j) ≡ false → all-finite (first-of k n) ≡ false
+unfolding all-finite
+first-broken zero n j h e = absurd (omega arith)
+first-broken (suc k) n zero h e = rw e refl
+first-broken (suc k) n (suc j) h e = last-false (finite (n 0)) (first-broken k (λ i. n (suc i)) j (omega arith) e)
+  where
+    last-false : (b : Bool) {c : Bool} → c ≡ false → b && c ≡ false
+    last-false true e = e
+    last-false false e = refl
+
+-- every model's count is even, so that its bytes are a row of two words and two words
+pub even-bytes : (model : ℕ) (p : List ℕ) → length p ≡ 8 * count model → length p % 16 ≡ 0
+even-bytes model p e = omega (arith, e, even model)
+  where
+    even : (model : ℕ) → count model % 2 ≡ 0
+    even = each-model (λ m. m .count % 2 ≡ 0) (refl, (refl, (refl, (refl, (refl, tt))))) refl
+
 module _ (model : ℕ) (p : List ℕ) where
   -- an array with the bytes' numbers
   pub same-camera : (n : List Float) → SameTo most p n → numbers.camera-of model (numbers.at n) ≡ camera-of model p
@@ -67,18 +103,20 @@ module _ (model : ℕ) (p : List ℕ) where
       ∙ sym (camera-first (at p) model)
 
   -- where all are finite, so are the camera's
-  pub known-finite :
-      (n : List Float) {said : Bool} {camera : Camera} →
-      All p n →
-      said ≡ true →
-      camera ≡ numbers.camera-of model (numbers.at n) →
-      record { finite = said; camera = camera } ≡ known model p
+  pub whole-finite : {camera : Camera} (n : List Float) → All p n → camera ≡ numbers.camera-of model (numbers.at n) → Of camera ≡ finite-only (Of (camera-of model p))
   unfolding camera-of
-  known-finite n a s c =
-      ap₂ (λ (b : Bool) (v : Camera). record { finite = b; camera = v })
-      (s ∙ sym (ap all-finite (parameters-are (at p) model)
-      ∙ first-finite (count model) (at p) (λ j h. a .sound j (omega (arith, table-ends .1 model)))))
-      (c ∙ same-camera n (a .same))
+  whole-finite n a c =
+      let f : all-finite (parameters (camera-of model p)) ≡ true =
+      ap all-finite (parameters-are (at p) model) ∙ first-finite (count model) (at p) (λ j h. a .sound j (omega (arith, table-ends .1 model))) in
+      rw f (ap Of (c ∙ same-camera n (a .same)))
+
+  -- and where one that is there isn't, the camera's aren't
+  pub whole-broken : length p ≡ 8 * count model → Broken p → Refused NotFinite ≡ finite-only (Of (camera-of model p))
+  unfolding camera-of
+  whole-broken e b =
+      let f : all-finite (parameters (camera-of model p)) ≡ false =
+      ap all-finite (parameters-are (at p) model) ∙ first-broken (count model) (at p) (b .place) (omega (arith, e, b .within)) (b .odd) in
+      rw f refl
 
 -- ---- an array filled number by number
 
@@ -89,25 +127,28 @@ module _ (p : List ℕ) where
       (getD-set-same n i v nan h ∙ e)
 
   -- two words that were read, and tested
-  pub two-put :
-      (i a b : ℕ) (n after : List Float) {x y : Float} →
-      a ≡ word p (8 * i) →
-      b ≡ word p (8 * i + 8) →
-      Plain a →
-      Plain b →
-      x ≡ f64 a →
-      y ≡ f64 b →
-      after ≡ set (set n i x) (i + 1) y →
-      Two p i n after
-  two-put i a b n after e f g h u v w =
-      let next : 8 * i + 8 ≡ 8 * (i + 1) = omega arith in
-      let c : f64 a ≡ at p i = ap f64 e in
-      let d : f64 b ≡ at p (i + 1) = ap f64 (f ∙ ap (λ (k : ℕ). word p k) next) in
-      record {
-        put = w ∙ ap₂ (λ (k l : Float). set (set n i k) (i + 1) l) (u ∙ c) (v ∙ d);
-        first = sym (ap finite c) ∙ plain-finite a g;
-        second = sym (ap finite d) ∙ plain-finite b h;
-      }
+  module _ (i a b : ℕ) (e : a ≡ word p (8 * i)) (f : b ≡ word p (8 * i + 8)) where
+    next : 8 * i + 8 ≡ 8 * (i + 1)
+    next = omega arith
+
+    at-first : f64 a ≡ at p i
+    at-first = ap f64 e
+
+    at-second : f64 b ≡ at p (i + 1)
+    at-second = ap f64 (f ∙ ap (λ (k : ℕ). word p k) next)
+
+    pub two-put : (n after : List Float) {x y : Float} → Plain a → Plain b → x ≡ f64 a → y ≡ f64 b → after ≡ set (set n i x) (i + 1) y → Two p i n after
+    two-put n after g h u v w = record {
+      put = w ∙ ap₂ (λ (k l : Float). set (set n i k) (i + 1) l) (u ∙ at-first) (v ∙ at-second);
+      first = sym (ap finite at-first) ∙ plain-finite a g;
+      second = sym (ap finite at-second) ∙ plain-finite b h;
+    }
+
+    pub first-odd : 8 * i + 16 ≤ length p → 0x7ff0_0000_0000_0000 ≤ a % 0x8000_0000_0000_0000 → Broken p
+    first-odd l g = record { place = i; within = omega arith; odd = sym (ap finite at-first) ∙ odd-not a g }
+
+    pub second-odd : 8 * i + 16 ≤ length p → 0x7ff0_0000_0000_0000 ≤ b % 0x8000_0000_0000_0000 → Broken p
+    second-odd l g = record { place = i + 1; within = omega arith; odd = sym (ap finite at-second) ∙ odd-not b g }
 
   -- so many are put, and behind them are zeros still
   pub record Filled (i : ℕ) (n : List Float) : Type 0 where

@@ -1,6 +1,6 @@
 -- The camera that a model's number and its parameters' bytes ask for, or 1, or 3. Definitions only.
 use mathlib.Core.Path.{_≡_}
-use mathlib.Core.Bool.{cond, true}
+use mathlib.Core.Bool.{Bool, true, false, cond}
 use mathlib.Core.List.{List}
 use Prim.Native.Nat.{ℕ, _+_, _*_, _%_, _<_}
 use lib.Dec.{eqb, leb}
@@ -11,13 +11,12 @@ use Rattle.little_endian.specs.Bytes.{float}
 use Rattle.lens.specs.Finite.{all-finite}
 use Rattle.lens.specs.declared.Judgement.{Judgement}
 use Rattle.lens.specs.declared.Judgement.the-variants as Judged
-use Rattle.lens.specs.declared.Refusal.the-variants.{UnknownModel, WrongCount}
+use Rattle.lens.specs.declared.Refusal.the-variants.{UnknownModel, WrongCount, NotFinite}
 use Rattle.camera.specs.Camera.{parameters}
 use Rattle.camera.specs.Numbers as numbers
 use Rattle.camera.specs.declared.Camera.{Camera}
 use Rattle.camera_bytes.specs.declared.Asked.{Asked}
 use Rattle.camera_bytes.specs.declared.Asked.the-variants.{Of, Refused}
-use Rattle.camera_bytes.specs.declared.Tested.{Tested}
 
 -- the f64 at place 8k
 abbrev pub at : List ℕ → ℕ → Float
@@ -26,35 +25,6 @@ at p k = float p (8 * k)
 -- the camera that has it as its k-th parameter
 unfoldable pub camera-of : ℕ → List ℕ → Camera
 camera-of model p = numbers.camera-of model (at p)
-
--- the camera, and whether its parameters are all finite
-abbrev pub known : ℕ → List ℕ → Tested
-known model p = record { finite = all-finite (parameters (camera-of model p)); camera = camera-of model p }
-
--- ---- numbers taken over into an array, for the parts of `known`
-
--- a finite number's bit pattern: without its sign, below the infinity's
-abbrev pub Plain : ℕ → Type 0
-Plain bits = bits % 0x8000_0000_0000_0000 < 0x7ff0_0000_0000_0000
-
--- the array's first numbers, so many, are the bytes'
-abbrev pub SameTo : ℕ → List ℕ → List Float → Type 0
-SameTo i p n = (k : ℕ) → k < i → numbers.at n k ≡ at p k
-
--- and are finite
-abbrev pub FiniteTo : ℕ → List ℕ → Type 0
-FiniteTo i p = (k : ℕ) → k < i → finite (at p k) ≡ true
-
--- two more are there, both finite, and nothing else has changed
-pub record Two (p : List ℕ) (i : ℕ) (before after : List Float) : Type 0 where
-  pub put : after ≡ set (set before i (at p i)) (i + 1) (at p (i + 1))
-  pub first : finite (at p i) ≡ true
-  pub second : finite (at p (i + 1)) ≡ true
-
--- all are there, and finite
-pub record All (p : List ℕ) (n : List Float) : Type 0 where
-  pub same : SameTo numbers.most p n
-  pub sound : FiniteTo numbers.most p
 
 -- ---- 1, then 3
 
@@ -69,3 +39,54 @@ read model p =
     cond (leb model numbers.last)
     (cond (eqb (length p) (8 * numbers.count model)) (Of (camera-of model p)) (Refused WrongCount))
     (Refused UnknownModel)
+
+-- ---- 1, 3, then 4
+
+abbrev pub finite-only : Asked → Asked
+finite-only (Of camera) = cond (all-finite (parameters camera)) (Of camera) (Refused NotFinite)
+finite-only (Refused refusal) = Refused refusal
+
+abbrev pub read-finite : ℕ → List ℕ → Asked
+read-finite model p = finite-only (read model p)
+
+-- ---- numbers put into an array, for the parts of `read_finite`
+
+-- a finite number's bit pattern: without its sign, below the infinity's
+abbrev pub Plain : ℕ → Type 0
+Plain bits = bits % 0x8000_0000_0000_0000 < 0x7ff0_0000_0000_0000
+
+-- the array's first numbers, so many, are the bytes'
+abbrev pub SameTo : ℕ → List ℕ → List Float → Type 0
+SameTo i p n = (k : ℕ) → k < i → numbers.at n k ≡ at p k
+
+-- and are finite
+abbrev pub FiniteTo : ℕ → List ℕ → Type 0
+FiniteTo i p = (k : ℕ) → k < i → finite (at p k) ≡ true
+
+-- one that is there isn't finite
+pub record Broken (p : List ℕ) : Type 0 where
+  pub place : ℕ
+  pub within : 8 * place < length p
+  pub odd : finite (at p place) ≡ false
+
+-- two more are there, both finite, and nothing else has changed
+pub record Two (p : List ℕ) (i : ℕ) (before after : List Float) : Type 0 where
+  pub put : after ≡ set (set before i (at p i)) (i + 1) (at p (i + 1))
+  pub first : finite (at p i) ≡ true
+  pub second : finite (at p (i + 1)) ≡ true
+
+-- all are there, and finite
+pub record All (p : List ℕ) (n : List Float) : Type 0 where
+  pub same : SameTo numbers.most p n
+  pub sound : FiniteTo numbers.most p
+
+-- the one if the answer is yes, else the other
+abbrev pub either : Bool → Type 0 → Type 0 → Type 0
+either true X Y = X
+either false X Y = Y
+
+abbrev pub TwoPut : List ℕ → ℕ → Bool → List Float → List Float → Type 0
+TwoPut p i r before after = either r (Two p i before after) (Broken p)
+
+abbrev pub AllPut : List ℕ → Bool → List Float → Type 0
+AllPut p r n = either r (All p n) (Broken p)

@@ -1,14 +1,13 @@
 // A camera out of a model's number and bytes: the parameters of its model, eight bytes each, the least first.
-ghost use mathlib.Core.Bool.{true};
 ghost use mathlib.Core.Path.{_≡_};
-ghost use Prim.Native.Nat.{_+_, _≤_};
-ghost use lib.Dec.{T};
+ghost use Prim.Native.Nat.{_+_, _*_, _%_, _≤_};
 ghost use lib.ListN.{length, replicate};
 ghost use Rattle.exact.specs.F64.{f64};
 ghost use Rattle.lens.specs.Constants.{zeros};
-ghost use Rattle.camera.specs.Numbers as numbers;
-ghost use Rattle.camera.specs.Numbers.{most};
-ghost use Rattle.camera_bytes.specs.Reading.{camera-of, Plain, known, SameTo, Two, All, judged, read};
+ghost use Rattle.camera.specs.Numbers.{most, count};
+ghost use Rattle.camera_bytes.specs.Reading.{camera-of, judged, read, finite-only, read-finite};
+ghost use Rattle.camera_bytes.specs.Reading.{Plain, SameTo, TwoPut, AllPut};
+ghost use Rattle.camera_bytes.specs.declared.Asked.the-variants.{Of};
 use camera::Camera;
 use camera::numbers::LAST;
 use camera::numbers::MOST;
@@ -46,33 +45,6 @@ pub fn camera_of(model: u8, params: &[u8]) -> Camera
     camera::numbers::camera_of(model, &numbers(params))
 }
 
-// A camera, and whether its parameters are all finite.
-pub struct Tested {
-    pub finite: bool,
-    pub camera: Camera,
-}
-
-// Both, of any bytes.
-fn any(model: u8, p: &[u8]) -> Tested
-    ensures { λ r. ⌜ r ≡ known model (now (p .entry)) ⌝ }
-{
-    let camera = camera_of(model, p);
-    Tested {
-        finite: camera::finite_parameters(camera),
-        camera,
-    }
-}
-
-// The same of numbers that are finite.
-fn finite(model: u8, n: &[f64; MOST]) -> Tested
-    ensures { λ r. ⌜ (r .finite ≡ true) × (r .camera ≡ numbers.camera-of model (numbers.at (now (n .entry)))) ⌝ }
-{
-    Tested {
-        finite: true,
-        camera: camera::numbers::camera_of(model, n),
-    }
-}
-
 // The f64 of a finite number's bit pattern: nothing is left to test.
 fn raw(bits: u64) -> f64
     requires { ⌜ Plain bits ⌝ }
@@ -83,31 +55,33 @@ fn raw(bits: u64) -> f64
 
 // Puts the numbers i and i + 1 at their places, if both are finite.
 fn two(params: &[u8], i: usize, n: &mut [f64; MOST]) -> bool
-    requires { ⌜ (i + 2 ≤ most) × (length (now n) ≡ most) ⌝ }
-    ensures { λ r. ⌜ (T r → Two (now (params .entry)) i (now (n .entry)) (now (n .exit))) ⌝ }
+    requires { ⌜ (8 * i + 16 ≤ length (now params)) × ((i + 2 ≤ most) × (length (now n) ≡ most)) ⌝ }
+    ensures { λ r. ⌜ TwoPut (now (params .entry)) i r (now (n .entry)) (now (n .exit)) ⌝ }
 {
     let a = little_endian::word(params, 8 * i);
     let b = little_endian::word(params, 8 * i + 8);
-    if a % SIGN < INFINITY && b % SIGN < INFINITY {
-        n[i] = raw(a);
-        n[i + 1] = raw(b);
-        return true;
+    if INFINITY <= a % SIGN {
+        return false;
     }
-    false
+    if INFINITY <= b % SIGN {
+        return false;
+    }
+    n[i] = raw(a);
+    n[i + 1] = raw(b);
+    true
 }
 
-// Puts all numbers that there are over zeros, by twos, since every model's count is even. No if one isn't finite, or if
-// bytes are left over: then n is worth nothing. A pattern is tested once, where the camera's own test and that of each
-// number for NaN would cost far more (docs/DECISIONS.md, 82); and the compiler lays the loop out, so that a word costs
-// no more than in a row of statements.
+// Puts all numbers that there are over zeros, by twos, since every model's count is even; or says that one isn't
+// finite. A pattern is tested once, where the camera's own test and that of each number for NaN would cost far more
+// (docs/DECISIONS.md, 82); and the compiler lays the loop out.
 fn all(params: &[u8], n: &mut [f64; MOST]) -> bool
-    requires { ⌜ now n ≡ replicate most zeros ⌝ }
-    ensures { λ r. ⌜ (T r → All (now (params .entry)) (now (n .exit))) ⌝ }
+    requires { ⌜ (length (now params) % 16 ≡ 0) × (now n ≡ replicate most zeros) ⌝ }
+    ensures { λ r. ⌜ AllPut (now (params .entry)) r (now (n .exit)) ⌝ }
 {
     let mut i = 0;
     while i < MOST {
         if params.len() < 8 * i + 16 {
-            return params.len() <= 8 * i;
+            return true;
         }
         if !two(params, i, n) {
             return false;
@@ -117,15 +91,16 @@ fn all(params: &[u8], n: &mut [f64; MOST]) -> bool
     true
 }
 
-// A model's camera, and whether its parameters are finite.
-pub fn known(model: u8, params: &[u8]) -> Tested
-    ensures { λ r. ⌜ r ≡ known model (now (params .entry)) ⌝ }
+// A camera of parameters that are all there, or 4.
+fn whole(model: u8, params: &[u8]) -> Asked
+    requires { ⌜ length (now params) ≡ 8 * count model ⌝ }
+    ensures { λ r. ⌜ r ≡ finite-only (Of (camera-of model (now (params .entry)))) ⌝ }
 {
     let mut n = [0.0; MOST];
     if all(params, &mut n) {
-        return finite(model, &n);
+        return Asked::Of(camera::numbers::camera_of(model, &n));
     }
-    any(model, params)
+    Asked::Refused(Refusal::NotFinite)
 }
 
 // 1, then 3.
@@ -148,5 +123,15 @@ pub fn read(model: u8, params: &[u8]) -> Asked
     match judged(model, params) {
         Judgement::Refused(refusal) => Asked::Refused(refusal),
         Judgement::Taken => Asked::Of(camera_of(model, params)),
+    }
+}
+
+// 1, 3, then 4 for a parameter that isn't finite, or the camera.
+pub fn read_finite(model: u8, params: &[u8]) -> Asked
+    ensures { λ r. ⌜ r ≡ read-finite model (now (params .entry)) ⌝ }
+{
+    match judged(model, params) {
+        Judgement::Refused(refusal) => Asked::Refused(refusal),
+        Judgement::Taken => whole(model, params),
     }
 }

@@ -16,8 +16,8 @@ use Rattle.lens.proofs.Laws.{number-one-to-one, number-within}
 use Rattle.camera.specs.declared.Camera.{Camera}
 use Rattle.camera_file.specs.Text.{CameraFile, text-of, Form}
 use Rattle.camera_file.specs.Reading.{is-file, file-of, read}
-use Rattle.camera.specs.Numbers.{count}
-use Rattle.camera_file.specs.Asked.{model, camera-of, asked-of, asked, asked-if, parsed, ToldFile, told-file}
+use Rattle.camera.specs.Numbers.{models, count}
+use Rattle.camera_file.specs.Asked.{names, model, camera-of, asked-of, asked, asked-if, parsed, ToldFile, told-file}
 use Rattle.camera_file.specs.Rows.{is-unknown, wrong-count, file-rows}
 use Rattle.camera_file.specs.declared.Named.{Named}
 use Rattle.camera_file.specs.declared.Named.the-variants.{Known, Unknown}
@@ -43,6 +43,12 @@ taken text file false e f = let z : _≡_ {A = ℕ} 0 1 = cc in absurd (omega ar
 pub read-written : (text : List ℕ) (file : CameraFile) → read text ≡ some file → (text ≡ text-of file) × Form file
 unfolding read
 read-written text file e = taken text file (is-file text) refl e
+
+-- ---- the names
+
+-- Every model has a name, and there are no more: the names are as many as the camera's models.
+pub named-all : length names ≡ length models
+named-all = refl
 
 -- ---- the refusals
 

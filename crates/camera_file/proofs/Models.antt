@@ -11,7 +11,7 @@ use Rattle.camera.specs.declared.Camera.{Camera}
 use Rattle.decimal.specs.Text.{same}
 use Rattle.params_line.specs.Params.{many, params-of}
 use Rattle.params_line.proofs.Params.{params-length}
-use Rattle.camera_file.specs.Asked.{affine-word, eucm-word, kb-word, bc-word, model, counted, camera-of, asked-of}
+use Rattle.camera_file.specs.Asked.{affine-word, eucm-word, kb-word, bc-word, bc12-word, model, counted, camera-of, asked-of}
 use Rattle.camera_file.specs.declared.Named.{Named}
 use Rattle.camera_file.specs.declared.Named.the-variants.{Known, Unknown}
 use Rattle.camera_file.specs.declared.Parsed.{Parsed}
@@ -58,10 +58,16 @@ module _ (name : List ℕ) where
       unfolding model
       is-kb c = simp (a, b, c)
 
-      pub is-bc : same name kb-word ≡ false → same name bc-word ≡ true → Known 3 ≡ model name
-      unfolding model
-      is-bc c d = simp (a, b, c, d)
+      module _ (c : same name kb-word ≡ false) where
+        pub is-bc : same name bc-word ≡ true → Known 3 ≡ model name
+        unfolding model
+        is-bc d = simp (a, b, c, d)
 
-      pub is-none : same name kb-word ≡ false → same name bc-word ≡ false → Unknown ≡ model name
-      unfolding model
-      is-none c d = simp (a, b, c, d)
+        module _ (d : same name bc-word ≡ false) where
+          pub is-bc12 : same name bc12-word ≡ true → Known 4 ≡ model name
+          unfolding model
+          is-bc12 e = simp (a, b, c, d, e)
+
+          pub is-none : same name bc12-word ≡ false → Unknown ≡ model name
+          unfolding model
+          is-none e = simp (a, b, c, d, e)

@@ -3,7 +3,7 @@
 use mathlib.Core.Bool.{cond}
 use mathlib.Core.List.{List, [], _∷_}
 use mathlib.Core.Option.{Option, none, some}
-use Prim.Native.Nat.{ℕ}
+use Prim.Native.Nat.{ℕ, suc}
 use lib.Dec.{eqb}
 use lib.ListN.{length}
 use Rattle.decimal.specs.Text.{same}
@@ -21,7 +21,7 @@ use Rattle.camera_file.specs.declared.Named.the-variants.{Known, Unknown
 use Rattle.camera_file.specs.declared.Parsed.{Parsed}
 use Rattle.camera_file.specs.declared.Parsed.the-variants.{Asked, Refused}
 
--- ---- 1: the names `affine`, `eucm`, `kb`, `bc`, of the models 0 to 3
+-- ---- 1: the names `affine`, `eucm`, `kb`, `bc`, `bc12`, in the order of the models' numbers
 
 abbrev pub affine-word : List ℕ
 affine-word = 97 ∷ 102 ∷ 102 ∷ 105 ∷ 110 ∷ 101 ∷ []
@@ -35,12 +35,19 @@ kb-word = 107 ∷ 98 ∷ []
 abbrev pub bc-word : List ℕ
 bc-word = 98 ∷ 99 ∷ []
 
+abbrev pub bc12-word : List ℕ
+bc12-word = 98 ∷ 99 ∷ 49 ∷ 50 ∷ []
+
+abbrev pub names : List (List ℕ)
+names = affine-word ∷ eucm-word ∷ kb-word ∷ bc-word ∷ bc12-word ∷ []
+
+-- the number of a name's place among names that are numbered from n on
+abbrev named-from : ℕ → List (List ℕ) → List ℕ → Named
+named-from n [] name = Unknown
+named-from n (word ∷ rest) name = cond (same name word) (Known n) (named-from (suc n) rest name)
+
 unfoldable pub model : List ℕ → Named
-model name =
-    cond (same name affine-word) (Known 0)
-    (cond (same name eucm-word) (Known 1)
-    (cond (same name kb-word) (Known 2)
-    (cond (same name bc-word) (Known 3) Unknown)))
+model name = named-from 0 names name
 
 -- ---- 3: the model's count
 

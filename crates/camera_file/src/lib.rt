@@ -3,7 +3,7 @@
 ghost use mathlib.Core.Path.{_≡_};
 ghost use Rattle.decimal.specs.Text.{all};
 ghost use Rattle.params_line.specs.Params.{at, params-of};
-ghost use Rattle.camera.specs.Numbers.{first-of};
+ghost use Rattle.camera.specs.Numbers.{first-of, most};
 ghost use Rattle.camera_file.specs.Text.{letter};
 ghost use Rattle.camera_file.specs.Reading.{place, is-name};
 ghost use Rattle.camera_file.specs.Asked.{model, camera-of, asked-of, parsed, told-file};
@@ -108,27 +108,23 @@ fn model_of(name: &[u8]) -> Named
     if check::same(name, b"bc") {
         return Named::Known(3);
     }
+    if check::same(name, b"bc12") {
+        return Named::Known(4);
+    }
     Named::Unknown
 }
 
-// The first twelve parameters of a line, zeros for those that are missing.
+// The first parameters of a line, as many as any model has, zeros for those that are missing.
 fn numbers(line: &[u8]) -> [f64; MOST]
-    ensures { λ r. ⌜ r ≡ first-of 12 (at (params-of (now (line .entry)))) ⌝ }
+    ensures { λ r. ⌜ r ≡ first-of most (at (params-of (now (line .entry)))) ⌝ }
 {
-    [
-        params_line::at(line, 0),
-        params_line::at(line, 1),
-        params_line::at(line, 2),
-        params_line::at(line, 3),
-        params_line::at(line, 4),
-        params_line::at(line, 5),
-        params_line::at(line, 6),
-        params_line::at(line, 7),
-        params_line::at(line, 8),
-        params_line::at(line, 9),
-        params_line::at(line, 10),
-        params_line::at(line, 11),
-    ]
+    let mut n = [0.0; MOST];
+    let mut k = 0;
+    while k < MOST {
+        n[k] = params_line::at(line, k);
+        k += 1;
+    }
+    n
 }
 
 // The camera of a params line that has as many parameters as the model.

@@ -48,7 +48,7 @@ use Rattle.distortion_table.proofs.distort_table.Reads as distort-table
 abbrev pub first : {X : Type 0} → Camera → ℕ → ℕ → Bool → List X → Held X
 first camera width height strict table = record { job = fresh-job camera width height strict; cells = table }
 
--- No sample has more updates than its model's limit: 0 for affine and eucm, 20 for kb, 50 for bc.
+-- No sample has more updates than its model's limit: 0 for affine and eucm, 20 for kb, 50 for bc and bc12.
 pub within-limit : (camera : Camera) (width height : ℕ) (strict : Bool) (n : ℕ) → settled-at (sweep-of camera width height strict) n .updates ≤ limit camera
 within-limit camera width height strict n = updates-limit-judged camera (border-at width height n)
 

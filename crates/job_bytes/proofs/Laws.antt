@@ -5,7 +5,6 @@ use mathlib.Core.List.{List}
 use Prim.Native.Nat.{ℕ, _/_, _^_, _<_}
 use native.Mathlib.Omega.{arith}
 use denote.Ref.{now}
-use borrow.Author.Tests.{eqb-true}
 use lib.Dec.{eqb}
 use lib.Ieee.{binary64}
 use lib.Ieee.Bits.{ofBits-fits}
@@ -13,13 +12,13 @@ use lib.ListN.{length}
 use Rattle.exact.specs.Determined.{Determined, DeterminedWith}
 use Rattle.lens.specs.Fits.{AllFit}
 use Rattle.lens.specs.declared.Judgement.the-variants.{Taken}
+use Rattle.lens.specs.declared.Refusal.the-variants.{WrongLength}
 use Rattle.region.specs.Fits.{FourFit}
 use Rattle.region.specs.Size.{Sized}
 use Rattle.camera.specs.Camera.{parameters}
 use Rattle.camera.specs.declared.Camera.{Camera}
 use Rattle.camera.proofs.Laws.{camera-known}
 use Rattle.camera_bytes.specs.Reading.{camera-of}
-use Rattle.little_endian.specs.Bytes.{word}
 use Rattle.given.specs.Given.{Given}
 use Rattle.given.proofs.Laws.{both}
 use Rattle.plans.specs.Plan.{nowhere}
@@ -27,11 +26,11 @@ use Rattle.table_plans.specs.Tables.{opens-for}
 use Rattle.table_plans.proofs.Sound.{opened}
 use Rattle.job.specs.Job.{fresh-job}
 use Rattle.job.specs.declared.Job.{Job}
-use Rattle.job_bytes.specs.Places.{check-place, record-length}
+use Rattle.job_bytes.specs.Places.{updates-place, params-place, width-place, height-place, done-place, edges-place, region-place, unsettled-place, first-place, mark-place, check-place, record-length, length-before}
 use Rattle.job_bytes.specs.Bytes.{record-bytes, record-read, fresh-bytes}
-use Rattle.job_bytes.specs.Check.{check-of, intact, intact-before, whole, RecordBytes, WordApart, ByteApart}
-use Rattle.job_bytes.specs.declared.Found.the-variants.{Of}
-use Rattle.job_bytes.proofs.Reading.{read-job}
+use Rattle.job_bytes.specs.Check.{intact, whole, RecordBytes, WordApart, ByteApart}
+use Rattle.job_bytes.specs.declared.Found.the-variants.{Of, Refused}
+use Rattle.job_bytes.proofs.Reading.{read-misfit, read-job}
 use Rattle.job_bytes.proofs.Placing as placing
 use Rattle.job_bytes.proofs.Back.{camera-fits, model-back, job-back}
 use Rattle.job_bytes.proofs.Beginning.{fresh-zero}
@@ -53,9 +52,29 @@ determined-buffers = (λ κ a s s' r r' p q. (refl, p ∙ sym q), λ κ a s s' r
 
 -- ---- there and back
 
--- A record has 208 bytes, whatever it holds.
+-- A record has so many bytes, whatever it holds.
 pub length-record : (job : Job) → length (record-bytes job) ≡ record-length
 length-record = placing.length-record
+
+-- The places and the length that include/lens.h tells.
+pub places :
+    (updates-place ≡ 4)
+    × (params-place ≡ 8)
+    × (width-place ≡ 136)
+    × (height-place ≡ 140)
+    × (done-place ≡ 144)
+    × (edges-place ≡ 152)
+    × (region-place ≡ 184)
+    × (unsettled-place ≡ 216)
+    × (first-place ≡ 220)
+    × (mark-place ≡ 224)
+    × (check-place ≡ 232)
+    × (record-length ≡ 240)
+places = (refl, refl, refl, refl, refl, refl, refl, refl, refl, refl, refl, refl)
+
+-- A record of a release of before, which had fewer places for parameters, is refused by its length, with 7.
+pub of-before-refused : (bs : List ℕ) → length bs ≡ length-before → record-read bs ≡ Refused WrongLength
+of-before-refused bs e = sym (read-misfit bs (λ f. omega (arith, e, f)))
 
 -- What a record's bytes can hold: its numbers are f64s, its size, its updates and its tallies have 32 bits at most, its units 64.
 pub record Writable (job : Job) : Type 0 where
@@ -81,12 +100,12 @@ written-read job w =
 pub written-whole : (job : Job) → whole (record-bytes job) ≡ true
 written-whole = its-whole
 
--- And it is 208 numbers below 256.
+-- And it is so many numbers below 256.
 pub written-bytes : (job : Job) → RecordBytes (record-bytes job)
 written-bytes = record-of-bytes
 
--- Damage within one word of eight bytes shows: of two records' bytes that are the same outside one of their 26 words, and not
--- the same, at most one is intact. The check word is one of the 26.
+-- Damage within one word of eight bytes shows: of two records' bytes that are the same outside one of their words, and not the
+-- same, at most one is intact. The check word is one of these words.
 pub one-word-caught :
     (a b : List ℕ) → RecordBytes a → RecordBytes b → (k : ℕ) → WordApart k a b → intact a ≡ true → intact b ≡ false
 one-word-caught a b ra rb k apart ia = by-test (intact b) refl
@@ -103,15 +122,6 @@ byte-in-word = in-a-word
 pub one-byte-caught :
     (a b : List ℕ) → RecordBytes a → RecordBytes b → (place : ℕ) → ByteApart place a b → intact a ≡ true → intact b ≡ false
 one-byte-caught a b ra rb place apart = one-word-caught a b ra rb (place / 8) (byte-in-word place a b apart)
-
--- A record of a release of before, whose border had each corner twice, is not intact.
-pub of-before-refused : (bs : List ℕ) → intact-before bs ≡ true → intact bs ≡ false
-unfolding check-of
-of-before-refused bs e = by-test (intact bs) refl
-  where
-    by-test : (t : Bool) → intact bs ≡ t → t ≡ false
-    by-test true f = absurd (omega (arith, eqb-true (word bs check-place) _ e, eqb-true (word bs check-place) _ f))
-    by-test false f = refl
 
 -- ---- a fresh record
 

@@ -13,28 +13,17 @@ use Rattle.job_bytes.specs.Places.{mark-place, check-place, summed, reco
 abbrev pub check-start : ℕ
 check-start = 0x32424f4a534e454c
 
--- and started from while the border had each corner twice: "LENSJOB1"
-abbrev pub check-start-before : ℕ
-check-start-before = 0x31424f4a534e454c
-
 -- the first n words, one added to the other
 unfoldable pub sum-of-words : ℕ → List ℕ → ℕ
 sum-of-words zero bs = 0
 sum-of-words (suc n) bs = sum-of-words n bs + word bs (8 * n)
 
-abbrev pub check-from : ℕ → List ℕ → ℕ
-check-from start bs = (start + sum-of-words summed bs) % 2 ^ 64
-
 unfoldable pub check-of : List ℕ → ℕ
-check-of = check-from check-start
+check-of bs = (check-start + sum-of-words summed bs) % 2 ^ 64
 
 -- whether the check word is the one of the bytes before it
 abbrev pub intact : List ℕ → Bool
 intact bs = eqb (word bs check-place) (check-of bs)
-
--- or the one that a release of before wrote, whose units are others
-abbrev pub intact-before : List ℕ → Bool
-intact-before bs = eqb (word bs check-place) (check-from check-start-before bs)
 
 -- whether the strict mark is one
 abbrev pub marked : List ℕ → Bool

@@ -51,3 +51,7 @@ summed = check-place / 8
 -- how many bytes a record has
 abbrev pub record-length : ℕ
 record-length = check-place + 8
+
+-- and had while no model had more than twelve parameters
+abbrev pub length-before : ℕ
+length-before = 208

@@ -115,7 +115,7 @@ pub extern "C" fn lens_observe(model: u8, params: &[u8], list: &mut [u8]) -> u8
     observation_bytes::observe(model, params, list)
 }
 
-// A fresh record of a table that is to be built, 208 bytes. The mark is 1 for a strict one, else 0.
+// A fresh record of a table that is to be built, 240 bytes. The mark is 1 for a strict one, else 0.
 #[no_mangle]
 pub extern "C" fn lens_job_new(
     model: u8,

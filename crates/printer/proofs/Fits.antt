@@ -16,7 +16,7 @@ use Rattle.lens.proofs.Laws.{number-within}
 use Rattle.region.specs.Size.{Sized}
 use Rattle.camera.specs.Camera.{limit}
 use Rattle.camera.specs.declared.Camera.{Camera}
-use Rattle.camera.specs.declared.Camera.the-variants as model
+use Rattle.camera.proofs.Laws.{limit-most}
 use Rattle.camera_file.specs.Asked.{parsed}
 use Rattle.camera_file.specs.declared.Parsed.{Parsed}
 use Rattle.camera_file.specs.declared.Parsed.the-variants as file
@@ -51,12 +51,6 @@ refusal-short n h = omega (arith, length-append (refused-line n) [], refused-sho
 none-short : Short []
 unfolding joined
 none-short = omega arith
-
-limit-most : (camera : Camera) → limit camera ≤ 50
-limit-most (model.Affine p) = omega arith
-limit-most (model.EnhancedUnified p) = omega arith
-limit-most (model.KannalaBrandt p) = omega arith
-limit-most (model.BrownConrady p) = omega arith
 
 pub blank-long : (cells : ℕ) → cells ≤ most-cells → length (blank cells) ≡ 2 * cells
 blank-long cells h =

@@ -2,34 +2,26 @@
 use mathlib.Core.Path.{_≡_, refl, sym, ap, subst}
 use mathlib.Core.Bool.{Bool, true, false, cond, false≢true, _&&_, _||_}
 use mathlib.Core.List.{List, [], _∷_, _++_}
+use mathlib.Core.Logic.{_⊎_, inl, inr}
 use Prim.Native.Nat.{ℕ}
 use borrow.Author.Tests.{eq-eqb, eqb-true}
 use lib.Dec.{eqb}
-use lib.Ieee.{Float, le}
 use lib.Ieee.Scale.{finite}
-use Rattle.root.specs.Root.{root}
-use Rattle.arctan.specs.Tangent.{tangent}
-use Rattle.arctan.specs.declared.Slope.{Slope}
-use Rattle.arctan.specs.declared.Slope.the-variants.{Is, TooSteep}
-use Rattle.lens.specs.Constants.{zeros, eps}
 use Rattle.lens.specs.Refusal.{number}
 use Rattle.lens.specs.declared.Distorted.the-variants as pixels
 use Rattle.lens.specs.declared.Judgement.{Judgement}
 use Rattle.lens.specs.declared.Judgement.the-variants as judged
 use Rattle.lens.specs.declared.Pixel.{Pixel}
-use Rattle.lens.specs.declared.Refusal.the-variants.{IncrementNotPositive, AnswerNotFinite, RayNotForward}
-use Rattle.lens.specs.declared.Settled.{Settled}
+use Rattle.lens.specs.declared.Refusal.{Refusal}
+use Rattle.lens.specs.declared.Refusal.the-variants.{IncrementNotPositive, AnswerNotFinite}
 use Rattle.lens.specs.declared.Undistorted.{Undistorted}
 use Rattle.lens.specs.declared.Undistorted.the-variants as found
 use Rattle.region.specs.Region.{increments, flat, wrong}
 use Rattle.region.specs.declared.Increments.{Increments}
 use Rattle.region.specs.declared.Region.{Region}
-use Rattle.enhanced_unified.specs.EnhancedUnified as eucm
-use Rattle.kannala_brandt.specs.KannalaBrandt as kb
-use Rattle.kannala_brandt.specs.declared.Reached.{Reached}
 use Rattle.camera.specs.Camera.{pixel-of, point-of, finite-point, distort-judged}
 use Rattle.camera.specs.declared.Camera.{Camera}
-use Rattle.camera.specs.declared.Camera.the-variants.{Affine, EnhancedUnified, KannalaBrandt, BrownConrady}
+use Rattle.camera.proofs.Laws.{model-refuses}
 use Rattle.plans.specs.Plan.{Content, numbers, none, State, next}
 use Rattle.plans.specs.Calls.{said-number}
 use Rattle.plans.proofs.Numbers.{Told, Refusing, turn-says}
@@ -76,20 +68,16 @@ module _ (refusal : ℕ) (strict : Bool) where
   FoundKnown (found.At s) = Unit {0}
   FoundKnown (found.Refused r) = Known refusal strict (number r)
 
-  kb-known : (near : Bool) (slope : Slope) (point : Settled) (at : Reached) (rth un vn : Float) → FoundKnown (cond near (found.At point) (kb.outward slope at rth un vn))
-  kb-known true slope point at rth un vn = tt
-  kb-known false (Is t) point at rth un vn = tt
-  kb-known false TooSteep point at rth un vn = refl
-
-  eucm-known : (mirrored : Bool) (s : Settled) → FoundKnown (cond mirrored (found.Refused RayNotForward) (found.At s))
-  eucm-known true s = refl
-  eucm-known false s = tt
-
   point-known : (camera : Camera) (pixel : Pixel) → FoundKnown (point-of camera pixel)
-  point-known (Affine p) pixel = tt
-  point-known (EnhancedUnified p) pixel = eucm-known (le (eucm.ray-z p pixel) zeros) (eucm.undistort-before p pixel)
-  point-known (KannalaBrandt p) pixel = kb-known (le (kb.rth2 p pixel) eps) (tangent (kb.newton p (root (kb.rth2 p pixel)) .th)) _ _ _ _ _
-  point-known (BrownConrady p) pixel = tt
+  point-known camera pixel = go (point-of camera pixel) refl
+    where
+      either : (r : Refusal) → (number r ≡ 10) ⊎ (number r ≡ 16) → FoundKnown (found.Refused r)
+      either r (inl e) = subst (Known refusal strict) (sym e) refl
+      either r (inr e) = subst (Known refusal strict) (sym e) refl
+
+      go : (u : Undistorted) → point-of camera pixel ≡ u → FoundKnown u
+      go (found.At s) e = tt
+      go (found.Refused r) e = either r (model-refuses camera pixel r e)
 
   finite-known : (u : Undistorted) → FoundKnown u → FoundKnown (finite-point u)
   finite-known (found.Refused r) h = h

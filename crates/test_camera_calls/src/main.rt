@@ -2,14 +2,14 @@
 // each call or row of calls a line of the input. The gate runs this on the file stdin and holds what it writes to
 // the file stdout; tools/make_camera_calls.py makes both, and joins to its own questions a sample of the oracle's.
 //
-// A line has 18 fields with tabs between, each of 16 lower-case hexadecimal digits: the model; what is done; how
-// many bytes of parameters are handed over, at most 304, and how many are lent, at most 4,000; twelve words, which
+// A line has 22 fields with tabs between, each of 16 lower-case hexadecimal digits: the model; what is done; how
+// many bytes of parameters are handed over, at most 304, and how many are lent, at most 4,000; sixteen words, which
 // are the parameters' bit patterns; x and y. What is done:
 //
 //   0 to 3  the four operations, as in lens_c's header
 //   4       the root of x, 5 its tangent, 8 its arctangent
 //   6       the list of observations that starts at the byte of the lent ones that x counts
-//   7       the twelve words are put there, to stay. This has no answer
+//   7       the sixteen words are put there, to stay. This has no answer
 //
 // and with 16 r added to it, all calls of a row, n from 0 to 300: n bytes are lent (r = 1), handed over (2) or both
 // (3), or n is the model (4). All lent bytes are a5 before the first line is read, and after a call they are what
@@ -25,9 +25,18 @@ use libc::STDIN_FILENO;
 use libc::STDOUT_FILENO;
 
 // The fields of a line, and its bytes: a field has 16 digits, and a tab or the line's end after them.
-const FIELDS: usize = 18;
+const FIELDS: usize = 22;
 
-const LINE: usize = 306;
+const LINE: usize = 374;
+
+// The words of a line, and the fields that the first of them, x and y stand in.
+const WORDS: usize = camera::numbers::MOST;
+
+const FIRST: usize = 4;
+
+const X: usize = 20;
+
+const Y: usize = 21;
 
 // The most bytes that are handed over, and lent.
 const HANDED: usize = 304;
@@ -69,7 +78,7 @@ fn asked(q: &[u64; FIELDS], n: usize) -> Call {
         } else {
             q[2] as usize
         },
-        at: if q[1] % 16 == 6 { q[16] as usize } else { 0 },
+        at: if q[1] % 16 == 6 { q[X] as usize } else { 0 },
         lent: if row == 1 || row == 3 {
             n
         } else {
@@ -83,13 +92,13 @@ fn calls(q: &[u64; FIELDS]) -> usize {
     if q[1] < 16 { 1 } else { 301 }
 }
 
-// Puts the twelve words of a line. What does not fit is left out.
+// Puts the words of a line. What does not fit is left out.
 fn put_words(q: &[u64; FIELDS], bytes: &mut [u8], at: usize)
     requires { ⌜ at ≤ 4000 ⌝ }
 {
     let mut i = 0;
-    while i < 12 {
-        little_endian::put(bytes, at + 8 * i, 8, q[4 + i]);
+    while i < WORDS {
+        little_endian::put(bytes, at + 8 * i, 8, q[FIRST + i]);
         i += 1;
     }
 }
@@ -152,8 +161,8 @@ fn say_place(q: &[u64; FIELDS], n: usize) {
 // ---- a call
 
 fn called(q: &[u64; FIELDS], model: u8, params: &[u8], lent: &mut [u8]) -> u8 {
-    let x = exact::of_bits(q[16]);
-    let y = exact::of_bits(q[17]);
+    let x = exact::of_bits(q[X]);
+    let y = exact::of_bits(q[Y]);
     match q[1] % 16 {
         0 => lens_c::lens_distort(model, params, x, y, lent),
         1 => lens_c::lens_undistort(model, params, x, y, lent),
@@ -239,8 +248,8 @@ fn answer_float(x: f64) {
 }
 
 fn put_list(q: &[u64; FIELDS], lent: &mut [u8; LENT]) {
-    if q[16] <= 4000 {
-        put_words(q, lent, q[16] as usize);
+    if q[X] <= 4000 {
+        put_words(q, lent, q[X] as usize);
     } else {
         refuse();
     }
@@ -249,7 +258,7 @@ fn put_list(q: &[u64; FIELDS], lent: &mut [u8; LENT]) {
 // Does what a line says.
 fn answer_question(q: &[u64; FIELDS], lent: &mut [u8; LENT]) {
     let done = q[1];
-    let x = exact::of_bits(q[16]);
+    let x = exact::of_bits(q[X]);
     if done == 4 {
         answer_float(lens_c::lens_root(x));
     } else if done == 8 {

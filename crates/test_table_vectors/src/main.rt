@@ -1,9 +1,9 @@
 // Builds lens tables in turns, as outside vectors ask, which tools/make_table_vectors.py makes from the
 // text of the Rust. The gate runs this on the file stdin, and holds what it writes to the file stdout.
 //
-// A line of the input has 18 fields with tabs between, each of 16 lower-case hexadecimal digits: the
-// model, from 0 to 3, the width, the height, the allowance of every turn, 1 for a strict job or else 0, 1
-// for cells of sixteen bits or 0 for f32s, and then bit patterns of f64s: twelve parameters, of which a
+// A line of the input has 22 fields with tabs between, each of 16 lower-case hexadecimal digits: the
+// model, from 0 to 4, the width, the height, the allowance of every turn, 1 for a strict job or else 0, 1
+// for cells of sixteen bits or 0 for f32s, and then bit patterns of f64s: sixteen parameters, of which a
 // model takes as many as it has. The answer is
 // `fresh`, or `refused` and a number and nothing more. Then comes a line for each turn, by its status:
 // `running`, `finished`, or `refused` and a number, with the units done, the updates, how many samples did
@@ -27,9 +27,9 @@ ghost use lib.ListN.{length};
 
 // The fields of a line, and its bytes: a field has 16 digits, and a tab or the line's end after them.
 // All lines are of one length, so that one is read at a time, and there may be any number of them.
-const FIELDS: usize = 18;
+const FIELDS: usize = 22;
 
-const LINE: usize = 306;
+const LINE: usize = 374;
 
 // The parameters in a line, and the field that the first stands in.
 const PARAMS: usize = camera::numbers::MOST;
@@ -324,7 +324,7 @@ fn answer_question(q: &[u64; FIELDS]) {
 
 // Answers a line of numbers, if there is such a model, such a mark and such a kind of cell.
 fn answer_numbers(q: &[u64; FIELDS]) {
-    if q[0] < 4 && q[4] < 2 && q[5] < 2 {
+    if q[0] <= camera::numbers::LAST as u64 && q[4] < 2 && q[5] < 2 {
         answer_question(q);
     } else {
         refuse();

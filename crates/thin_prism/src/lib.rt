@@ -11,12 +11,13 @@ use lens::Pixel;
 use lens::Point;
 use lens::Settled;
 
-// The sixteen parameters: bc's twelve, then the prism's four.
+// The sixteen parameters: bc's twelve, then the prism's four. What goes with r² stands together, and what goes with r⁴,
+// so that the processor takes both coordinates' in one load; a file and C have s1, s2, s3, s4.
 pub struct ThinPrismParams {
     pub bc: BrownConradyParams,
     pub s1: f64,
-    pub s2: f64,
     pub s3: f64,
+    pub s2: f64,
     pub s4: f64,
 }
 

@@ -3,6 +3,7 @@ use mathlib.Core.Path.{_≡_, refl, sym, ap, _∙_, subst}
 use mathlib.Core.Bool.{Bool, true, false, false≢true}
 use mathlib.Core.List.{List, [], _∷_}
 use Prim.Native.Nat.{ℕ, _*_}
+use native.Mathlib.Omega.{arith}
 use denote.Ref.{now}
 use borrow.Author.Tests.{eqb-true, eqb-false}
 use lib.Dec.{eqb}
@@ -24,8 +25,11 @@ use Rattle.job.specs.declared.Job.{Job}
 use Rattle.distortion_table.specs.Answer.{plan-of, state-of, turn-of}
 use Rattle.distortion_table.proofs.Calls.{start-admitted}
 use Rattle.camera_bytes.specs.Reading.{camera-of}
+use Rattle.given.specs.Given.{code}
+use Rattle.job_bytes.specs.Places.{length-before}
 use Rattle.job_bytes.specs.Bytes.{record-bytes, record-read, job-at, fresh-bytes}
-use Rattle.job_bytes.specs.Check.{intact, intact-before, marked, whole, RecordBytes, WordApart, ByteApart}
+use Rattle.job_bytes.specs.Check.{intact, marked, whole, RecordBytes, WordApart, ByteApart}
+use Rattle.job_bytes.specs.declared.Found.{Found}
 use Rattle.job_bytes.proofs.Laws.{fresh-read, fresh-opens-zero, written-whole, written-bytes, one-word-caught, one-byte-caught, of-before-refused}
 use Rattle.turn_bytes.specs.Turn.{Handed, handed, answer-length, before-units, written, turn-bytes}
 use Rattle.turn_bytes.specs.Calls.{HeldBytes, bytes-plan, bytes-state, left, bytes-said, call-numbers, NotTaken}
@@ -158,9 +162,17 @@ module _ {X : Type 0} (c : Cells X) (bs : List ℕ) (cells : List X) (allowance 
   pub not-marked-refused : marked bs ≡ false → NotTaken bs cells lent after
   not-marked-refused broken = broken-refused (λ z. false≢true (sym broken ∙ right-bytes z .0))
 
-  -- So with the bytes of a release of before, whose border had each corner twice: such a job is never continued.
-  pub job-of-before-refused : intact-before bs ≡ true → NotTaken bs cells lent after
-  job-of-before-refused old = not-intact-refused (of-before-refused bs old)
+  seven : (b : Bool) → code 7 b ≡ 7
+  unfolding code
+  seven true = refl
+  seven false = refl
+
+  -- A job of a release of before, which had fewer bytes, is refused with 7 and nothing is written: it is never continued.
+  pub job-of-before-refused : length bs ≡ length-before → after ≡ handed 7 bs cells lent
+  job-of-before-refused old =
+      let e : before ≡ 7 =
+      ap (λ (found : Found). before-units found (whole bs) cells lent) (of-before-refused bs old) ∙ seven (eqb (length lent) answer-length) in
+      refused-untouched (λ z. omega (arith, e, z)) ∙ ap (λ (n : ℕ). handed n bs cells lent) e
 
   taken-intact : one-of (after .code) call-numbers ≡ false → intact bs ≡ true
   taken-intact n = right-bytes (none-wrong n) .1

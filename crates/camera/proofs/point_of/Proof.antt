@@ -18,5 +18,8 @@ returns-3 c = rw (c .before .before .camera3 .given .1) (told-one-to-one _ _ (c 
 returns-4 : tie.Need-returns-4
 returns-4 c = rw (c .before .before .camera4 .given .1) (ap At (c .undistort4 .ensures))
 
+returns-5 : tie.Need-returns-5
+returns-5 c = rw (c .before .before .camera5 .given .1) (ap At (c .undistort5 .ensures))
+
 pub point-of-spec : {M : Type 1} → statement M
-point-of-spec = tie.close (tie.spec (λ c. search needs) (λ c κs. search needs) (λ c. search needs) (λ c κs. search needs) (λ c. search needs) (λ c κs. search needs) (λ c. search needs) (λ c κs. search needs) returns returns-2 returns-3 returns-4)
+point-of-spec = tie.close (tie.spec (λ c. search needs) (λ c κs. search needs) (λ c. search needs) (λ c κs. search needs) (λ c. search needs) (λ c κs. search needs) (λ c. search needs) (λ c κs. search needs) (λ c. search needs) (λ c κs. search needs) returns returns-2 returns-3 returns-4 returns-5)

@@ -7,10 +7,10 @@ use Rattle.test_camera_calls.proofs.put_words.Statement.{statement}
 use Rattle.test_camera_calls.proofs.put_words.Tie as tie
 
 abbrev Inv-loop : tie.InvT-loop
-Inv-loop q bytes₀ at i₀ bytes i = (i ≤ 12) × (length bytes ≡ length bytes₀)
+Inv-loop q bytes₀ at i₀ bytes i = (i ≤ 16) × (length bytes ≡ length bytes₀)
 
 abbrev μ-loop : tie.MeasureT-loop
-μ-loop q bytes₀ at i₀ bytes i = 12 - i
+μ-loop q bytes₀ at i₀ bytes i = 16 - i
 
 pub put-words-spec : {M : Type 1} → statement M
 put-words-spec =

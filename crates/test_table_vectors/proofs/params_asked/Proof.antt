@@ -5,10 +5,10 @@ use Rattle.test_table_vectors.proofs.params_asked.Statement.{statement}
 use Rattle.test_table_vectors.proofs.params_asked.Tie as tie
 
 abbrev Inv-loop : tie.InvT-loop
-Inv-loop q params₀ i₀ params i = i ≤ 12
+Inv-loop q params₀ i₀ params i = i ≤ 16
 
 abbrev μ-loop : tie.MeasureT-loop
-μ-loop q params₀ i₀ params i = 12 - i
+μ-loop q params₀ i₀ params i = 16 - i
 
 loop-holds : tie.Need-loop-holds Inv-loop μ-loop
 loop-holds c = search needs

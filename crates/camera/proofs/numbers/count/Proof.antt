@@ -14,7 +14,10 @@ returns-3 : tie.Need-returns-3
 returns-3 c = rw (c .if3 .taken) refl
 
 returns-4 : tie.Need-returns-4
-returns-4 c = rw (last-model _ (c .before .before .if1 .left) (c .before .if2 .left) (c .if3 .left)) refl
+returns-4 c = rw (c .if4 .taken) refl
+
+returns-5 : tie.Need-returns-5
+returns-5 c = rw (last-model _ (c .before .before .before .if1 .left) (c .before .before .if2 .left) (c .before .if3 .left) (c .if4 .left)) refl
 
 pub count-spec : {M : Type 1} → statement M
-count-spec = tie.close (tie.spec returns returns-2 returns-3 returns-4)
+count-spec = tie.close (tie.spec returns returns-2 returns-3 returns-4 returns-5)

@@ -15,6 +15,9 @@ returns-3 c = rw (c .before .before .camera3 .given .1) (c .of-kannala-brandt .e
 returns-4 : tie.Need-returns-4
 returns-4 c = rw (c .before .before .camera4 .given .1) (c .of-brown-conrady .ensures)
 
+returns-5 : tie.Need-returns-5
+returns-5 c = rw (c .before .before .camera5 .given .1) (c .of-thin-prism .ensures)
+
 pub padded-spec : {M : Type 1} → statement M
 padded-spec =
     tie.close
@@ -27,7 +30,10 @@ padded-spec =
     (λ c κs. search needs)
     (λ c. search needs)
     (λ c κs. search needs)
+    (λ c. search needs)
+    (λ c κs. search needs)
     returns
     returns-2
     returns-3
-    returns-4)
+    returns-4
+    returns-5)
