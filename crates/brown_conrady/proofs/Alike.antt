@@ -1,17 +1,18 @@
 -- Points that are one but for the signs of zeros: their squared radius is the same bit by bit, so bc sends them alike, and two Newtons whose steps are alike go the same way. Assumes nothing.
 use mathlib.Core.Path.{_≡_, refl, sym, ap, ap₂, _∙_}
 use mathlib.Core.Bool.{Bool, true, false, cond, false≢true}
-use Prim.Native.Nat.{ℕ, zero, suc, _*_}
+use Prim.Native.Nat.{zero, _*_}
 use native.Mathlib.Nat.{mul-pos}
 use lib.Dec.{T}
 use lib.IntN.{ℤ, pos}
-use lib.Ieee.{Float, nan, inf, fin, binary64, up, down, add, mul, le, ofBits}
+use lib.Ieee.{Float, nan, inf, fin, binary64, up, down, mul, le, ofBits}
 use lib.Ieee.Fits.{down-pos}
 use lib.Ieee.Scale.{finite}
 use Rattle.exact.specs.Alike.{_≐_, same}
-use Rattle.exact.specs.F64.{f64, minus, _⊕_, _⊖_, _⊗_, _⊘_, isZero}
+use Rattle.exact.specs.F64.{f64, magnitude, _⊕_, _⊖_, _⊗_, _⊘_}
 use Rattle.exact.proofs.Alike.{its, ≐-elim, ≐-isZero, ≐-minus, ≐-over, _⟨⊕⟩_, _⟨⊖⟩_, _⟨⊗⟩_}
 use Rattle.exact.proofs.Operations.{sum-finite, difference-finite, product-finite, quotient-finite}
+use Rattle.exact.proofs.Swaps.{squares-unsigned}
 use Rattle.exact.proofs.Zeros.{nought, zero-rounds}
 use Rattle.root.specs.Root.{root}
 use Rattle.lens.specs.Alike.{AlikePoints}
@@ -25,6 +26,7 @@ use Rattle.brown_conrady.specs.declared.Offset.{Offset}
 use Rattle.brown_conrady.specs.declared.Search.{Search}
 use Rattle.brown_conrady.specs.declared.Slopes.{Slopes}
 use Rattle.brown_conrady.proofs.NoRoot.{last-bits, no-root}
+use Rattle.brown_conrady.proofs.Steps.{passes-alike}
 
 -- ---- a square has no sign
 
@@ -120,22 +122,19 @@ solve-kept a b c d f t =
 pub small-kept : {f g : Offset} → AlikeOffsets f g → small f ≡ small g
 small-kept h = ap (λ (r : Float). le (root r) eps) (radius-same (h .x) (h .y))
 
--- a small offset is of numbers
-not-past : (x v : Float) → le (x ⊗ x ⊕ v) (f64 last-bits) ≡ true → T (finite x)
-unfolding mul add le ofBits
-not-past nan v h = absurd (false≢true h)
-not-past (inf true) nan h = absurd (false≢true h)
-not-past (inf true) (inf true) h = absurd (false≢true h)
-not-past (inf true) (inf false) h = absurd (false≢true h)
-not-past (inf true) (fin t n d) h = absurd (false≢true h)
-not-past (inf false) nan h = absurd (false≢true h)
-not-past (inf false) (inf true) h = absurd (false≢true h)
-not-past (inf false) (inf false) h = absurd (false≢true h)
-not-past (inf false) (fin t n d) h = absurd (false≢true h)
-not-past (fin s m e) v h = tt
+-- a small offset is of numbers: a sum of squares that is at most the bound is finite, since only -infinity is below it and isn't
+at-most : (q : Float) → le (magnitude q) (f64 last-bits) ≡ true → T (finite q)
+unfolding magnitude le ofBits
+at-most nan h = absurd (false≢true h)
+at-most (inf s) h = absurd (false≢true h)
+at-most (fin s m e) h = tt
 
-small-finite : (f : Offset) → small f ≡ true → T (finite (f .0))
-small-finite f h = not-past (f .0) (f .1 ⊗ f .1) (sym (no-root (f .0) (f .1)) ∙ h)
+pub small-finite : (f : Offset) → small f ≡ true → T (finite (f .0)) × T (finite (f .1))
+small-finite f h =
+    let q = squared-radius (f .0) (f .1) in
+    let bounded = ap (λ (q : Float). le q (f64 last-bits)) (squares-unsigned (f .0) (f .1)) ∙ sym (no-root (f .0) (f .1)) ∙ h in
+    let both = sum-finite (f .0 ⊗ f .0) (f .1 ⊗ f .1) (at-most q bounded) in
+    (product-finite (f .0) (f .0) (both .0) .0, product-finite (f .1) (f .1) (both .1) .0)
 
 -- ---- two Newtons
 
@@ -144,77 +143,69 @@ pub record AlikeSearches (s t : Search) : Type 0 where
   pub updates : s .updates ≡ t .updates
   pub ended : s .ended ≡ t .ended
 
-abbrev Known : Search → Type 0
-Known s = T (finite (s .xy .0))
-
--- a pass to a number comes from one, by a step that is one
-module _ (step : Point → Offset) where
-  came-from : (at : Search) → Known (pass-by step at) → Known at × T (finite (step (at .xy) .0))
-  unfolding pass-by
-  came-from at = go (small (step (at .xy))) refl _ _ (λ t. t) (difference-finite (at .xy .0) (step (at .xy) .0))
-    where
-      go :
-          (b : Bool) → small (step (at .xy)) ≡ b → (s t : Search) → (Known s → Known at) → (Known t → Known at × T (finite (step (at .xy) .0)))
-          → Known (cond b s t) → Known at × T (finite (step (at .xy) .0))
-      go true e s t f g k = (f k, small-finite (step (at .xy)) e)
-      go false e s t f g k = g k
-
-  known-before : (n : ℕ) (s : Search) → Known (passes (pass-by step) ended n s) → Known s
-  unfolding passes
-  known-before zero s t = t
-  known-before (suc n) s t = came-from s (go (ended (pass-by step s)) (known-before n (pass-by step s)) t) .0
-    where
-      go : (b : Bool) → (Known (passes (pass-by step) ended n (pass-by step s)) → Known (pass-by step s)) → Known (cond b (pass-by step s) (passes (pass-by step) ended n (pass-by step s))) → Known (pass-by step s)
-      go true f t = t
-      go false f t = f t
-
-  -- and so does the first pass of a search that ends at one
-  known-first : (n : ℕ) (s : Search) → Known (passes (pass-by step) ended (suc n) s) → Known (pass-by step s)
-  unfolding passes
-  known-first n s t = go (ended (pass-by step s)) t
-    where
-      go : (b : Bool) → Known (cond b (pass-by step s) (passes (pass-by step) ended n (pass-by step s))) → Known (pass-by step s)
-      go true t = t
-      go false t = known-before n (pass-by step s) t
-
 both : (b c : Bool) (s s' t t' : Search) → b ≡ c → AlikeSearches s t → AlikeSearches s' t' → AlikeSearches (cond b s s') (cond c t t')
 both true true s s' t t' e p q = p
 both true false s s' t t' e p q = absurd (false≢true (sym e))
 both false true s s' t t' e p q = absurd (false≢true e)
 both false false s s' t t' e p q = q
 
--- a search goes as another whose steps are alike, if it ends at a number
-module _ (step step' : Point → Offset) (kept : (p q : Point) → AlikePoints p q → T (finite (step p .0)) → AlikeOffsets (step p) (step' q)) where
-  pass-alike : (s t : Search) → AlikeSearches s t → Known (pass-by step s) → AlikeSearches (pass-by step s) (pass-by step' t)
-  pass-alike s t h k = go (kept (s .xy) (t .xy) (h .xy) (came-from step s k .1))
-    where
-      go : AlikeOffsets (step (s .xy)) (step' (t .xy)) → AlikeSearches (pass-by step s) (pass-by step' t)
-      go f =
-          unfold pass-by in
-          both (small (step (s .xy))) (small (step' (t .xy))) _ _ _ _ (small-kept f)
-          (record { xy = h .xy; updates = rw (h .updates) refl; ended = refl })
-          (record { xy = record { x = h .xy .x ⟨⊖⟩ f .x; y = h .xy .y ⟨⊖⟩ f .y }; updates = rw (h .updates) refl; ended = refl })
+-- by what is seen of a point, which two differences have only if their sides do, and a small step has
+module _ (Seen : Float → Float → Type 0) (apart : (a b c d : Float) → Seen (a ⊖ c) (b ⊖ d) → Seen a b × Seen c d) (of-small : (f : Offset) → small f ≡ true → Seen (f .0) (f .1)) where
+  abbrev Known : Search → Type 0
+  Known s = Seen (s .xy .0) (s .xy .1)
 
-  passes-alike :
-      (n : ℕ) (s t : Search) → AlikeSearches s t → Known (passes (pass-by step) ended n s)
-      → AlikeSearches (passes (pass-by step) ended n s) (passes (pass-by step') ended n t)
-  unfolding passes
-  passes-alike zero s t h k = h
-  passes-alike (suc n) s t h k =
-      let a = pass-alike s t h (known-first step n s k) in
-      go (ended (pass-by step s)) (ended (pass-by step' t)) (a .ended) a (passes-alike n (pass-by step s) (pass-by step' t) a) k
+  -- a pass to what has it comes from what has it, by a step that has it
+  pub came-from : (step : Point → Offset) (at : Search) → Known (pass-by step at) → Known at × Seen (step (at .xy) .0) (step (at .xy) .1)
+  unfolding pass-by
+  came-from step at = go (small (step (at .xy))) refl _ _ (λ t. t) (apart (at .xy .0) (at .xy .1) (step (at .xy) .0) (step (at .xy) .1))
     where
       go :
-          (b c : Bool) → b ≡ c → AlikeSearches (pass-by step s) (pass-by step' t)
-          → (Known (passes (pass-by step) ended n (pass-by step s)) → AlikeSearches (passes (pass-by step) ended n (pass-by step s)) (passes (pass-by step') ended n (pass-by step' t)))
-          → Known (cond b (pass-by step s) (passes (pass-by step) ended n (pass-by step s)))
-          → AlikeSearches (cond b (pass-by step s) (passes (pass-by step) ended n (pass-by step s))) (cond c (pass-by step' t) (passes (pass-by step') ended n (pass-by step' t)))
-      go true true e a f k = a
-      go true false e a f k = absurd (false≢true (sym e))
-      go false true e a f k = absurd (false≢true e)
-      go false false e a f k = f k
+          (b : Bool) → small (step (at .xy)) ≡ b → (s t : Search) → (Known s → Known at) → (Known t → Known at × Seen (step (at .xy) .0) (step (at .xy) .1))
+          → Known (cond b s t) → Known at × Seen (step (at .xy) .0) (step (at .xy) .1)
+      go true e s t f g k = (f k, of-small (step (at .xy)) e)
+      go false e s t f g k = g k
 
+  -- a search goes as another whose steps are alike, if it ends at what has it
+  module _ (step step' : Point → Offset) (kept : (p q : Point) → AlikePoints p q → Seen (step p .0) (step p .1) → AlikeOffsets (step p) (step' q)) where
+    pass-alike : (s t : Search) → AlikeSearches s t → Known (pass-by step s) → AlikeSearches (pass-by step s) (pass-by step' t)
+    pass-alike s t h k = go (kept (s .xy) (t .xy) (h .xy) (came-from step s k .1))
+      where
+        go : AlikeOffsets (step (s .xy)) (step' (t .xy)) → AlikeSearches (pass-by step s) (pass-by step' t)
+        go f =
+            unfold pass-by in
+            both (small (step (s .xy))) (small (step' (t .xy))) _ _ _ _ (small-kept f)
+            (record { xy = h .xy; updates = rw (h .updates) refl; ended = refl })
+            (record { xy = record { x = h .xy .x ⟨⊖⟩ f .x; y = h .xy .y ⟨⊖⟩ f .y }; updates = rw (h .updates) refl; ended = refl })
+
+    newton-by :
+        (from : Point) → Known (passes (pass-by step) ended limit (start from))
+        → AlikeSearches (passes (pass-by step) ended limit (start from)) (passes (pass-by step') ended limit (start from))
+    newton-by from =
+        passes-alike (pass-by step) ended (pass-by step') ended Known AlikeSearches (λ s k. came-from step s k .0) (λ s t h. h .ended) pass-alike limit (start from) (start from)
+        (record { xy = record { x = its (from .0); y = its (from .1) }; updates = refl; ended = refl })
+
+-- that its first number is finite, and that both are
+abbrev pub First : Float → Float → Type 0
+First x y = T (finite x)
+
+abbrev pub Both : Float → Float → Type 0
+Both x y = T (finite x) × T (finite y)
+
+pub both-apart : (a b c d : Float) → Both (a ⊖ c) (b ⊖ d) → Both a b × Both c d
+both-apart a b c d h =
+    let x = difference-finite a c (h .0) in
+    let y = difference-finite b d (h .1) in
+    ((x .0, y .0), (x .1, y .1))
+
+module _ (step step' : Point → Offset) where
   pub newton-alike :
-      (from : Point) → Known (passes (pass-by step) ended limit (start from))
+      ((p q : Point) → AlikePoints p q → First (step p .0) (step p .1) → AlikeOffsets (step p) (step' q))
+      → (from : Point) → T (finite (passes (pass-by step) ended limit (start from) .xy .0))
       → AlikeSearches (passes (pass-by step) ended limit (start from)) (passes (pass-by step') ended limit (start from))
-  newton-alike from = passes-alike limit (start from) (start from) (record { xy = record { x = its (from .0); y = its (from .1) }; updates = refl; ended = refl })
+  newton-alike = newton-by First (λ a b c d. difference-finite a c) (λ f h. small-finite f h .0) step step'
+
+  pub newton-both :
+      ((p q : Point) → AlikePoints p q → Both (step p .0) (step p .1) → AlikeOffsets (step p) (step' q))
+      → (from : Point) → Both (passes (pass-by step) ended limit (start from) .xy .0) (passes (pass-by step) ended limit (start from) .xy .1)
+      → AlikeSearches (passes (pass-by step) ended limit (start from)) (passes (pass-by step') ended limit (start from))
+  newton-both = newton-by Both both-apart small-finite step step'

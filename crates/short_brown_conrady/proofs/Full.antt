@@ -1,16 +1,16 @@
 -- Where k4, k5 and k6 are zeros and the short numbers are finite, the full ones are alike: what only the full engine works out are zeros, ones and copies. So the two searches go the same way. Assumes nothing.
 use mathlib.Core.Path.{_≡_, refl, sym, ap, _∙_, subst}
-use mathlib.Core.Bool.{Bool, true, false, cond, _&&_, true≢false, false≢true}
-use Prim.Native.Nat.{ℕ, zero, suc, _+_}
+use mathlib.Core.Bool.{Bool, true, false, cond, _&&_, false≢true}
+use Prim.Native.Nat.{ℕ, zero, suc}
 use lib.Dec.{T}
-use lib.Ieee.{Float, nan, inf, fin, binary64, div, le, ofBits, ofInt, fits}
+use lib.Ieee.{Float, binary64, div, ofBits, ofInt, fits}
 use lib.Ieee.Fits.{add-fits, mul-fits}
 use lib.Ieee.Scale.{finite}
 use Rattle.exact.specs.Alike.{_≐_, same}
-use Rattle.exact.specs.F64.{f64, magnitude, _⊕_, _⊖_, _⊗_, _⊘_, isZero}
-use Rattle.exact.proofs.Alike.{≐-refl, its, ≐-sym, ≐-trans, ≐-other, ≐-isZero, ≐-minus, ≐-over, finite-too, ≐-le, _⟨⊕⟩_, _⟨⊖⟩_, _⟨⊗⟩_, zero-plus, plus-zero}
-use Rattle.exact.proofs.Operations.{sum-finite, neg-finite, minus-finite, difference-finite, product-finite, quotient-finite}
-use Rattle.exact.proofs.Swaps.{product-swapped, one-times, squares-unsigned}
+use Rattle.exact.specs.F64.{_⊕_, _⊗_, _⊘_, isZero}
+use Rattle.exact.proofs.Alike.{≐-refl, its, ≐-sym, ≐-trans, ≐-other, finite-too, _⟨⊕⟩_, _⟨⊖⟩_, zero-plus, plus-zero}
+use Rattle.exact.proofs.Operations.{sum-finite, neg-finite, minus-finite, difference-finite, product-finite}
+use Rattle.exact.proofs.Swaps.{product-swapped, one-times}
 use Rattle.exact.proofs.Zeros.{zero-plus-zero, zero-minus, zero-times, times-zero}
 use Rattle.formula.specs.Term.{rounded, denominators}
 use Rattle.lens.specs.Constants.{ones, int}
@@ -21,12 +21,12 @@ use Rattle.lens.specs.declared.Point.{Point}
 use Rattle.brown_conrady.specs.BrownConrady as full
 use Rattle.brown_conrady.specs.Formula.{at}
 use Rattle.brown_conrady.specs.declared.BrownConradyParams.{BrownConradyParams}
-use Rattle.brown_conrady.proofs.NoRoot.{last-bits, no-root}
+use Rattle.brown_conrady.specs.declared.Search.{Search}
+use Rattle.brown_conrady.proofs.Alike.{AlikeOffsets, AlikeSearches, Both, both-apart, solve-kept, small-kept, small-finite, came-from, newton-both}
 use Rattle.lens.specs.Alike.{AlikePoints}
 use Rattle.short_brown_conrady.specs.Polynomial as short
-use Rattle.short_brown_conrady.specs.ShortBrownConrady.{no-quotient, distortion, slopes-at, f-xy, small, step-from, pass, start, ended, newton}
-use Rattle.short_brown_conrady.specs.declared.Offset.{Offset}
-use Rattle.short_brown_conrady.specs.declared.Search.{Search}
+use Rattle.short_brown_conrady.specs.ShortBrownConrady.{no-quotient, distortion, slopes-at, f-xy, step-from, by-step, pass, start, ended, newton}
+use Rattle.short_brown_conrady.specs.declared.Tracked.{Tracked}
 use Rattle.short_brown_conrady.proofs.Terms.{kept}
 
 -- ---- the three zeros
@@ -213,168 +213,60 @@ slopes-alike params zs p q h s t u =
 
 -- ---- a step
 
-record AlikeSteps (params : BrownConradyParams) (distorted p q : Point) : Type 0 where
-  x : step-from params distorted p .by .0 ≐ full.step-from params distorted q .0
-  y : step-from params distorted p .by .1 ≐ full.step-from params distorted q .1
-
 step-alike :
     (params : BrownConradyParams) → Zeros params → (distorted p q : Point) → AlikePoints p q
-    → T (finite (step-from params distorted p .by .0)) → T (finite (step-from params distorted p .by .1)) → AlikeSteps params distorted p q
+    → Both (by-step params distorted p .0) (by-step params distorted p .1) → AlikeOffsets (by-step params distorted p) (full.step-from params distorted q)
 unfolding step-from full.step-from
-step-alike params zs distorted p q h s t =
-    let ahead = sum-finite _ _ s in
+step-alike params zs distorted p q h both =
+    let ahead = sum-finite _ _ (both .0) in
     let fx = product-finite _ _ (ahead .0) in
     let vy = product-finite _ _ (fx .0) in
     let uy = product-finite _ _ (product-finite _ _ (ahead .1) .0) in
-    let ux = product-finite _ _ (product-finite _ _ (sum-finite _ _ t .1) .0) in
+    let ux = product-finite _ _ (product-finite _ _ (sum-finite _ _ (both .1) .1) .0) in
     let sent = distortion-alike params zs p q h (difference-finite _ _ (fx .1) .0) in
-    let f0 = sent .x ⟨⊖⟩ its (distorted .0) in
-    let f1 = sent .y ⟨⊖⟩ its (distorted .1) in
     let slopes = slopes-alike params zs p q h (ux .0) (minus-finite _ (uy .0)) (vy .0) in
     let a = ≐-trans (slopes .ux) (same (sym (one-by _ _ (slopes .c7) (slopes .ux-fits)))) in
     let b = ≐-trans (slopes .uy) (same (sym (one-by _ _ (slopes .c7) (slopes .uy-fits)))) in
     let c = ≐-trans (slopes .vx) (same (sym (one-by _ _ (slopes .c7) (slopes .vx-fits)))) in
     let d = ≐-trans (slopes .vy) (same (sym (one-by _ _ (slopes .c7) (slopes .vy-fits)))) in
-    let det = a ⟨⊗⟩ d ⟨⊖⟩ b ⟨⊗⟩ c in
-    let z = ≐-over (sym (≐-isZero det) ∙ quotient-finite ones _ (vy .1) .1) (its ones) det in
-    record { x = d ⟨⊗⟩ z ⟨⊗⟩ f0 ⟨⊕⟩ ≐-minus b ⟨⊗⟩ z ⟨⊗⟩ f1; y = ≐-minus c ⟨⊗⟩ z ⟨⊗⟩ f0 ⟨⊕⟩ a ⟨⊗⟩ z ⟨⊗⟩ f1 }
+    solve-kept a b c d (record { x = sent .x ⟨⊖⟩ its (distorted .0); y = sent .y ⟨⊖⟩ its (distorted .1) }) (both .0)
 
--- ---- the test of a step
+-- ---- the search
 
-abbrev norm-small : Float → Float → Bool
-norm-small x y = full.small (record { 0 = x; 1 = y })
-
-pub small-alike : {x x' y y' : Float} → x ≐ x' → y ≐ y' → norm-small x y ≡ norm-small x' y'
-small-alike {x} {x'} {y} {y'} p q = no-root x y ∙ ≐-le (p ⟨⊗⟩ p ⟨⊕⟩ q ⟨⊗⟩ q) (its (f64 last-bits)) ∙ sym (no-root x' y')
-
--- a sum of squares that is at most the bound is finite: only -infinity is below it and isn't
-at-most : (q : Float) → le (magnitude q) (f64 last-bits) ≡ true → T (finite q)
-unfolding magnitude le ofBits
-at-most nan h = absurd (false≢true h)
-at-most (inf s) h = absurd (false≢true h)
-at-most (fin s m e) h = tt
-
-bounded : (x y : Float) → le (squared-radius x y) (f64 last-bits) ≡ true → T (finite (squared-radius x y))
-bounded x y h = at-most (squared-radius x y) (ap (λ (q : Float). le q (f64 last-bits)) (squares-unsigned x y) ∙ h)
-
--- so a small step is finite
-small-finite : (x y : Float) → norm-small x y ≡ true → T (finite x) × T (finite y)
-small-finite x y h =
-    let both = sum-finite (x ⊗ x) (y ⊗ y) (bounded x y (sym (no-root x y) ∙ h)) in
-    (product-finite x x (both .0) .0, product-finite y y (both .1) .0)
-
--- ---- a pass
-
--- the full search's own type, which has no name here
-abbrev Asked : {A B : Type 0} → (A → B) → Type 0
-Asked {A} f = A
-
-abbrev FullSearch : Type 0
-FullSearch = Asked full.ended
-
-pub record Reached (at : Search) : Type 0 where
-  pub x : T (finite (at .xy .0))
-  pub y : T (finite (at .xy .1))
-
-record AlikeSearches (at : Search) (to : FullSearch) : Type 0 where
-  xys : AlikePoints (at .xy) (to .xy)
-  counts : at .updates ≡ to .updates
-  ends : at .ended ≡ to .ended
-
--- what a pass reaches is finite only where it set out from what is, with a finite step
-pub record Behind (params : BrownConradyParams) (distorted : Point) (at : Search) : Type 0 where
-  pub from : Reached at
-  pub x : T (finite (step-from params distorted (at .xy) .by .0))
-  pub y : T (finite (step-from params distorted (at .xy) .by .1))
+abbrev pub Reached : Tracked → Type 0
+Reached at = Both (at .search .xy .0) (at .search .xy .1)
 
 module _ (params : BrownConradyParams) (distorted : Point) where
-  abbrev by : Search → Offset
-  by at = step-from params distorted (at .xy) .by
-
-  pub behind : (at : Search) → Reached (pass params distorted at) → Behind params distorted at
+  -- what a pass reaches is finite only where it set out from what is, with a finite step
+  pub behind : (at : Tracked) → Reached (pass params distorted at) → Reached at × Both (by-step params distorted (at .search .xy) .0) (by-step params distorted (at .search .xy) .1)
   unfolding pass
-  behind at h = go (small (by at)) _ _ refl (λ h. record { x = h .x; y = h .y }) (λ h. (h .x, h .y)) h
+  behind at h = came-from Both both-apart small-finite (by-step params distorted) (at .search) h
+
+  -- it is brown_conrady's search, by these steps
+  pub search-is : (n : ℕ) (at : Tracked) → passes (pass params distorted) ended n at .search ≡ passes (full.pass-by (by-step params distorted)) full.ended n (at .search)
+  unfolding passes pass
+  search-is zero from = refl
+  search-is (suc n) from = go (full.ended (full.pass-by (by-step params distorted) (from .search))) _ _ _ _ refl (search-is n (pass params distorted from))
     where
-      go :
-          (b : Bool) (s t : Search) → small (by at) ≡ b → (Reached s → Reached at)
-          → (Reached t → T (finite (at .xy .0 ⊖ by at .0)) × T (finite (at .xy .1 ⊖ by at .1)))
-          → Reached (cond b s t) → Behind params distorted at
-      go true s t e k l h = let f = small-finite _ _ e in record { from = k h; x = f .0; y = f .1 }
-      go false s t e k l h =
-          let x = difference-finite _ _ (l h .0) in
-          let y = difference-finite _ _ (l h .1) in
-          record { from = record { x = x .0; y = y .0 }; x = x .1; y = y .1 }
-
-  pass-alike : Zeros params → (at : Search) (to : FullSearch) → AlikeSearches at to → Reached (pass params distorted at) → AlikeSearches (pass params distorted at) (full.pass params distorted to)
-  pass-alike zs at to h r =
-      let f = behind at r in
-      let s = step-alike params zs distorted (at .xy) (to .xy) (h .xys) (f .x) (f .y) in
-      unfold pass full.pass-by in
-      go (small (by at)) (full.small (full.step-from params distorted (to .xy))) _ _ _ _ (small-alike (s .x) (s .y))
-      (record { xys = h .xys; counts = h .counts; ends = refl })
-      (record { xys = record { x = h .xys .x ⟨⊖⟩ s .x; y = h .xys .y ⟨⊖⟩ s .y }; counts = ap (λ (n : ℕ). n + 1) (h .counts); ends = refl })
-    where
-      go : (b b' : Bool) (s t : Search) (s' t' : FullSearch) → b ≡ b' → AlikeSearches s s' → AlikeSearches t t' → AlikeSearches (cond b s t) (cond b' s' t')
-      go true true s t s' t' e h k = h
-      go true false s t s' t' e h k = absurd (true≢false e)
-      go false true s t s' t' e h k = absurd (false≢true e)
-      go false false s t s' t' e h k = k
-
--- ---- all passes
-
--- where the search ends well, each pass set out well: after the next pass, and from the start
-module _ {S : Type 0} (pass : S → S) (ended : S → Bool) (Ok : S → Type 0) (back : (s : S) → Ok (pass s) → Ok s) where
-  from-start : (n : ℕ) (s : S) → Ok (passes pass ended n s) → Ok s
-  unfolding passes
-  from-start zero s h = h
-  from-start (suc n) s h = back s (go (ended (pass s)) (from-start n (pass s)) h)
-    where
-      go : (b : Bool) → (Ok (passes pass ended n (pass s)) → Ok (pass s)) → Ok (cond b (pass s) (passes pass ended n (pass s))) → Ok (pass s)
-      go true k h = h
-      go false k h = k h
-
-  pub from-next : (n : ℕ) (s : S) (b : Bool) → Ok (cond b (pass s) (passes pass ended n (pass s))) → Ok (pass s)
-  from-next n s true h = h
-  from-next n s false h = from-start n (pass s) h
-
--- two searches whose passes keep a relation, as long as what the first ends at is good: they end at what is related
-module _ {S F : Type 0} (pass : S → S) (ended : S → Bool) (pass' : F → F) (ended' : F → Bool) (Ok : S → Type 0) (Rel : S → F → Type 0)
-    (back : (s : S) → Ok (pass s) → Ok s) (ends : (s : S) (f : F) → Rel s f → ended s ≡ ended' f) (one : (s : S) (f : F) → Rel s f → Ok (pass s) → Rel (pass s) (pass' f)) where
-  passes-alike : (n : ℕ) (s : S) (f : F) → Rel s f → Ok (passes pass ended n s) → Rel (passes pass ended n s) (passes pass' ended' n f)
-  unfolding passes
-  passes-alike zero s f r h = r
-  passes-alike (suc n) s f r h =
-      let t = one s f r (from-next pass ended Ok back n s (ended (pass s)) h) in
-      go (ended (pass s)) (ended' (pass' f)) (ends (pass s) (pass' f) t) t (passes-alike n (pass s) (pass' f) t) h
-    where
-      go :
-          (b b' : Bool) → b ≡ b' → Rel (pass s) (pass' f) → (Ok (passes pass ended n (pass s)) → Rel (passes pass ended n (pass s)) (passes pass' ended' n (pass' f)))
-          → Ok (cond b (pass s) (passes pass ended n (pass s))) → Rel (cond b (pass s) (passes pass ended n (pass s))) (cond b' (pass' f) (passes pass' ended' n (pass' f)))
-      go true true e t k h = t
-      go true false e t k h = absurd (true≢false e)
-      go false true e t k h = absurd (false≢true e)
-      go false false e t k h = k h
-
--- ---- Newton
-
-newton-alike : (params : BrownConradyParams) → Zeros params → (distorted : Point) → Reached (newton params distorted) → AlikeSearches (newton params distorted) (full.newton params distorted)
-newton-alike params zs distorted h =
-    passes-alike (pass params distorted) ended (full.pass params distorted) full.ended Reached AlikeSearches (λ s r. behind params distorted s r .from) (λ s f r. r .ends) (pass-alike params distorted zs) full.limit (start distorted) (full.start distorted)
-    (record { xys = record { x = ≐-refl; y = ≐-refl }; counts = refl; ends = refl }) h
+      go : (b : Bool) (s t : Tracked) (u v : Search) → s .search ≡ u → t .search ≡ v → cond b s t .search ≡ cond b u v
+      go true s t u v p q = p
+      go false s t u v p q = q
 
 -- where what Newton leaves is finite, so is the point where it ended
 pub record Ended (params : BrownConradyParams) (distorted : Point) : Type 0 where
   pub reached : Reached (newton params distorted)
-  pub xys : AlikePoints (newton params distorted .xy) (full.newton params distorted .xy)
-  pub updates : newton params distorted .updates ≡ full.newton params distorted .updates
-  pub flag : small (f-xy params distorted (newton params distorted .xy)) ≡ full.flag params distorted (full.newton params distorted .xy)
+  pub ends : AlikeSearches (newton params distorted .search) (full.newton params distorted)
+  pub flag : full.small (f-xy params distorted (newton params distorted .search .xy)) ≡ full.flag params distorted (full.newton params distorted .xy)
 
-pub newton-ended : (params : BrownConradyParams) → Zeros params → (distorted : Point) → T (finite (f-xy params distorted (newton params distorted .xy) .0)) → Ended params distorted
+pub newton-ended : (params : BrownConradyParams) → Zeros params → (distorted : Point) → T (finite (f-xy params distorted (newton params distorted .search .xy) .0)) → Ended params distorted
 newton-ended params zs distorted t =
-    let p = newton params distorted .xy in
+    let p = newton params distorted .search .xy in
     let sent = difference-finite _ _ t .0 in
     let both = sum-finite _ _ (powers params p sent .r2) in
-    let r : Reached (newton params distorted) = record { x = product-finite _ _ (both .0) .0; y = product-finite _ _ (both .1) .0 } in
-    let s = newton-alike params zs distorted r in
-    let to = distortion-alike params zs p (full.newton params distorted .xy) (s .xys) sent in
-    record { reached = r; xys = s .xys; updates = s .counts; flag = small-alike (to .x ⟨⊖⟩ its (distorted .0)) (to .y ⟨⊖⟩ its (distorted .1)) }
+    let r : Reached (newton params distorted) = (product-finite _ _ (both .0) .0, product-finite _ _ (both .1) .0) in
+    let is = search-is params distorted full.limit (start distorted) in
+    let s =
+    subst (λ (s : Search). AlikeSearches s (full.newton params distorted)) (sym is)
+    (newton-both (by-step params distorted) (full.step-from params distorted) (step-alike params zs distorted) distorted (subst (λ (s : Search). Both (s .xy .0) (s .xy .1)) is r)) in
+    let to = distortion-alike params zs p (full.newton params distorted .xy) (s .xy) sent in
+    record { reached = r; ends = s; flag = small-kept (record { x = to .x ⟨⊖⟩ its (distorted .0); y = to .y ⟨⊖⟩ its (distorted .1) }) }

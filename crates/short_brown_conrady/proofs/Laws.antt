@@ -24,12 +24,12 @@ use Rattle.lens.specs.declared.Point.{Point}
 use Rattle.affine.specs.Affine as affine
 use Rattle.brown_conrady.specs.BrownConrady as full
 use Rattle.brown_conrady.specs.declared.BrownConradyParams.{BrownConradyParams}
-use Rattle.brown_conrady.proofs.Laws.{updates-limit}
+use Rattle.brown_conrady.specs.declared.Offset.{Offset}
 use Rattle.lens.specs.Alike.{AlikeJacobians, AlikeSettled}
 use Rattle.short_brown_conrady.specs.Path.{distort-numbers, dx-distort-x-numbers, undistort-numbers}
-use Rattle.short_brown_conrady.specs.ShortBrownConrady.{no-quotient, distortion, distort, slopes-at, dx-distort-x, f-xy, small, newton, distorted-of, undistort}
-use Rattle.short_brown_conrady.specs.declared.Offset.{Offset}
-use Rattle.short_brown_conrady.specs.declared.Search.{Search}
+use Rattle.short_brown_conrady.specs.ShortBrownConrady.{no-quotient, distortion, distort, slopes-at, dx-distort-x, f-xy, newton, distorted-of, undistort}
+use Rattle.short_brown_conrady.specs.declared.Tracked.{Tracked}
+use Rattle.short_brown_conrady.proofs.Fits.{most-updates}
 use Rattle.short_brown_conrady.proofs.Full.{zeros-of, powers, distortion-same, slopes-alike, one-by, newton-ended}
 use Rattle.short_brown_conrady.proofs.Path.{entries, distort-either, dx-distort-x-either, undistort-either}
 use Rattle.short_brown_conrady.proofs.no_quotient.Reads as no-quotient-contract
@@ -90,19 +90,19 @@ module _ (params : BrownConradyParams) (z : no-quotient params ≡ true) where
       distorted : Point
       distorted = distorted-of params pixel
 
-      last : Search
+      last : Tracked
       last = newton params distorted
 
       f : Offset
-      f = f-xy params distorted (last .xy)
+      f = f-xy params distorted (last .search .xy)
 
       go :
           (b : Bool) → finite (f .0 ⊕ f .1 ⊕ last .det) ≡ b
-          → AlikeSettled (cond b (record { point = last .xy; updates = last .updates; flag = small f }) (full.undistort params pixel)) (full.undistort params pixel)
+          → AlikeSettled (cond b (record { point = last .search .xy; updates = last .search .updates; flag = full.small f }) (full.undistort params pixel)) (full.undistort params pixel)
       go false e = record { point = record { x = ≐-refl; y = ≐-refl }; updates = refl; flag = refl }
       go true e =
           let n = newton-ended params (zeros-of params z) distorted (sum-finite _ _ (sum-finite _ _ (subst T (sym e) tt) .0) .0) in
-          record { point = n .xys; updates = n .updates; flag = n .flag }
+          record { point = n .ends .xy; updates = n .ends .updates; flag = n .flag }
 
   -- Dx_distort_x gives the full one's numbers, the sign of a zero aside. That fx and fy are f64s is so of every camera's.
   pub dx-distort-x-short-is-full : Fit (params .fx) → Fit (params .fy) → (point : Point)
@@ -151,9 +151,9 @@ module _ (params : BrownConradyParams) (z : no-quotient params ≡ true) where
       → all-finite (dx-distort-x params point .entries) ≡ all-finite (full.dx-distort-x params point .entries)
   dx-distort-x-refused-alike fx fy point = finite-alike _ _ (dx-distort-x-short-is-full fx fy point .entries)
 
-  -- Undistort takes at most 50 updates, as the full one does.
-  pub undistort-updates-limit : (pixel : Pixel) → undistort params pixel .updates ≤ 50
-  undistort-updates-limit pixel = subst (λ (n : ℕ). n ≤ 50) (sym (undistort-short-is-full pixel .updates)) (updates-limit params pixel)
+-- Undistort takes at most 50 updates, as the full one does, whatever the camera is.
+pub undistort-updates-limit : (params : BrownConradyParams) (pixel : Pixel) → undistort params pixel .updates ≤ 50
+undistort-updates-limit = most-updates
 
 -- ---- by hand
 

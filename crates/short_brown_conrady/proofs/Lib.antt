@@ -1,4 +1,5 @@
 pub mod Terms
 pub mod Full
+pub mod Fits
 pub mod Path
 pub mod Laws

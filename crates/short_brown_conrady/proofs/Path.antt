@@ -23,13 +23,15 @@ use Rattle.affine.specs.Affine as affine
 use Rattle.brown_conrady.specs.BrownConrady as full
 use Rattle.brown_conrady.specs.Formula.{at}
 use Rattle.brown_conrady.specs.declared.BrownConradyParams.{BrownConradyParams}
+use Rattle.brown_conrady.specs.declared.Offset.{Offset}
+use Rattle.brown_conrady.proofs.Alike.{Both, small-kept}
 use Rattle.brown_conrady.proofs.NoRoot.{last-bits, no-root}
+use Rattle.brown_conrady.proofs.Steps.{from-next}
 use Rattle.short_brown_conrady.specs.Path.{all-numbers, distort-numbers, dx-distort-x-numbers, step-at, by-x, by-y, step-numbers, search-numbers, undistort-numbers}
 use Rattle.short_brown_conrady.specs.Polynomial.{xd0, yd0, u, v, ux, uy, vx, vy, u-point, v-point}
-use Rattle.short_brown_conrady.specs.ShortBrownConrady.{distortion, distort, slopes-at, dx-distort-x, f-xy, small, step-from, pass, start, ended, newton, distorted-of, undistort}
-use Rattle.short_brown_conrady.specs.declared.Offset.{Offset}
-use Rattle.short_brown_conrady.specs.declared.Search.{Search}
-use Rattle.short_brown_conrady.proofs.Full.{Powers, powers, small-alike, Reached, Behind, behind, from-next}
+use Rattle.short_brown_conrady.specs.ShortBrownConrady.{distortion, distort, slopes-at, dx-distort-x, f-xy, step-from, by-step, pass, start, ended, newton, distorted-of, undistort}
+use Rattle.short_brown_conrady.specs.declared.Tracked.{Tracked}
+use Rattle.short_brown_conrady.proofs.Full.{Powers, powers, Reached, behind}
 use Rattle.short_brown_conrady.proofs.Terms.{joined, all-throughout}
 
 -- ---- a step that is finite and not small: its determinant is finite too, since an infinite one would have made the step a zero
@@ -40,8 +42,8 @@ inverse-zero nan e t = absurd t
 inverse-zero (inf s) e t = refl
 inverse-zero (fin s m k) e t = absurd (true≢false e)
 
-zeros-small : (by : Offset) → isZero (by .0) ≡ true → isZero (by .1) ≡ true → small by ≡ true
-zeros-small by p q = small-alike (both-zero p at-zero) (both-zero q at-zero) ∙ no-root (f64 0) (f64 0) ∙ at-zeros
+zeros-small : (by : Offset) → isZero (by .0) ≡ true → isZero (by .1) ≡ true → full.small by ≡ true
+zeros-small by p q = small-kept {f = by} {g = record { 0 = f64 0; 1 = f64 0 }} (record { x = both-zero p at-zero; y = both-zero q at-zero }) ∙ no-root (f64 0) (f64 0) ∙ at-zeros
   where
     at-zero : isZero (f64 0) ≡ true
     at-zero = unfold isZero ofBits in refl
@@ -73,14 +75,14 @@ module _ (params : BrownConradyParams) (distorted xy : Point) (s : T (finite (st
       let ux = product-finite _ _ (product-finite _ _ (y .1) .0) in
       record { f0 = vyf .1; f1 = uyf .1; ux = ux .0; uy = minus-finite _ (uy .0); vx = minus-finite _ (vx .0); vy = vy .0; z = vy .1 }
 
-  stands : isZero (ones ⊘ step-from params distorted xy .det) ≡ true → small (step-from params distorted xy .by) ≡ true
+  stands : isZero (ones ⊘ step-from params distorted xy .det) ≡ true → full.small (step-from params distorted xy .by) ≡ true
   unfolding step-from
   stands h =
       zeros-small _
       (zero-plus-zero _ _ (zero-times _ _ (times-zero _ _ (parts .vy) h) (parts .f0)) (zero-times _ _ (times-zero _ _ (neg-finite _ (parts .uy)) h) (parts .f1)))
       (zero-plus-zero _ _ (zero-times _ _ (times-zero _ _ (neg-finite _ (parts .vx)) h) (parts .f0)) (zero-times _ _ (times-zero _ _ (parts .ux) h) (parts .f1)))
 
-  det-finite : small (step-from params distorted xy .by) ≡ false → T (finite (step-from params distorted xy .det))
+  det-finite : full.small (step-from params distorted xy .by) ≡ false → T (finite (step-from params distorted xy .det))
   det-finite h = go (finite (step-from params distorted xy .det)) refl
     where
       go : (b : Bool) → finite (step-from params distorted xy .det) ≡ b → T b
@@ -110,39 +112,35 @@ module _ (params : BrownConradyParams) (distorted xy : Point) (s : T (finite (st
 -- ---- all passes
 
 module _ (params : BrownConradyParams) (distorted : Point) where
-  abbrev next : Search → Search
+  abbrev next : Tracked → Tracked
   next at = pass params distorted at
 
-  abbrev is-small : Search → Bool
-  is-small at = small (step-from params distorted (at .xy) .by)
+  abbrev is-small : Tracked → Bool
+  is-small at = full.small (by-step params distorted (at .search .xy))
 
-  ends-so : (at : Search) → is-small at ≡ true → ended (next at) ≡ true
-  unfolding pass
+  ends-so : (at : Tracked) → is-small at ≡ true → ended (next at) ≡ true
+  unfolding pass full.pass-by
   ends-so at e = rw e refl
 
-  det-so : (at : Search) → next at .det ≡ step-from params distorted (at .xy) .det
+  det-so : (at : Tracked) → next at .det ≡ step-from params distorted (at .search .xy) .det
   unfolding pass
-  det-so at = go (is-small at) _ _ refl refl
-    where
-      go : (b : Bool) (s t : Search) → s .det ≡ step-from params distorted (at .xy) .det → t .det ≡ step-from params distorted (at .xy) .det → cond b s t .det ≡ step-from params distorted (at .xy) .det
-      go true s t p q = p
-      go false s t p q = q
+  det-so at = refl
 
-  pub search-finite : (n : ℕ) (at : Search) → Reached (passes next ended n at) → T (finite (passes next ended n at .det)) → T (all-finite (search-numbers params distorted n at))
+  pub search-finite : (n : ℕ) (at : Tracked) → Reached (passes next ended n at) → T (finite (passes next ended n at .det)) → T (all-finite (search-numbers params distorted n at))
   unfolding passes search-numbers
   search-finite zero at r d = unfold all-finite in tt
   search-finite (suc n) at r d =
-      let b = behind params distorted at (from-next next ended Reached (λ s r. behind params distorted s r .from) n at (ended (next at)) r) in
-      joined (step-numbers params distorted (at .xy)) (cond (ended (next at)) [] (search-numbers params distorted n (next at)))
-      (step-finite params distorted (at .xy) (b .x) (b .y) (det (is-small at) refl b)) (rest (ended (next at)) (search-finite n (next at)) r d)
+      let b = behind params distorted at (from-next next ended Reached (λ s r. behind params distorted s r .0) n at (ended (next at)) r) in
+      joined (step-numbers params distorted (at .search .xy)) (cond (ended (next at)) [] (search-numbers params distorted n (next at)))
+      (step-finite params distorted (at .search .xy) (b .1 .0) (b .1 .1) (det (is-small at) refl (b .1))) (rest (ended (next at)) (search-finite n (next at)) r d)
     where
       here : (b : Bool) → b ≡ true → T (finite (cond b (next at) (passes next ended n (next at)) .det)) → T (finite (next at .det))
       here true e d = d
       here false e d = absurd (false≢true e)
 
-      det : (b : Bool) → is-small at ≡ b → Behind params distorted at → T (finite (step-from params distorted (at .xy) .det))
-      det true e b = subst (λ (x : Float). T (finite x)) (det-so at) (here (ended (next at)) (ends-so at e) d)
-      det false e b = det-finite params distorted (at .xy) (b .x) (b .y) e
+      det : (b : Bool) → is-small at ≡ b → Both (by-step params distorted (at .search .xy) .0) (by-step params distorted (at .search .xy) .1) → T (finite (step-from params distorted (at .search .xy) .det))
+      det true e f = subst (λ (x : Float). T (finite x)) (det-so at) (here (ended (next at)) (ends-so at e) d)
+      det false e f = det-finite params distorted (at .search .xy) (f .0) (f .1) e
 
       rest :
           (b : Bool) → (Reached (passes next ended n (next at)) → T (finite (passes next ended n (next at) .det)) → T (all-finite (search-numbers params distorted n (next at))))
@@ -208,19 +206,19 @@ module _ (params : BrownConradyParams) where
       distorted : Point
       distorted = distorted-of params pixel
 
-      last : Search
+      last : Tracked
       last = newton params distorted
 
       f : Offset
-      f = f-xy params distorted (last .xy)
+      f = f-xy params distorted (last .search .xy)
 
-      reached : Powers (last .xy) → Reached last
-      reached w = let q = sum-finite _ _ (w .r2) in record { x = product-finite _ _ (q .0) .0; y = product-finite _ _ (q .1) .0 }
+      reached : Powers (last .search .xy) → Reached last
+      reached w = let q = sum-finite _ _ (w .r2) in (product-finite _ _ (q .0) .0, product-finite _ _ (q .1) .0)
 
       go : T (finite (f .0 ⊕ f .1)) × T (finite (last .det)) → T (all-finite (undistort-numbers params pixel))
       go both =
           let fs = sum-finite (f .0) (f .1) (both .0) in
           let x = difference-finite _ _ (fs .0) .0 in
-          joined (search-numbers params distorted full.limit (start distorted)) (all-numbers (at params (last .xy)) (xd0 ∷ yd0 ∷ []))
-          (search-finite params distorted full.limit (start distorted) (reached (powers params (last .xy) x)) (both .1))
-          (ended-at (last .xy) x (difference-finite _ _ (fs .1) .0))
+          joined (search-numbers params distorted full.limit (start distorted)) (all-numbers (at params (last .search .xy)) (xd0 ∷ yd0 ∷ []))
+          (search-finite params distorted full.limit (start distorted) (reached (powers params (last .search .xy) x)) (both .1))
+          (ended-at (last .search .xy) x (difference-finite _ _ (fs .1) .0))

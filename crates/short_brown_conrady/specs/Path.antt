@@ -14,7 +14,7 @@ use Rattle.brown_conrady.specs.Formula.{at}
 use Rattle.brown_conrady.specs.declared.BrownConradyParams.{BrownConradyParams}
 use Rattle.short_brown_conrady.specs.Polynomial.{xd0, yd0, u, v, ux, uy, vx, vy, u-point, v-point}
 use Rattle.short_brown_conrady.specs.ShortBrownConrady.{slopes-at, f-xy, pass, start, ended, newton, distorted-of}
-use Rattle.short_brown_conrady.specs.declared.Search.{Search}
+use Rattle.short_brown_conrady.specs.declared.Tracked.{Tracked}
 
 -- a term's reading, and those of all its parts
 unfoldable pub numbers : (ℕ → Float) → Term → List Float
@@ -62,15 +62,15 @@ step-numbers params distorted xy =
     ++ all-numbers (step-at params distorted xy) (by-x ∷ by-y ∷ [])
 
 -- of all passes, from one on
-unfoldable pub search-numbers : BrownConradyParams → Point → ℕ → Search → List Float
+unfoldable pub search-numbers : BrownConradyParams → Point → ℕ → Tracked → List Float
 search-numbers params distorted zero at = []
 search-numbers params distorted (suc left) at =
     let to = pass params distorted at in
-    step-numbers params distorted (at .xy) ++ cond (ended to) [] (search-numbers params distorted left to)
+    step-numbers params distorted (at .search .xy) ++ cond (ended to) [] (search-numbers params distorted left to)
 
 -- of the search for a pixel, and of what the lens makes of the point where it ends
 abbrev pub undistort-numbers : BrownConradyParams → Pixel → List Float
 undistort-numbers params pixel =
     let distorted = distorted-of params pixel in
     search-numbers params distorted limit (start distorted)
-    ++ all-numbers (at params (newton params distorted .xy)) (xd0 ∷ yd0 ∷ [])
+    ++ all-numbers (at params (newton params distorted .search .xy)) (xd0 ∷ yd0 ∷ [])

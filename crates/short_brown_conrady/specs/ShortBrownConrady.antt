@@ -1,8 +1,7 @@
 -- The operations of the short engine: brown_conrady's, with the polynomials (Polynomial) in the place of its quotients,
 -- and the test that hands a point over to brown_conrady, which is called full here. Definitions only.
-use mathlib.Core.Bool.{Bool, true, false, cond, _&&_}
+use mathlib.Core.Bool.{Bool, cond, _&&_}
 use mathlib.Core.List.{[], _∷_}
-use Prim.Native.Nat.{_+_}
 use lib.Ieee.Scale.{finite}
 use Rattle.exact.specs.F64.{_⊕_, _⊖_, _⊗_, isZero}
 use Rattle.formula.specs.Term.{rounded}
@@ -17,11 +16,11 @@ use Rattle.affine.specs.Affine as affine
 use Rattle.brown_conrady.specs.BrownConrady as full
 use Rattle.brown_conrady.specs.Formula.{at}
 use Rattle.brown_conrady.specs.declared.BrownConradyParams.{BrownConradyParams}
+use Rattle.brown_conrady.specs.declared.Offset.{Offset}
 use Rattle.short_brown_conrady.specs.Polynomial.{xd0, yd0, ux, uy, vx, vy}
-use Rattle.short_brown_conrady.specs.declared.Offset.{Offset}
-use Rattle.short_brown_conrady.specs.declared.Search.{Search}
 use Rattle.short_brown_conrady.specs.declared.Slopes.{Slopes}
 use Rattle.short_brown_conrady.specs.declared.Step.{Step}
+use Rattle.short_brown_conrady.specs.declared.Tracked.{Tracked}
 
 -- the cameras that this is for
 abbrev pub no-quotient : BrownConradyParams → Bool
@@ -66,37 +65,32 @@ f-xy params distorted xy = record {
   1 = distortion params xy .1 ⊖ distorted .1;
 }
 
-abbrev pub small : Offset → Bool
-small offset = full.small (record { 0 = offset .0; 1 = offset .1 })
-
 -- the step solves with the slopes as they are: the full one's c7 is 1
 unfoldable pub step-from : BrownConradyParams → Point → Point → Step
 step-from params distorted xy =
-    let f = f-xy params distorted xy in
     let s = slopes-at params xy in
-    let by = full.solve (s .ux) (s .uy) (s .vx) (s .vy) (record { 0 = f .0; 1 = f .1 }) in
-    record { by = record { 0 = by .0; 1 = by .1 }; det = s .ux ⊗ s .vy ⊖ s .uy ⊗ s .vx }
+    record {
+      by = full.solve (s .ux) (s .uy) (s .vx) (s .vy) (f-xy params distorted xy);
+      det = s .ux ⊗ s .vy ⊖ s .uy ⊗ s .vx;
+    }
 
-unfoldable pub pass : BrownConradyParams → Point → Search → Search
-pass params distorted at =
-    let xy = at .xy in
-    let step = step-from params distorted xy in
-    cond (small (step .by))
-    (record { xy = xy; updates = at .updates; ended = true; det = step .det })
-    (record {
-      xy = record { 0 = xy .0 ⊖ step .by .0; 1 = xy .1 ⊖ step .by .1 };
-      updates = at .updates + 1;
-      ended = false;
-      det = step .det;
-    })
+abbrev pub by-step : BrownConradyParams → Point → Point → Offset
+by-step params distorted xy = step-from params distorted xy .by
 
-abbrev pub start : Point → Search
-start distorted = record { xy = distorted; updates = 0; ended = false; det = ones }
+-- brown_conrady's pass by these steps, and the determinant of this one
+unfoldable pub pass : BrownConradyParams → Point → Tracked → Tracked
+pass params distorted at = record {
+  search = full.pass-by (by-step params distorted) (at .search);
+  det = step-from params distorted (at .search .xy) .det;
+}
 
-abbrev pub ended : Search → Bool
-ended at = at .ended
+abbrev pub start : Point → Tracked
+start distorted = record { search = full.start distorted; det = ones }
 
-abbrev pub newton : BrownConradyParams → Point → Search
+abbrev pub ended : Tracked → Bool
+ended at = full.ended (at .search)
+
+abbrev pub newton : BrownConradyParams → Point → Tracked
 newton params distorted = passes (pass params distorted) ended full.limit (start distorted)
 
 -- where Newton starts
@@ -108,7 +102,7 @@ abbrev pub undistort : BrownConradyParams → Pixel → Settled
 undistort params pixel =
     let distorted = distorted-of params pixel in
     let at = newton params distorted in
-    let f = f-xy params distorted (at .xy) in
+    let f = f-xy params distorted (at .search .xy) in
     cond (finite (f .0 ⊕ f .1 ⊕ at .det))
-    (record { point = at .xy; updates = at .updates; flag = small f })
+    (record { point = at .search .xy; updates = at .search .updates; flag = full.small f })
     (full.undistort params pixel)

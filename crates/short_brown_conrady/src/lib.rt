@@ -8,10 +8,11 @@
 ghost use mathlib.Core.Path.{_≡_};
 ghost use Prim.Native.Nat.{_<_};
 ghost use lib.Ieee.Scale.{finite};
-ghost use Rattle.brown_conrady.specs.BrownConrady.{affine-params, limit};
-ghost use Rattle.short_brown_conrady.specs.ShortBrownConrady.{no-quotient, distortion, distort, slopes-at, dx-distort-x, f-xy, small, step-from, pass, newton, undistort};
-use affine::AffineParams;
+ghost use Rattle.brown_conrady.specs.BrownConrady.{limit};
+ghost use Rattle.short_brown_conrady.specs.ShortBrownConrady.{no-quotient, distortion, distort, slopes-at, dx-distort-x, f-xy, step-from, pass, newton, undistort};
 use brown_conrady::BrownConradyParams;
+use brown_conrady::Offset;
+use brown_conrady::Search;
 use lens::Jacobian;
 use lens::Pixel;
 use lens::Point;
@@ -38,18 +39,6 @@ fn is_finite(x: f64) -> bool
     difference == difference
 }
 
-// The first four parameters, which are affine's.
-fn affine_params(params: BrownConradyParams) -> AffineParams
-    ensures { λ r. ⌜ r ≡ affine-params params ⌝ }
-{
-    AffineParams {
-        fx: params.fx,
-        fy: params.fy,
-        cx: params.cx,
-        cy: params.cy,
-    }
-}
-
 // Where the lens sends a point, on the z=1 plane too.
 fn distortion(params: BrownConradyParams, point: Point) -> Point
     ensures { λ r. ⌜ r ≡ distortion params point ⌝ }
@@ -73,7 +62,7 @@ fn distortion(params: BrownConradyParams, point: Point) -> Point
 pub fn distort(params: BrownConradyParams, point: Point) -> Pixel
     ensures { λ r. ⌜ r ≡ distort params point ⌝ }
 {
-    let pixel = affine::distort(affine_params(params), distortion(params, point));
+    let pixel = affine::distort(brown_conrady::affine_params(params), distortion(params, point));
     if is_finite(pixel.0 + pixel.1) {
         return pixel;
     }
@@ -130,25 +119,12 @@ pub fn dx_distort_x(params: BrownConradyParams, point: Point) -> Jacobian
     brown_conrady::dx_distort_x(params, point)
 }
 
-// From one point to another.
-struct Offset(f64, f64);
-
 // How far the lens misses `distorted` when it sends xy.
 fn f_xy(params: BrownConradyParams, distorted: Point, xy: Point) -> Offset
     ensures { λ r. ⌜ r ≡ f-xy params distorted xy ⌝ }
 {
     let d = distortion(params, xy);
     Offset(d.0 - distorted.0, d.1 - distorted.1)
-}
-
-// The last f64 whose root is at most EPS, as in brown_conrady: the proof asks for this one.
-const EPS_SQUARED: f64 = 1e-12;
-
-// Whether an offset's norm is at most EPS. No root is taken.
-fn small(offset: Offset) -> bool
-    ensures { λ r. ⌜ r ≡ small offset ⌝ }
-{
-    lens::squared_radius(offset.0, offset.1) <= EPS_SQUARED
 }
 
 // Newton's step, and the determinant that it divides by.
@@ -174,50 +150,54 @@ fn step_from(params: BrownConradyParams, distorted: Point, xy: Point) -> Step
     }
 }
 
-// Where Newton is, after how many updates, whether the last pass ended it, and that pass's determinant.
-struct Search {
-    xy: Point,
-    updates: u32,
-    ended: bool,
+// Newton's search, and the determinant of its last pass.
+struct Tracked {
+    search: Search,
     det: f64,
 }
 
-// One pass: the step is tested before it is taken, and a small one ends Newton where it is.
-fn pass(params: BrownConradyParams, distorted: Point, at: Search) -> Search
-    requires { ⌜ at .updates < limit ⌝ }
+// One pass, as brown_conrady's: the step is tested before it is taken, and a small one ends Newton where it is.
+fn pass(params: BrownConradyParams, distorted: Point, at: Tracked) -> Tracked
+    requires { ⌜ at .search .updates < limit ⌝ }
     ensures { λ r. ⌜ r ≡ pass params distorted at ⌝ }
 {
-    let xy = at.xy;
+    let xy = at.search.xy;
     let step = step_from(params, distorted, xy);
-    if small(step.by) {
-        return Search {
-            xy,
-            updates: at.updates,
-            ended: true,
+    if brown_conrady::small(step.by) {
+        return Tracked {
+            search: Search {
+                xy,
+                updates: at.search.updates,
+                ended: true,
+            },
             det: step.det,
         };
     }
-    Search {
-        xy: Point(xy.0 - step.by.0, xy.1 - step.by.1),
-        updates: at.updates + 1,
-        ended: false,
+    Tracked {
+        search: Search {
+            xy: Point(xy.0 - step.by.0, xy.1 - step.by.1),
+            updates: at.search.updates + 1,
+            ended: false,
+        },
         det: step.det,
     }
 }
 
 // Newton from `distorted` on, to the point that the lens sends there.
-fn newton(params: BrownConradyParams, distorted: Point) -> Search
+fn newton(params: BrownConradyParams, distorted: Point) -> Tracked
     ensures { λ r. ⌜ r ≡ newton params distorted ⌝ }
 {
-    let mut at = Search {
-        xy: distorted,
-        updates: 0,
-        ended: false,
+    let mut at = Tracked {
+        search: Search {
+            xy: distorted,
+            updates: 0,
+            ended: false,
+        },
         det: 1.0,
     };
-    while at.updates < brown_conrady::LIMIT {
+    while at.search.updates < brown_conrady::LIMIT {
         at = pass(params, distorted, at);
-        if at.ended {
+        if at.search.ended {
             return at;
         }
     }
@@ -230,16 +210,16 @@ fn newton(params: BrownConradyParams, distorted: Point) -> Search
 pub fn undistort(params: BrownConradyParams, pixel: Pixel) -> Settled
     ensures { λ r. ⌜ r ≡ undistort params pixel ⌝ }
 {
-    let undistorted = affine::undistort(affine_params(params), pixel);
+    let undistorted = affine::undistort(brown_conrady::affine_params(params), pixel);
     let distorted = undistorted.point;
     let at = newton(params, distorted);
-    let xy = at.xy;
+    let xy = at.search.xy;
     let f = f_xy(params, distorted, xy);
     if is_finite(f.0 + f.1 + at.det) {
         return Settled {
             point: xy,
-            updates: at.updates,
-            flag: small(f),
+            updates: at.search.updates,
+            flag: brown_conrady::small(f),
         };
     }
     brown_conrady::undistort(params, pixel)

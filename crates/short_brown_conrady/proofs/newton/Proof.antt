@@ -1,21 +1,21 @@
 -- `short_brown_conrady::newton` meets its contract. The loop's invariant: the passes that are left from here lead where all of them lead from the start. The measure is how many are left. Assumes nothing.
 use mathlib.Core.Path.{_≡_, refl, sym, ap, _∙_}
-use mathlib.Core.Bool.{Bool, true, false, cond, true≢false}
+use mathlib.Core.Bool.{false}
 use Prim.Native.Nat.{ℕ, suc, _-_}
-use native.Mathlib.Numerals.{add-one}
 use native.Mathlib.Omega.{arith}
 use Rattle.lens.specs.Passes.{passes}
 use Rattle.lens.specs.declared.Point.{Point}
 use Rattle.lens.proofs.Passes.{ends-there, goes-on, none-left}
-use Rattle.short_brown_conrady.specs.ShortBrownConrady.{small, step-from, pass, ended, newton}
+use Rattle.short_brown_conrady.specs.ShortBrownConrady.{by-step, pass, ended, newton}
 use Rattle.brown_conrady.specs.BrownConrady.{limit}
 use Rattle.brown_conrady.specs.declared.BrownConradyParams.{BrownConradyParams}
-use Rattle.short_brown_conrady.specs.declared.Search.{Search}
+use Rattle.brown_conrady.proofs.Steps.{updated}
+use Rattle.short_brown_conrady.specs.declared.Tracked.{Tracked}
 use Rattle.short_brown_conrady.proofs.newton.Statement.{statement}
 use Rattle.short_brown_conrady.proofs.newton.Tie as tie
 
-abbrev updates : Search → ℕ
-updates s = s .updates
+abbrev updates : Tracked → ℕ
+updates s = s .search .updates
 
 abbrev Inv-loop : tie.InvT-loop
 Inv-loop params distorted at₀ at = passes (pass params distorted) ended (limit - updates at) at ≡ newton params distorted
@@ -23,14 +23,9 @@ Inv-loop params distorted at₀ at = passes (pass params distorted) ended (limit
 abbrev μ-loop : tie.MeasureT-loop
 μ-loop params distorted at₀ at = limit - updates at
 
--- a pass that does not end the search makes an update
-counted : (b : Bool) (n : ℕ) (s t : Search) → ended s ≡ true → updates t ≡ suc n → ended (cond b s t) ≡ false → updates (cond b s t) ≡ suc n
-counted true n s t e u h = absurd (true≢false (sym e ∙ h))
-counted false n s t e u h = u
-
-updated : (params : BrownConradyParams) (distorted : Point) (at : Search) → ended (pass params distorted at) ≡ false → updates (pass params distorted at) ≡ suc (updates at)
+updated-so : (params : BrownConradyParams) (distorted : Point) (at : Tracked) → ended (pass params distorted at) ≡ false → updates (pass params distorted at) ≡ suc (updates at)
 unfolding pass
-updated params distorted at = counted (small (step-from params distorted (at .xy) .by)) (updates at) _ _ refl (add-one (updates at))
+updated-so params distorted at = updated (by-step params distorted) (at .search)
 
 loop-holds : tie.Need-loop-holds Inv-loop μ-loop
 loop-holds c = refl
@@ -51,7 +46,7 @@ loop-less c =
     let l = p .before .before .before in
     let a = l .before .args in
     let e = ap ended (sym (p .pass .ensures)) ∙ c .if2 .left in
-    omega (arith, ap updates (p .pass .ensures) ∙ updated (a .params) (a .distorted) (l .loop .at) e)
+    omega (arith, ap updates (p .pass .ensures) ∙ updated-so (a .params) (a .distorted) (l .loop .at) e)
 
 loop-again : tie.Need-loop-again Inv-loop μ-loop
 loop-again c =
@@ -59,7 +54,7 @@ loop-again c =
     let l = p .before .before .before in
     let a = l .before .args in
     let e = ap ended (sym (p .pass .ensures)) ∙ c .if2 .left in
-    goes-on (pass (a .params) (a .distorted)) ended updates limit (l .loop .inv) (p .before .if1 .taken) (p .pass .ensures) (c .if2 .left) (updated (a .params) (a .distorted) (l .loop .at) e)
+    goes-on (pass (a .params) (a .distorted)) ended updates limit (l .loop .inv) (p .before .if1 .taken) (p .pass .ensures) (c .if2 .left) (updated-so (a .params) (a .distorted) (l .loop .at) e)
 
 returns-2 : tie.Need-returns-2 Inv-loop μ-loop
 returns-2 c =

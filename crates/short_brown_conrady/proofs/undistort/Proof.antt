@@ -10,9 +10,9 @@ use Rattle.affine.specs.Affine as affine
 use Rattle.affine.specs.declared.AffineParams.{AffineParams}
 use Rattle.brown_conrady.specs.BrownConrady as full
 use Rattle.brown_conrady.specs.declared.BrownConradyParams.{BrownConradyParams}
-use Rattle.short_brown_conrady.specs.ShortBrownConrady.{f-xy, small, newton, distorted-of, undistort}
-use Rattle.short_brown_conrady.specs.declared.Offset.{Offset}
-use Rattle.short_brown_conrady.specs.declared.Search.{Search}
+use Rattle.brown_conrady.specs.declared.Offset.{Offset}
+use Rattle.short_brown_conrady.specs.ShortBrownConrady.{f-xy, newton, distorted-of, undistort}
+use Rattle.short_brown_conrady.specs.declared.Tracked.{Tracked}
 use Rattle.short_brown_conrady.proofs.undistort.Statement.{statement}
 use Rattle.short_brown_conrady.proofs.undistort.Tie as tie
 
@@ -40,22 +40,22 @@ undistort-requires-2 c κs = search needs
 abbrev found : BrownConradyParams → Pixel → Settled
 found params pixel =
     let at = newton params (distorted-of params pixel) in
-    let f = f-xy params (distorted-of params pixel) (at .xy) in
-    record { point = at .xy; updates = at .updates; flag = small f }
+    let f = f-xy params (distorted-of params pixel) (at .search .xy) in
+    record { point = at .search .xy; updates = at .search .updates; flag = full.small f }
 
 abbrev tested : BrownConradyParams → Pixel → Bool
 tested params pixel =
     let at = newton params (distorted-of params pixel) in
-    let f = f-xy params (distorted-of params pixel) (at .xy) in
+    let f = f-xy params (distorted-of params pixel) (at .search .xy) in
     finite (f .0 ⊕ f .1 ⊕ at .det)
 
-module _ (params : BrownConradyParams) (pixel : Pixel) {a : AffineParams} {u : Settled} {at : Search} {f : Offset} {b : Bool} (p : a ≡ full.affine-params params) (q : u ≡ affine.undistort a pixel) (r : at ≡ newton params (u .point)) (s : f ≡ f-xy params (u .point) (at .xy)) (e : b ≡ finite (f .0 ⊕ f .1 ⊕ at .det)) where
+module _ (params : BrownConradyParams) (pixel : Pixel) {a : AffineParams} {u : Settled} {at : Tracked} {f : Offset} {b : Bool} (p : a ≡ full.affine-params params) (q : u ≡ affine.undistort a pixel) (r : at ≡ newton params (u .point)) (s : f ≡ f-xy params (u .point) (at .search .xy)) (e : b ≡ finite (f .0 ⊕ f .1 ⊕ at .det)) where
   test : {t : Bool} → b ≡ t → tested params pixel ≡ t
   test t = rw (s, r, q, p) at (sym e ∙ t)
 
-  finite-one : {flag : Bool} → b ≡ true → flag ≡ small f → record { point = at .xy; updates = at .updates; flag = flag } ≡ undistort params pixel
+  finite-one : {flag : Bool} → b ≡ true → flag ≡ full.small f → record { point = at .search .xy; updates = at .search .updates; flag = flag } ≡ undistort params pixel
   finite-one {flag} t g =
-      let short : _≡_ {A = Settled} (record { point = at .xy; updates = at .updates; flag = flag }) (found params pixel) = rw (g, s, r, q, p) refl in
+      let short : _≡_ {A = Settled} (record { point = at .search .xy; updates = at .search .updates; flag = flag }) (found params pixel) = rw (g, s, r, q, p) refl in
       short ∙ ap (λ (x : Bool). cond x (found params pixel) (full.undistort params pixel)) (sym (test t))
 
   other : {again : Settled} → b ≡ false → again ≡ full.undistort params pixel → again ≡ undistort params pixel
