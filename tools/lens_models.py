@@ -442,6 +442,70 @@ def bc_undistort(params, u, v):
     return bc_undistort_impl(params[4:], *affine_undistort(params[:4], u, v))
 
 
+# Request P14: bc without its quotient, for tables of cameras whose k4, k5 and k6 are zeros. What the quotient multiplies and
+# adds is left out of the lines above, and a number that isn't finite sends the pixel to them.
+
+
+def no_quotient(model, params):
+    return model == BC and params[9] == params[10] == params[11] == 0
+
+
+def short_distortion(coefficients, x, y):
+    d0, d1, d2, k3, d4 = coefficients
+    r2 = x * x + y * y
+    r4 = r2 * r2
+    r6 = r4 * r2
+    a1 = 2.0 * x * y
+    a2 = r2 + 2.0 * x * x
+    a3 = r2 + 2.0 * y * y
+    cdist = 1.0 + d0 * r2 + d1 * r4 + d4 * r6
+    return x * cdist + d2 * a1 + k3 * a2, y * cdist + d2 * a3 + k3 * a1
+
+
+def short_jacobian(coefficients, a, b):
+    d0, d1, d2, k3, d4 = coefficients
+    c0 = a * a
+    c1 = b * b
+    c2 = c0 + c1
+    c3 = c2 * c2
+    c4 = c3 * c2
+    c16 = 2.0 * (2.0 * c2) * d1 + 2.0 * (3.0 * c3) * d4 + 2.0 * d0
+    c17 = c2 * d0 + c3 * d1 + c4 * d4 + 1.0
+    c20 = c16 * (a * b)
+    du_dx = c0 * c16 + c17 + (b * (2.0 * d2) + 6.0 * (a * k3))
+    du_dy = c20 + (a * (2.0 * d2) + 2.0 * (b * k3))
+    dv_dx = c20 + (2.0 * a * d2 + 2.0 * (b * k3))
+    dv_dy = c1 * c16 + c17 + (6.0 * b * d2 + 2.0 * (a * k3))
+    return du_dx, du_dy, dv_dx, dv_dy
+
+
+def short_search(params, u, v):
+    """Where Newton ends, the updates, what the lens misses by there, and the determinant of the last pass."""
+    coefficients = params[4:9]
+    u, v = affine_undistort(params[:4], u, v)
+    x, y, updates, determinant = u, v, 0, 1.0
+    while updates < 50:
+        fu, fv = short_distortion(coefficients, x, y)
+        fu, fv = fu - u, fv - v
+        a, b, c, d = short_jacobian(coefficients, x, y)
+        determinant = a * d - b * c
+        s = div(1.0, determinant)
+        step_x = d * s * fu + -b * s * fv
+        step_y = -c * s * fu + a * s * fv
+        if norm(step_x, step_y) <= EPS:
+            break
+        x, y, updates = x - step_x, y - step_y, updates + 1
+    fu, fv = short_distortion(coefficients, x, y)
+    return x, y, updates, fu - u, fv - v, determinant
+
+
+def short_undistort(params, u, v):
+    x, y, updates, fu, fv, determinant = short_search(params, u, v)
+    if not math.isfinite(fu + fv + determinant):
+        return bc_undistort(params, u, v)
+    return x, y, updates, norm(fu, fv) <= EPS
+
+
 def bc_dx_distort_x(params, a, b):
     fx, fy = params[:2]
     d0, d1, d2, d3, d4, d5, d6, d7 = params[4:]

@@ -10,7 +10,8 @@ number is the bit pattern of an f32, of I16 it is a count of thirty-seconds of a
 say of which kind its table is. Four numbers of a box stand as lower x, lower y, upper x, upper y.
 
 `distort_table` is the Rust's function once more, in one go, without units and with each corner twice. The
-turns don't use it; the self-test of make_table_vectors.py holds the two against each other.
+turns don't use it; the self-test of make_table_vectors.py holds the two against each other. It has every
+sample by the model itself, where the turns take bc's short engine for some cameras.
 """
 import functools
 import math
@@ -18,7 +19,7 @@ import struct
 from dataclasses import dataclass, replace
 from fractions import Fraction
 
-from lens_models import COUNTS, DISTORT, LIMITS, UNDISTORT, answer, div
+from lens_models import COUNTS, DISTORT, LIMITS, UNDISTORT, answer, div, no_quotient, short_undistort
 
 LEAST, MOST = 2, 4096  # of width and of height
 ZEROS = (0.0, 0.0, 0.0, 0.0)
@@ -175,11 +176,21 @@ def fresh(camera, w, h, strict=False):
     return (number, None) if number else (0, Job(camera, w, h, strict=strict))
 
 
+def found(camera, pixel):
+    """What a sample finds at its pixel: the model's answer, and for a bc camera whose k4, k5 and k6 are zeros that of the
+    short engine, which differs in signs of zeros alone (RULES 12.2)."""
+    model, params = camera
+    if not no_quotient(model, params):
+        return answer(model, UNDISTORT, params, *pixel)
+    given = short_undistort(params, *pixel)
+    return (0, given) if math.isfinite(given[0]) and math.isfinite(given[1]) else (11, None)
+
+
 def sample_unit(job):
     """Border sample done + 1. A strict job stops at one whose flag says no, once it has a point. The last sample also
     works out the region, and judges it."""
     w, h, n = job.width, job.height, job.done + 1
-    number, given = answer(job.camera[0], UNDISTORT, job.camera[1], *samples(w, h)[n - 1])
+    number, given = found(job.camera, samples(w, h)[n - 1])
     if number:
         return number, None
     x, y, updates, flag = given

@@ -20,14 +20,14 @@ from dataclasses import replace
 
 from lens_models import AFFINE, BC, BC12, COUNTS, EUCM, KB, LIMITS, MILD, MOST_PARAMS, NO_MODEL, UNDISTORT, answer
 from lens_models import MODELS as NAMES
-from lens_tables import F32, FINISHED, I16, REFUSED, RUNNING, Job
-from lens_tables import border, call_refused, camera_refused, fresh, narrow, samples, size_refused, thirty_seconds
-from lens_tables import total, turn
+from lens_tables import F32, FINISHED, I16, REFUSED, RUNNING, ZEROS, Job
+from lens_tables import border, call_refused, camera_refused, distort_table, extended, fresh, narrow, samples
+from lens_tables import size_refused, thirty_seconds, total, turn
 from make_leaf_vectors import Splitmix
 from make_table_lookups import BOX, lookup
 from make_table_lookups import LISTED as LISTED_CELLS
 from make_table_vectors import BRINK, FLAT_UNSETTLED_LAST, HALF_EUCM, LISTED, LISTING, NO_PRISM, OWN_REFUSALS, SEARCHING
-from make_table_vectors import SHAPES, UNSETTLED
+from make_table_vectors import SHAPES, SIGNED_EDGES, UNSETTLED
 from make_table_vectors import UNSETTLED_THEN_REFUSED, about_the_edge, first_unsettled, sample_at, unsettled_last
 
 FOLDER = pathlib.Path(__file__).resolve().parent.parent / "crates" / "test_head_calls"
@@ -1072,6 +1072,40 @@ def without_a_prism(head):
             assert cells == table and replace(record_of(other), camera=()) == replace(record_of(job), camera=())
 
 
+# ---- bc's short engine
+
+
+def by_the_full_engine(job):
+    """The record as a release had it that had no short engine: the same but for signs of zeros among the edges."""
+    edges = ZEROS
+    for n, pixel in enumerate(samples(job.width, job.height)[: job.done]):
+        x, y = answer(job.camera[0], UNDISTORT, job.camera[1], *pixel)[1][:2]
+        edges = (x, y, x, y) if n == 0 else extended(edges, x, y)
+    assert edges == job.edges
+    return replace(job, edges=edges)
+
+
+def zeros_as_edges(head):
+    """Each record of a build by the short engine whose edges have other zeros than the full engine's; and such a build that the
+    full engine began: the table is the same."""
+    for _, w, h, params in SIGNED_EDGES:
+        camera = BC, tuple(params)
+        assert distort_table(camera, w, h)[0] == 0
+        head.heading(f"bc, k4 to k6 zeros, {w} by {h}: unit by unit; then begun by the full engine, at each unit of the border")
+        lent, table = in_turns(head, camera, w, h, [1])
+        others = 0
+        for done in range(border(w, h)):
+            mine = after_units(camera, done, w, h)
+            other = by_the_full_engine(mine)
+            others += record_bytes(other) != record_bytes(mine)
+            head.refill()
+            head.lends(record_bytes(other))
+            assert head.turn(MAX64, 2 * w * h, stay=1)[0] == 0 and head.table == table
+            # all of the record but its edges and its check word
+            assert head.lent[:EDGES_AT] == lent[:EDGES_AT] and head.lent[REGION_AT:CHECK] == lent[REGION_AT:CHECK]
+        assert others
+
+
 # ---- samples that don't settle, and strict jobs
 
 
@@ -1341,6 +1375,7 @@ def written():
         fresh_records,
         builds,
         without_a_prism,
+        zeros_as_edges,
         unsettled_builds,
         beside_18,
         damaged_tallies,

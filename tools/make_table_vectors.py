@@ -43,7 +43,8 @@ from collections import Counter
 from dataclasses import replace
 from fractions import Fraction
 
-from lens_models import AFFINE, BC, BC12, COUNTS, DISTORT, EUCM, KB, LIMITS, MODELS, MOST_PARAMS, NO_MODEL, UNDISTORT, answer
+from lens_models import AFFINE, BC, BC12, COUNTS, DISTORT, EUCM, KB, LIMITS, MODELS, MOST_PARAMS, NO_MODEL, UNDISTORT
+from lens_models import answer, no_quotient, short_search
 from lens_tables import (
     F32,
     FINISHED,
@@ -592,6 +593,59 @@ def stage(question):
 STAGES = ("fresh", "unit 1", "a sample", "unit B", "cell 1", "a cell", FINISHED, RUNNING)
 
 
+# ---- request P14: bc cameras whose k4, k5 and k6 are zeros, which the builder samples by the short engine
+
+# k4, k5 and k6: zeros of every sign; and with one that is none, so that the full engine is asked
+ZERO_SIGNS = list(itertools.product((0.0, -0.0), repeat=3))
+TINY = [[1e-300, 0.0, 0.0], [0.0, -1e-300, 0.0], [-0.0, 0.0, 5e-324]]
+
+# Of these the two engines' edges differ in the sign of a zero. Found by a search over small lenses with a border that
+# starts or ends at the axis.
+SIGNED_EDGES = [
+    (BC, 3, 2, [-1.0, -2.0, 1.0, 1.5, -0.24, 0.0, 0.0, 0.0, -0.0, 0.0, -0.0, 0.0]),
+    (BC, 2, 2, [-0.5, -4.0, 1.0, -0.5, -0.0, -0.26, 0.0, 0.0, -0.0, 0.0, -0.0, -0.0]),
+    (BC, 3, 2, [3.0, -4.0, 2.5, -0.5, -0.39, 0.0, 0.0, 0.27, -0.0, -0.0, -0.0, 0.0]),
+    (BC, 2, 3, [-1.0, 2.0, 1.5, 1.0, 0.0, 0.0, 0.29, 0.0, -0.2, 0.0, -0.0, 0.0]),
+]
+
+# a cell whose pixel is a zero, of either sign
+ZERO_CELLS = [
+    (BC, 3, 3, [1.0, 1.0, 0.0, 0.0, 0.0, 0.0, 0.0, 0.0, 0.0, 0.0, 0.0, 0.0]),
+    (BC, 3, 3, [1.0, -1.0, -0.0, 0.0, -0.25, 0.0, 0.0, 0.0, 0.0, -0.0, 0.0, -0.0]),
+    (BC, 2, 2, [2.0, 2.0, 0.5, 0.5, -0.1, 0.02, 0.0, -0.0, 0.0, -0.0, -0.0, -0.0]),
+]
+
+
+def short_path():
+    weak = [9.0, 8.0, 2.0, 1.5, -0.28, 0.07, 0.0002, -0.0003, 0.01]
+    found = [(BC, 5, 4, 7, weak + list(last)) for last in ZERO_SIGNS + TINY]
+    return found + [q for case in SIGNED_EDGES + ZERO_CELLS for q in by(case, 3, LARGE)]
+
+
+def wild_zeros(rng, model):
+    return wild(rng, model)[:9] + [(0.0, -0.0)[rng.bits(1)] for _ in range(3)]
+
+
+def zero_signs(question, job):
+    """What the short engine comes to in a job: samples that it hands over to the full one, of which that has the point
+    or refuses, and whether the record's edges have a zero of another sign than by the full one."""
+    (model, params), w, h, *_ = question
+    if not no_quotient(model, params):
+        return
+    yield "jobs"
+    edges = None
+    for n, pixel in enumerate(samples(w, h)[: job.done + 1]):
+        number, given = answer(model, UNDISTORT, params, *pixel)
+        *_, fu, fv, determinant = short_search(params, *pixel)
+        if not math.isfinite(fu + fv + determinant):
+            yield "samples done again by the full engine, " + ("refused" if number else "answered")
+        if n < min(job.done, border(w, h)):
+            edges = given[:2] * 2 if n == 0 else extended(edges, *given[:2])
+    if edges and patterns(edges) != patterns(job.edges):
+        assert edges == job.edges
+        yield "records with an edge of another zero than the full engine's"
+
+
 def wild(rng, model):
     """Focal lengths of any size and sign. Half of them are of one size across and down, and most centres lie near
     the image: else nearly no table would be finished."""
@@ -612,7 +666,7 @@ def wild(rng, model):
     return params
 
 
-def by_ending(rng, model, most, finished, tries, strict=False, cells=F32):
+def by_ending(rng, model, most, finished, tries, strict=False, cells=F32, wild=wild):
     """2 by 2 tables: of each ending that so many tries come to at most so many, and of those that finish as many as
     said."""
     have = Counter()
@@ -649,6 +703,8 @@ def kinds():
     yield "bc12 without a prism", without_a_prism()
     for model, name in enumerate(MODELS):
         yield f"{name}, wild", by_ending(Splitmix(70 + model), model, 3, 6, 3000)
+    yield "bc, k4 to k6 zeros", short_path()
+    yield "bc, k4 to k6 zeros, wild", by_ending(Splitmix(78), BC, 6, 6, 3000, wild=wild_zeros)
 
 
 def strict_kinds():
@@ -675,6 +731,7 @@ def kinds_16():
     yield "i16, unsettled samples", [q for _, case in UNSETTLED for q in by(case, LARGE)]
     for model, name in enumerate(MODELS):
         yield f"i16, {name}, wild", by_ending(Splitmix(170 + model), model, 2, 4, 2000, False, I16)
+    yield "i16, bc, k4 to k6 zeros", short_path()
 
 
 def strict_kinds_16():
@@ -783,6 +840,8 @@ def ask():
             for status, _, _ in taken:
                 said["turns", status] += 1
             if job:
+                for word in zero_signs(question, job):
+                    said["short", word] += 1
                 said["cells", "done"] += max(job.done - border(w, h), 0)
                 for word in cell_kinds(question, job, table):
                     said["cells", word] += 1
@@ -829,6 +888,10 @@ def summary(said, count, bad):
         some = {words: said["unsettled", name, *place] for words, place in UNSETTLED_PLACES}
         say(f"{name}, tables with unsettled samples:", ", ".join(f"{n} {words}" for words, n in some.items()))
         assert all(some.values()), name
+    for key, n in said.items():
+        if key[0] == "short":
+            say(f"bc, k4 to k6 zeros: {n} {key[1]}")
+    assert sum(key[0] == "short" for key in said) == 4
     say(f"\n{count} questions, {bad} bad lines")
     # every number that a job can be refused with, at each place where it can be
     everywhere = [(4, "fresh"), (5, "fresh"), (6, "fresh"), (11, "unit 1"), (11, "a sample"), (8, "unit B")]
@@ -880,10 +943,12 @@ def cases():
     """Cases of all kinds, those that finish and those that don't, none of them large."""
     found = [LISTED] + [case for _, _, case in ENDINGS + OWN_REFUSALS] + TIES + SMALL_CELLS
     found += [case for _, case in UNSETTLED] + [case for *_, case in UNSETTLED_THEN_REFUSED]
-    found += [(model, w, h, params) for model, w, h, _, params in by_sevens() + narrow_and_flat()]
+    found += [(model, w, h, params) for model, w, h, _, params in by_sevens() + narrow_and_flat() + short_path()]
     for model in range(NO_MODEL):
         rng = Splitmix(80 + model)
         found += [(model, 2 + i % 3, 2 + i % 2, wild(rng, model)) for i in range(150)]
+    rng = Splitmix(84)
+    found += [(BC, 2 + i % 3, 2 + i % 2, wild_zeros(rng, BC)) for i in range(150)]
     return [case for case in found if fresh((case[0], tuple(case[3])), *case[1:3])[0] == 0]
 
 

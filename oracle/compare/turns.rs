@@ -92,6 +92,16 @@ pub struct Tally {
     of_before: u64,
     unsettled: Unsettled,
     corners: Corners,
+    short: Short,
+}
+
+/// Builds of bc cameras whose k4, k5 and k6 are zeros, which ours samples without the quotient; and of their turns those behind
+/// which an edge of the record is a zero of another sign than the Rust's.
+#[derive(Default)]
+struct Short {
+    builds: u64,
+    turns: u64,
+    other_zeros: u64,
 }
 
 /// Of the tables that aren't strict, those whose borders are done: where the first sample stands that hasn't settled (none, the
@@ -140,6 +150,12 @@ struct Build<T> {
     done: usize,
     ours: Kept<T>,
     owed: Kept<T>,
+    /// Turns, and those behind which an edge is another zero.
+    short: [u64; 2],
+}
+
+fn without_quotient(asked: &Asked) -> bool {
+    asked.model == 3 && asked.params[9..12].iter().all(|&x| x == 0.0)
 }
 
 /// After each count of samples.
@@ -206,7 +222,24 @@ impl<T: Cell> Build<T> {
         let kept = &mut self.ours;
         let given = T::turn(kept.job.lend(), kept.table.lend(), allowance, kept.answer.lend());
         let number = self.advance(allowance);
+        self.allow_zeros();
         self.judged(given, number, &format!("a turn of {}", allowance)).map(|_| number)
+    }
+
+    /// Of a bc camera whose k4, k5 and k6 are zeros the signs of zeros among the edges are ours to choose, and nothing else is.
+    fn allow_zeros(&mut self) {
+        if !without_quotient(&self.asked) {
+            return;
+        }
+        let (ours, mut owed) = (Record::read(self.ours.job.held()), self.record());
+        let bits = |edges: [f64; 4]| edges.map(f64::to_bits);
+        let other = ours.edges == owed.edges && bits(ours.edges) != bits(owed.edges);
+        self.short[0] += 1;
+        self.short[1] += other as u64;
+        if other {
+            owed.edges = ours.edges;
+            self.owed.job.put(&owed.bytes());
+        }
     }
 
     fn judged(&self, given: u8, number: u8, what: &str) -> Result<(), String> {
@@ -384,6 +417,32 @@ fn refused_tables() -> Vec<(usize, Vec<f64>, usize, usize)> {
     ]
 }
 
+/// bc without its quotient: borders that start or end on an axis, where zeros are edges; cells that are zeros; numbers that
+/// overflow on one of the two paths alone.
+fn short_tables(r: &mut Random) -> Vec<(usize, Vec<f64>, usize, usize)> {
+    let mut tables = vec![
+        (3, vec![-1.0, -2.0, 1.0, 1.5, -0.24, 0.0, 0.0, 0.0, -0.0, 0.0, -0.0, 0.0], 3, 2),
+        (3, vec![-0.5, -4.0, 1.0, -0.5, -0.0, -0.26, 0.0, 0.0, -0.0, 0.0, -0.0, -0.0], 2, 2),
+        (3, vec![3.0, -4.0, 2.5, -0.5, -0.39, 0.0, 0.0, 0.27, -0.0, -0.0, -0.0, 0.0], 3, 2),
+        (3, vec![1.0, -1.0, -0.0, 0.0, -0.25, 0.0, 0.0, 0.0, 0.0, -0.0, 0.0, -0.0], 3, 3),
+        (3, vec![1e-13, -2.3e16, 2.6e16, 0.3, -12.2, -2.3, -0.6, 0.3, 0.15, 0.0, -0.0, -0.0], 2, 2),
+    ];
+    for _ in 0..400 {
+        let (width, height) = (2 + r.below(2), 2 + r.below(2));
+        let focal = |r: &mut Random| [1.0, 2.0, 4.0, 0.5, 3.0][r.below(5)] * [1.0, -1.0][r.below(2)];
+        let centre = |r: &mut Random, n: usize| [-0.5, 0.5, n as f64 - 0.5, 1.0][r.below(4)];
+        let mut params = vec![focal(r), focal(r), centre(r, width), centre(r, height)];
+        for _ in 0..5 {
+            params.push([0.0, -0.0, (r.below(101) as f64 - 50.0) / 100.0][r.below(3)]);
+        }
+        for _ in 0..3 {
+            params.push([0.0, -0.0][r.below(2)]);
+        }
+        tables.push((3, params, width, height));
+    }
+    tables
+}
+
 /// Tables whose borders have samples that haven't settled: the first, one between, the last, and all, of kb and of bc.
 fn unsettled_tables() -> Vec<(usize, Vec<f64>, usize, usize)> {
     vec![
@@ -467,7 +526,7 @@ fn begun<T: Cell>(r: &mut Random, asked: Asked, strict: bool) -> Result<Option<B
     let table = Lent::new(r, built.cells.len());
     let ours = Kept { job, table, answer: Lent::new(r, record::ANSWER_BYTES) };
     let (swept, end, cells) = (swept(&built), T::end(&built, strict), T::cells(&built));
-    Ok(Some(Build { asked, strict, built, cells, swept, end, done: 0, owed: ours.clone(), ours }))
+    Ok(Some(Build { asked, strict, built, cells, swept, end, done: 0, owed: ours.clone(), ours, short: [0; 2] }))
 }
 
 /// All turns of a build, and some more once it can't go on.
@@ -518,6 +577,9 @@ fn build<T: Cell>(oracle: &mut Oracle, asked: Asked, strict: bool, tally: &mut T
     let build = outcome.unwrap()?;
     tally.tables += 1;
     tally.units += build.done as u64;
+    tally.short.builds += without_quotient(&build.asked) as u64;
+    tally.short.turns += build.short[0];
+    tally.short.other_zeros += build.short[1];
     let finished = build.end.1 == 0;
     tally.finished += finished as u64;
     tally.largest += (finished && [build.asked.width, build.asked.height] == [640, 480]) as u64;
@@ -661,6 +723,9 @@ impl Oracle {
                 then(self, table);
             }
         }
+        for (model, params, width, height) in short_tables(&mut self.random) {
+            both(self, Asked { model, params, width, height }, &mut tally);
+        }
         for _ in 0..tables {
             let asked = asked(&mut self.random);
             if let Some(table) = both(self, asked, &mut tally) {
@@ -685,6 +750,12 @@ impl Oracle {
              sample's own number: {}",
             first[0], first[1], first[2], first[3], last, samples, strict[1], strict[0], before_8, own_number
         );
+        let Short { builds, turns, other_zeros } = &tally.short;
+        println!(
+            "bc, k4 to k6 zeros: {} builds, {} turns; behind {} of these an edge of the record is a zero of another sign than the Rust's",
+            builds, turns, other_zeros
+        );
+        self.met("bc, k4 to k6 zeros: builds, turns with the Rust's edges, with another zero", &[*builds, turns - other_zeros, *other_zeros], &[0, 1, 2]);
         let Corners { borders, taking, rust, ours, corners } = &tally.corners;
         println!(
             "corners once: {} borders, {} with updates at a corner; updates of the Rust's sweeps {}, of ours {}, of the corners {}",

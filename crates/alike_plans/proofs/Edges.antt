@@ -1,27 +1,23 @@
 -- Edges that are alike: they stay so from sample to sample, the increments are refused alike, and where these are taken the two regions are one, bit by bit. Assumes nothing.
 use mathlib.Core.Path.{_≡_, refl, sym, ap, _∙_, subst}
 use mathlib.Core.Bool.{Bool, true, false, cond, _&&_, _||_, true≢false, false≢true}
-use Prim.Native.Nat.{ℕ, zero, suc, _-_, _*_, _≤_, _<_}
-use native.Mathlib.Nat.{zero-mul, mul-pos, le-trans}
-use native.Mathlib.Omega.{arith}
-use lib.Dec.{T, eqb, lit≤}
-use lib.Ieee.{up, Float, nan, inf, fin, binary64, lt, le, ofBits, ofInt, round}
-use lib.Ieee.Back.{round-whole}
-use lib.Ieee.Exact.{HasValue}
-use lib.Ieee.Fits.{down-pos}
+use Prim.Native.Nat.{ℕ, zero, suc, _-_}
+use lib.Dec.{T, eqb}
+use lib.IntN.{ℤ}
+use lib.Ieee.{Float, nan, inf, fin, div, lt, le, ofBits}
 use lib.Ieee.Scale.{finite}
 use Rattle.exact.specs.Alike.{_≐_, both-zero}
 use Rattle.exact.specs.F64.{_⊕_, _⊖_, _⊘_, isZero}
-use Rattle.exact.proofs.Alike.{its, ≐-finite, ≐-lt, ≐-le, ≐-over, _⟨⊕⟩_, _⟨⊖⟩_, sum-same, difference-same}
-use Rattle.exact.proofs.Zeros.{zero-plus-zero, zero-less-zero, zero-over-other}
+use Rattle.exact.proofs.Alike.{its, over-kept, ≐-finite, ≐-lt, ≐-le, ≐-over, _⟨⊕⟩_, _⟨⊖⟩_, sum-same, difference-same}
+use Rattle.exact.proofs.Zeros.{zero-elim, zero-plus-zero, zero-less-zero, zero-over-other}
 use Rattle.lens.specs.Constants.{zeros}
 use Rattle.lens.specs.declared.Point.{Point}
 use Rattle.lens.specs.declared.Judgement.{Judgement}
 use Rattle.lens.specs.declared.Judgement.the-variants.{Taken, Refused}
-use Rattle.lens.specs.declared.Refusal.the-variants.{IncrementNotPositive}
+use Rattle.lens.specs.declared.Refusal.the-variants.{IncrementNotPositive, AnswerNotFinite}
 use Rattle.lens.specs.Alike.{AlikePoints}
 use Rattle.region.specs.Region.{range, increments, flat, wrong}
-use Rattle.region.specs.Size.{float, Sized}
+use Rattle.region.specs.Size.{float}
 use Rattle.region.specs.declared.Region.{Region}
 use Rattle.border.specs.Edges.{lowered, raised, widened, edges-after, two, mid, doubled}
 use Rattle.alike_plans.specs.AlikePlans.{AlikeRegions}
@@ -79,17 +75,15 @@ doubled-kept a b h = record {
   bottom = mid-kept (h .top) (h .bottom) ⟨⊕⟩ (h .bottom ⟨⊖⟩ h .top);
 }
 
--- a count above zero is a number and no zero
-counted : (x : Float) (n : ℕ) → 0 < n → HasValue x false n 1 → T (finite x) × (isZero x ≡ false)
-unfolding isZero
-counted nan n h v = absurd v
-counted (inf s) n h v = absurd v
-counted (fin s zero e) n h v = absurd (omega (arith, mul-pos h (down-pos e), sym (v .1) ∙ ap (λ (x : ℕ). x * 1) (zero-mul (up e))))
-counted (fin s (suc m) e) n h v = (tt, refl)
-
-float-counts : (n : ℕ) → 0 < n → n ≤ 4096 → T (finite (float n)) × (isZero (float n) ≡ false)
-unfolding float ofInt
-float-counts n h l = counted (round binary64 false n 1) n h (round-whole binary64 false n (le-trans l (lit≤ tt)))
+-- zeros over any number are zeros, where they are finite
+zero-over : (z k : Float) → isZero z ≡ true → finite (z ⊘ k) ≡ true → isZero (z ⊘ k) ≡ true
+zero-over z k p = zero-elim (λ (z : Float). finite (z ⊘ k) ≡ true → isZero (z ⊘ k) ≡ true) (λ s e. go s e k) z p
+  where
+    go : (s : Bool) (e : ℤ) (k : Float) → finite (fin s zero e ⊘ k) ≡ true → isZero (fin s zero e ⊘ k) ≡ true
+    go s e nan h = absurd (false≢true (unfold div in h))
+    go s e (inf t) h = unfold div isZero in refl
+    go s e (fin t zero d) h = absurd (false≢true (unfold div in h))
+    go s e (fin t (suc m) d) h = zero-over-other (fin s zero e) (fin t (suc m) d) (unfold isZero in refl) tt (unfold isZero in refl)
 
 flat-kept : {x y : Float} → x ≐ y → flat x ≡ flat y
 flat-kept {x} {y} p = ap (λ (b : Bool). b && le x zeros) (≐-finite p) ∙ ap (λ (b : Bool). finite y && b) (≐-le p (its zeros))
@@ -103,19 +97,19 @@ zero-flat x p = flat-kept (both-zero p at-zero) ∙ flat-zero
     flat-zero : flat zeros ≡ true
     flat-zero = unfold le ofBits in refl
 
--- of two edges that are both zeros the increment is a zero
-zero-step : (lo hi k : Float) → isZero lo ≡ true → isZero hi ≡ true → T (finite k) → isZero k ≡ false → isZero (range (mid lo hi ⊖ range lo hi) (mid lo hi ⊕ range lo hi) ⊘ k) ≡ true
-zero-step lo hi k p q t n =
+-- of two edges that are both zeros the increment is a zero, where it is finite
+zero-step : (lo hi k : Float) → isZero lo ≡ true → isZero hi ≡ true → let by = range (mid lo hi ⊖ range lo hi) (mid lo hi ⊕ range lo hi) ⊘ k in finite by ≡ true → isZero by ≡ true
+zero-step lo hi k p q =
     let m = zero-over-other (lo ⊕ hi) two (zero-plus-zero lo hi p q) two-finite two-no-zero in
     let r = zero-less-zero hi lo q p in
-    zero-over-other _ k (zero-less-zero _ _ (zero-plus-zero _ _ m r) (zero-less-zero _ _ m r)) t n
+    zero-over _ k (zero-less-zero _ _ (zero-plus-zero _ _ m r) (zero-less-zero _ _ m r))
 
--- so where it isn't flat they are not
-not-both : (lo hi k : Float) → T (finite k) → isZero k ≡ false → flat (range (mid lo hi ⊖ range lo hi) (mid lo hi ⊕ range lo hi) ⊘ k) ≡ false → (isZero lo && isZero hi) ≡ false
-not-both lo hi k t n h = go (isZero lo) (isZero hi) refl refl
+-- so where it is finite and isn't flat they are not
+not-both : (lo hi k : Float) → let by = range (mid lo hi ⊖ range lo hi) (mid lo hi ⊕ range lo hi) ⊘ k in flat by ≡ false → finite by ≡ true → (isZero lo && isZero hi) ≡ false
+not-both lo hi k h f = go (isZero lo) (isZero hi) refl refl
   where
     go : (a b : Bool) → isZero lo ≡ a → isZero hi ≡ b → (a && b) ≡ false
-    go true true p q = absurd (true≢false (sym (zero-flat _ (zero-step lo hi k p q t n)) ∙ h))
+    go true true p q = absurd (true≢false (sym (zero-flat _ (zero-step lo hi k p q f)) ∙ h))
     go true false p q = refl
     go false b p q = refl
 
@@ -140,30 +134,27 @@ abbrev Refuses : Judgement → Type 0
 Refuses Taken = ⊥
 Refuses (Refused r) = Unit {0}
 
-module _ (width height : ℕ) (size : Sized width height) (a b : Region) (h : AlikeRegions a b) where
-  across : T (finite (float (width - 1))) × (isZero (float (width - 1)) ≡ false)
-  across = float-counts (width - 1) (omega (arith, size .wide)) (omega (arith, size .not-wider))
-
-  along : T (finite (float (height - 1))) × (isZero (float (height - 1)) ≡ false)
-  along = float-counts (height - 1) (omega (arith, size .high)) (omega (arith, size .not-higher))
-
+module _ (width height : ℕ) (a b : Region) (h : AlikeRegions a b) where
   pub increments-refused-alike : wrong (increments (doubled a) width height) ≡ wrong (increments (doubled b) width height)
   unfolding wrong increments
   increments-refused-alike =
       let d = doubled-kept a b h in
-      let x = ≐-over (across .1) (d .right ⟨⊖⟩ d .left) (its (float (width - 1))) in
-      let y = ≐-over (along .1) (d .bottom ⟨⊖⟩ d .top) (its (float (height - 1))) in
+      let x = over-kept (float (width - 1)) (d .right ⟨⊖⟩ d .left) in
+      let y = over-kept (float (height - 1)) (d .bottom ⟨⊖⟩ d .top) in
       rw (flat-kept x, flat-kept y, ≐-finite x, ≐-finite y) refl
 
   pub region-is-one : wrong (increments (doubled a) width height) ≡ Taken → doubled a ≡ doubled b
   unfolding wrong increments doubled
   region-is-one e =
-      let n = go (flat (increments (doubled a) width height .0)) (flat (increments (doubled a) width height .1)) _ e in
-      let x = not-both (a .left) (a .right) (float (width - 1)) (across .0) (across .1) (n .0) in
-      let y = not-both (a .top) (a .bottom) (float (height - 1)) (along .0) (along .1) (n .1) in
+      let by = increments (doubled a) width height in
+      let n = go (flat (by .0)) (flat (by .1)) (finite (by .0)) (finite (by .1)) e in
+      let x = not-both (a .left) (a .right) (float (width - 1)) (n .0) (n .2) in
+      let y = not-both (a .top) (a .bottom) (float (height - 1)) (n .1) (n .3) in
       region-same (lower-same x (h .left) (h .right)) (lower-same y (h .top) (h .bottom)) (upper-same x (h .left) (h .right)) (upper-same y (h .top) (h .bottom))
     where
-      go : (p q : Bool) (c : Judgement) → cond (p || q) (Refused IncrementNotPositive) c ≡ Taken → (p ≡ false) × (q ≡ false)
-      go true q c e = absurd (subst Refuses e tt)
-      go false true c e = absurd (subst Refuses e tt)
-      go false false c e = (refl, refl)
+      go : (p q f g : Bool) → cond (p || q) (Refused IncrementNotPositive) (cond (f && g) Taken (Refused AnswerNotFinite)) ≡ Taken → (p ≡ false) × (q ≡ false) × (f ≡ true) × (g ≡ true)
+      go true q f g e = absurd (subst Refuses e tt)
+      go false true f g e = absurd (subst Refuses e tt)
+      go false false true true e = (refl, refl, refl, refl)
+      go false false true false e = absurd (subst Refuses e tt)
+      go false false false g e = absurd (subst Refuses e tt)

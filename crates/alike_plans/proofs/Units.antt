@@ -18,7 +18,6 @@ use Rattle.lens.specs.declared.Undistorted.the-variants.{At, Refused}
 use Rattle.lens.proofs.Laws.{verdict-one-to-one}
 use Rattle.lens.specs.Alike.{AlikeSettled}
 use Rattle.region.specs.Region.{increments, wrong}
-use Rattle.region.specs.Size.{Sized}
 use Rattle.region.specs.declared.Region.{Region}
 use Rattle.plans.specs.Plan.{Content, Sweep, Plan, one-no, all-units, found, cell-in}
 use Rattle.plans.specs.Built.{sum-below, first-no, before-refused, settled-at, edges-below, region-of, sample-number, border-number, content-number, content-at, unit-number, doable}
@@ -78,7 +77,7 @@ told-alike (At a) (Refused s) h = absurd h
 told-alike (Refused r) (At b) h = absurd h
 told-alike (Refused r) (Refused s) h = record { point = record { x = ≐-refl; y = ≐-refl }; updates = refl; flag = refl }
 
-module _ (sweep : Sweep) (sample : Pixel → Undistorted) (h : (pixel : Pixel) → AlikeFound (sample pixel) (sweep .sample pixel)) (size : Sized (sweep .width) (sweep .height)) where
+module _ (sweep : Sweep) (sample : Pixel → Undistorted) (h : (pixel : Pixel) → AlikeFound (sample pixel) (sweep .sample pixel)) where
   abbrev other : Sweep
   other = sampled-by sweep sample
 
@@ -106,16 +105,14 @@ module _ (sweep : Sweep) (sample : Pixel → Undistorted) (h : (pixel : Pixel) �
   number-same (Refused r) (Refused s) k = ap number k
 
   judged-same : wrong (increments (region-of other) (sweep .width) (sweep .height)) ≡ wrong (increments (region-of sweep) (sweep .width) (sweep .height))
-  judged-same = increments-refused-alike (sweep .width) (sweep .height) size (edges-below other (sweep .samples)) (edges-below sweep (sweep .samples)) (edges-alike (sweep .samples))
+  judged-same = increments-refused-alike (sweep .width) (sweep .height) (edges-below other (sweep .samples)) (edges-below sweep (sweep .samples)) (edges-alike (sweep .samples))
 
   border-same : (n : ℕ) → border-number other n ≡ border-number sweep n
   border-same n = rw (number-same (found other n) (found sweep n) (h (sweep .pixel-at n)), judged-same) refl
 
-  -- where the last sample isn't refused the two regions are one
-  pub region-same : 0 < sweep .samples → border-number other (sweep .samples - 1) ≡ 0 → region-of other ≡ region-of sweep
-  region-same b e =
-      region-is-one (sweep .width) (sweep .height) size (edges-below other (sweep .samples)) (edges-below sweep (sweep .samples)) (edges-alike (sweep .samples))
-      (go (sample-number other (found other (sweep .samples - 1))) (ltb (sweep .samples - 1 + 1) (sweep .samples)) (le-ltb (sweep .samples - 1 + 1) (sweep .samples) (omega (arith, b))) e)
+  -- where the last sample isn't refused, or there is none, the two regions are one
+  pub region-same : (0 < sweep .samples → border-number other (sweep .samples - 1) ≡ 0) → region-of other ≡ region-of sweep
+  region-same e = go (ltb 0 (sweep .samples)) refl
     where
       judged : Judgement
       judged = wrong (increments (region-of other) (sweep .width) (sweep .height))
@@ -123,14 +120,21 @@ module _ (sweep : Sweep) (sample : Pixel → Undistorted) (h : (pixel : Pixel) �
       taken : verdict judged ≡ 0 → judged ≡ Taken
       taken e = verdict-one-to-one judged Taken e
 
-      go : (n : ℕ) (l : Bool) → l ≡ false → cond (eqb n 0) (cond l 0 (verdict judged)) n ≡ 0 → judged ≡ Taken
-      go zero true q e = absurd (true≢false q)
-      go zero false q e = taken e
-      go (suc n) l q e = let z : suc n ≡ 0 = rw (eqb·suc-zero n) at e in absurd (omega (arith, z))
+      at-last : (n : ℕ) (l : Bool) → l ≡ false → cond (eqb n 0) (cond l 0 (verdict judged)) n ≡ 0 → judged ≡ Taken
+      at-last zero true q e = absurd (true≢false q)
+      at-last zero false q e = taken e
+      at-last (suc n) l q e = let z : suc n ≡ 0 = rw (eqb·suc-zero n) at e in absurd (omega (arith, z))
+
+      go : (b : Bool) → ltb 0 (sweep .samples) ≡ b → region-of other ≡ region-of sweep
+      go true t =
+          let some = ltb-true 0 (sweep .samples) t in
+          region-is-one (sweep .width) (sweep .height) (edges-below other (sweep .samples)) (edges-below sweep (sweep .samples)) (edges-alike (sweep .samples))
+          (at-last (sample-number other (found other (sweep .samples - 1))) (ltb (sweep .samples - 1 + 1) (sweep .samples)) (le-ltb (sweep .samples - 1 + 1) (sweep .samples) (omega (arith, some))) (e some))
+      go false t = let z : sweep .samples ≡ 0 = omega (arith, ltb-false 0 (sweep .samples) t) in rw (z) (unfold edges-below in refl)
 
 -- ---- units
 
-module _ {X : Type 0} (p : Plan X) (sample : Pixel → Undistorted) (cell : Region → ℕ → ℕ → Content X) (h : (pixel : Pixel) → AlikeFound (sample pixel) (p .sweep .sample pixel)) (c : (region : Region) (u v : ℕ) → cell region u v ≡ p .cell region u v) (size : Sized (p .sweep .width) (p .sweep .height)) (bordered : 0 < p .sweep .samples) where
+module _ {X : Type 0} (p : Plan X) (sample : Pixel → Undistorted) (cell : Region → ℕ → ℕ → Content X) (h : (pixel : Pixel) → AlikeFound (sample pixel) (p .sweep .sample pixel)) (c : (region : Region) (u v : ℕ) → cell region u v ≡ p .cell region u v) where
   abbrev q : Plan X
   q = built-by p sample cell
 
@@ -140,7 +144,7 @@ module _ {X : Type 0} (p : Plan X) (sample : Pixel → Undistorted) (cell : Regi
   -- behind the border
   pub region-one : (n : ℕ) → p .sweep .samples ≤ n → All-done n → region-of (q .sweep) ≡ region-of (p .sweep)
   unfolding unit-number
-  region-one n l d = region-same (p .sweep) sample h size bordered (rw (lt-ltb (p .sweep .samples - 1) (p .sweep .samples) (omega (arith, bordered))) at (d (p .sweep .samples - 1) (omega (arith, bordered, l))))
+  region-one n l d = region-same (p .sweep) sample h λ some. rw (lt-ltb (p .sweep .samples - 1) (p .sweep .samples) (omega (arith, some))) at (d (p .sweep .samples - 1) (omega (arith, some, l)))
 
   pub contents-same : region-of (q .sweep) ≡ region-of (p .sweep) → (k : ℕ) → content-at q k ≡ content-at p k
   contents-same e k = ap (λ (r : Region). cell-in q r k) e ∙ c (region-of (p .sweep)) _ _
@@ -152,7 +156,7 @@ module _ {X : Type 0} (p : Plan X) (sample : Pixel → Undistorted) (cell : Regi
       go :
           (b : Bool) → ltb n (p .sweep .samples) ≡ b
           → cond b (border-number (q .sweep) n) (content-number (content-at q (n - p .sweep .samples))) ≡ cond b (border-number (p .sweep) n) (content-number (content-at p (n - p .sweep .samples)))
-      go true t = border-same (p .sweep) sample h size n
+      go true t = border-same (p .sweep) sample h n
       go false t = ap (λ (x : Content X). content-number x) (contents-same (region-one n (ltb-false n (p .sweep .samples) t) d) (n - p .sweep .samples))
 
   pub doable-same : doable q ≡ doable p

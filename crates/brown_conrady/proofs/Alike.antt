@@ -1,19 +1,14 @@
 -- Points that are one but for the signs of zeros: their squared radius is the same bit by bit, so bc sends them alike, and two Newtons whose steps are alike go the same way. Assumes nothing.
 use mathlib.Core.Path.{_≡_, refl, sym, ap, ap₂, _∙_}
 use mathlib.Core.Bool.{Bool, true, false, cond, false≢true}
-use Prim.Native.Nat.{zero, _*_}
-use native.Mathlib.Nat.{mul-pos}
 use lib.Dec.{T}
-use lib.IntN.{ℤ, pos}
-use lib.Ieee.{Float, nan, inf, fin, binary64, up, down, mul, le, ofBits}
-use lib.Ieee.Fits.{down-pos}
+use lib.Ieee.{Float, nan, inf, fin, le, ofBits}
 use lib.Ieee.Scale.{finite}
 use Rattle.exact.specs.Alike.{_≐_, same}
 use Rattle.exact.specs.F64.{f64, magnitude, _⊕_, _⊖_, _⊗_, _⊘_}
-use Rattle.exact.proofs.Alike.{its, ≐-elim, ≐-isZero, ≐-minus, ≐-over, _⟨⊕⟩_, _⟨⊖⟩_, _⟨⊗⟩_}
+use Rattle.exact.proofs.Alike.{its, square-same, ≐-isZero, ≐-minus, ≐-over, _⟨⊕⟩_, _⟨⊖⟩_, _⟨⊗⟩_}
 use Rattle.exact.proofs.Operations.{sum-finite, difference-finite, product-finite, quotient-finite}
 use Rattle.exact.proofs.Swaps.{squares-unsigned}
-use Rattle.exact.proofs.Zeros.{nought, zero-rounds}
 use Rattle.root.specs.Root.{root}
 use Rattle.lens.specs.Alike.{AlikePoints}
 use Rattle.lens.specs.Constants.{ones, eps, int}
@@ -28,15 +23,7 @@ use Rattle.brown_conrady.specs.declared.Slopes.{Slopes}
 use Rattle.brown_conrady.proofs.NoRoot.{last-bits, no-root}
 use Rattle.brown_conrady.proofs.Steps.{passes-alike}
 
--- ---- a square has no sign
-
-zero-square : (s : Bool) (e : ℤ) → fin s zero e ⊗ fin s zero e ≡ fin false 0 (pos 0)
-unfolding mul
-zero-square true e = zero-rounds binary64 false (0 * up e * (0 * up e)) (down e * down e) (nought (up e) (0 * up e)) (mul-pos (down-pos e) (down-pos e))
-zero-square false e = zero-rounds binary64 false (0 * up e * (0 * up e)) (down e * down e) (nought (up e) (0 * up e)) (mul-pos (down-pos e) (down-pos e))
-
-square-same : {x y : Float} → x ≐ y → x ⊗ x ≡ y ⊗ y
-square-same = ≐-elim (λ (x y : Float). x ⊗ x ≡ y ⊗ y) (λ x. refl) (λ s t e d. zero-square s e ∙ sym (zero-square t d))
+-- ---- the squared radius
 
 pub radius-same : {x x' y y' : Float} → x ≐ x' → y ≐ y' → squared-radius x y ≡ squared-radius x' y'
 radius-same p q = ap₂ (λ (a b : Float). a ⊕ b) (square-same p) (square-same q)

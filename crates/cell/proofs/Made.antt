@@ -7,6 +7,7 @@ use Rattle.lens.specs.declared.Distorted.{Distorted}
 use Rattle.lens.specs.declared.Distorted.the-variants as pixels
 use Rattle.lens.specs.declared.Pixel.{Pixel}
 use Rattle.lens.specs.declared.Point.{Point}
+use Rattle.lens.specs.declared.Refusal.the-variants.{AnswerNotFinite}
 use Rattle.region.specs.declared.Increments.{Increments}
 use Rattle.region.specs.declared.Region.{Region}
 use Rattle.plans.specs.Plan.{Content, none}
@@ -29,8 +30,15 @@ module _ {X : Type 0} (kind : Pixel → Content X) where
         go true = of-one-pixel (distort point)
         go false = refl
 
-  -- from what the pixel was found to be
-  pub from-pixel : (distort : Point → Distorted) (region : Region) (by : Increments) (u v : ℕ) {r d : Distorted}
-      → r ≡ d → of-pixel unrounded r ≡ cell-by distort unrounded region by u v → of-pixel kind d ≡ cell-by distort kind region by u v
-  from-pixel distort region by u v {r} e h =
-      ap (of-pixel kind) (sym e) ∙ of-one-pixel r ∙ ap (of-cell kind) h ∙ sym (made distort region by u v)
+  -- from what the point was found to be sent to, which is judged first
+  pub from-pixel : (distort : Point → Distorted) (region : Region) (by : Increments) (u v : ℕ) {r d : Distorted} → let point = cell-point region by u v in
+      r ≡ d → r ≡ cond (finite (point .0) && finite (point .1)) (distort point) (pixels.Refused AnswerNotFinite) → of-pixel kind d ≡ cell-by distort kind region by u v
+  unfolding cell-by
+  from-pixel distort region by u v e h = ap (of-pixel kind) (sym e ∙ h) ∙ go (finite (point .0) && finite (point .1))
+    where
+      point : Point
+      point = cell-point region by u v
+
+      go : (f : Bool) → of-pixel kind (cond f (distort point) (pixels.Refused AnswerNotFinite)) ≡ cond f (of-pixel kind (distort point)) (none 11)
+      go true = refl
+      go false = refl

@@ -3,8 +3,8 @@
 ghost use mathlib.Core.Path.{_≡_};
 ghost use mathlib.Core.Bool.{_&&_};
 ghost use lib.Ieee.Scale.{finite};
-ghost use Rattle.camera.specs.Camera.{distort-judged};
-ghost use Rattle.cell.specs.Cell.{unrounded, f32, i16, of-pixel, cell-by, told, told16};
+ghost use Rattle.engine.specs.Engine.{distort};
+ghost use Rattle.cell.specs.Cell.{cell-point, f32, i16, cell-by, told, told16};
 use camera::Camera;
 use lens::Distorted;
 use lens::Pixel;
@@ -68,33 +68,45 @@ fn round_pixel(pixel: Pixel) -> Cell16
     Cell16::Refused(Refusal::TooFar)
 }
 
-// The pixel of the cell in column u and row v. Its point is judged before anything is made of it.
-fn pixel_at(camera: Camera, region: Region, by: Increments, u: usize, v: usize) -> Distorted
-    ensures { λ r. ⌜ of-pixel unrounded r ≡ cell-by (distort-judged camera) unrounded region by u v ⌝ }
+// The point of the cell in column u and row v.
+fn point_at(region: Region, by: Increments, u: usize, v: usize) -> Point
+    ensures { λ r. ⌜ r ≡ cell-point region by u v ⌝ }
 {
-    let x = region.left + region::float(u) * by.0;
-    let y = region.top + region::float(v) * by.1;
-    if lens::both_finite(x, y) {
-        return camera::distort_judged(camera, Point(x, y));
-    }
-    Distorted::Refused(Refusal::AnswerNotFinite)
+    Point(
+        region.left + region::float(u) * by.0,
+        region.top + region::float(v) * by.1,
+    )
 }
 
 // The cell of f32s in column u and row v.
-pub fn cell_at(camera: Camera, region: Region, by: Increments, u: usize, v: usize) -> Cell
-    ensures { λ r. ⌜ told r ≡ cell-by (distort-judged camera) f32 region by u v ⌝ }
+pub fn cell_at(
+    camera: Camera,
+    short: bool,
+    region: Region,
+    by: Increments,
+    u: usize,
+    v: usize,
+) -> Cell
+    ensures { λ r. ⌜ told r ≡ cell-by (distort camera short) f32 region by u v ⌝ }
 {
-    match pixel_at(camera, region, by, u, v) {
+    match engine::distort(camera, short, point_at(region, by, u, v)) {
         Distorted::Refused(refusal) => Cell::Refused(refusal),
         Distorted::At(pixel) => narrow_pixel(pixel),
     }
 }
 
 // The cell of sixteen-bit numbers in column u and row v.
-pub fn cell_at16(camera: Camera, region: Region, by: Increments, u: usize, v: usize) -> Cell16
-    ensures { λ r. ⌜ told16 r ≡ cell-by (distort-judged camera) i16 region by u v ⌝ }
+pub fn cell_at16(
+    camera: Camera,
+    short: bool,
+    region: Region,
+    by: Increments,
+    u: usize,
+    v: usize,
+) -> Cell16
+    ensures { λ r. ⌜ told16 r ≡ cell-by (distort camera short) i16 region by u v ⌝ }
 {
-    match pixel_at(camera, region, by, u, v) {
+    match engine::distort(camera, short, point_at(region, by, u, v)) {
         Distorted::Refused(refusal) => Cell16::Refused(refusal),
         Distorted::At(pixel) => round_pixel(pixel),
     }

@@ -24,7 +24,9 @@ use Rattle.plans.proofs.Laws as plans
 use Rattle.plans.proofs.Reaching.{is-admitted}
 use Rattle.plans.proofs.Refusals.{doable-most, refused-told, told-refused}
 use Rattle.plans.proofs.Same.{built-same}
-use Rattle.table_plans.specs.Tables.{sweep-of, f32s, table-of, table-before, f32-table, one-of, unit-numbers}
+use Rattle.alike_plans.specs.AlikePlans.{BuiltAlike}
+use Rattle.alike_plans.proofs.Laws.{alike-units, alike-unsettled, alike-first}
+use Rattle.table_plans.specs.Tables.{full-sweep, sweep-of, f32s, full-table, table-of, table-before, f32-table, one-of, unit-numbers}
 use Rattle.table_plans.proofs.Laws as tables
 use Rattle.table_plans.proofs.Numbers.{said-known, turn-known}
 use Rattle.table_plans.proofs.Sound.{opened, f32-fit, kind-sound, before-sound, f32-sound}
@@ -49,7 +51,7 @@ abbrev pub first : {X : Type 0} → Camera → ℕ → ℕ → Bool → List X �
 first camera width height strict table = record { job = fresh-job camera width height strict; cells = table }
 
 -- No sample has more updates than its model's limit: 0 for affine and eucm, 20 for kb, 50 for bc and bc12.
-pub within-limit : (camera : Camera) (width height : ℕ) (strict : Bool) (n : ℕ) → settled-at (sweep-of camera width height strict) n .updates ≤ limit camera
+pub within-limit : (camera : Camera) (width height : ℕ) (strict : Bool) (n : ℕ) → settled-at (full-sweep camera width height strict) n .updates ≤ limit camera
 within-limit camera width height strict n = updates-limit-judged camera (border-at width height n)
 
 -- Each law below is of calls that answer the turn of some kind of cell: `f32-turns`, the calls of `turn`, and `i16-turns`, those of `turn16`, are such.
@@ -57,16 +59,28 @@ module _ {X : Type 0} (t : Turns X) (camera : Camera) (width height : ℕ) (stri
   abbrev start : Held X
   start = first camera width height strict table
 
+  -- the definition's plan, by the full engine, and the one that is built
   abbrev plan : Plan X
-  plan = table-of (t .kind) camera width height strict
+  plan = full-table (t .kind) camera width height strict
+
+  abbrev made : Plan X
+  made = table-of (t .kind) camera width height strict
+
+  made-in-turns :
+      (allowances : List ℕ) (last : Held X) (calls : Build (Held X) (t .Called) allowances start last)
+      → Built made table (allowed (held-plan (t .kind)) held-state allowances start last calls) (held-state last)
+  made-in-turns allowances last calls =
+      plans.built (Held X) (λ h. Unit {0}) (held-plan (t .kind)) held-state (t .Called) (turn-serves t) start tt (kind-sound camera width height (t .kind) (t .fit) strict)
+      table refl allowances last calls
 
   -- Demand 3. Start from a fresh job of any camera and size, strict or not, with any table, and call the turn with any allowances, 0
   -- among them, each time with the record and the table that the call before handed back. Let A be the sum of the allowances of those calls
   -- that are admitted, and F the number of units before the first that the definition refuses, or of all units; in a strict job it
-  -- refuses also a border sample that didn't settle. Then exactly min(A, F) units are done; the record is the one that the definition
-  -- has after so many, of the same camera, size and mark: its updates the sum of the definition's over the border samples done, its
-  -- count of unsettled samples and the first of them the definition's over these; each cell done holds the definition's numbers; and
-  -- the rest of the table is untouched.
+  -- refuses also a border sample that didn't settle. The definition is by the full engine, for every camera. Then exactly min(A, F) units
+  -- are done; the record is the one that the definition has after so many, of the same camera, size and mark: its region, its updates the
+  -- sum of the definition's over the border samples done, its count of unsettled samples and the first of them the definition's over
+  -- these; among the edges that it keeps, and nowhere else, the sign of a zero may differ; each cell done holds the definition's numbers;
+  -- and the rest of the table is untouched.
   pub built-in-turns :
       (allowances : List ℕ) (last : Held X) (calls : Build (Held X) (t .Called) allowances start last)
       → BuiltJob (t .kind) camera width height strict table (allowed (held-plan (t .kind)) held-state allowances start last calls) last
@@ -77,29 +91,27 @@ module _ {X : Type 0} (t : Turns X) (camera : Camera) (width height : ℕ) (stri
         same-width = k .width;
         same-height = k .height;
         same-strict = k .strict;
-        built =
-            plans.built (Held X) (λ h. Unit {0}) (held-plan (t .kind)) held-state (t .Called) (turn-serves t) start tt (kind-sound camera width height (t .kind) (t .fit) strict)
-            table refl allowances last calls;
+        built = tables.built-full (t .kind) camera width height strict table _ (held-state last) (made-in-turns allowances last calls);
       }
 
   module _ (allowances : List ℕ) (last : Held X) (calls : Build (Held X) (t .Called) allowances start last) where
-    abbrev whole : Built plan table (allowed (held-plan (t .kind)) held-state allowances start last calls) (held-state last)
+    abbrev whole : BuiltAlike plan table (allowed (held-plan (t .kind)) held-state allowances start last calls) (held-state last)
     whole = built-in-turns allowances last calls .built
 
     -- The record's count is the number of the border samples done whose flag, by the definition, says no,
     pub unsettled-counted :
         last .job .at .unsettled
-        ≡ sum-below (λ k. one-no (settled-at (sweep-of camera width height strict) k .flag)) (min (last .job .at .done) (samples width height))
-    unsettled-counted = plans.built-unsettled plan table _ (held-state last) whole
+        ≡ sum-below (λ k. one-no (settled-at (full-sweep camera width height strict) k .flag)) (min (last .job .at .done) (samples width height))
+    unsettled-counted = alike-unsettled plan table _ (held-state last) whole
 
     -- and its first position that of the first of them, counted from 1: the flag there says no and all before it say yes; at 0 all
     -- of the samples done say yes.
     pub first-unsettled :
-        plans.First (λ k. settled-at (sweep-of camera width height strict) k .flag) (min (last .job .at .done) (samples width height)) (last .job .at .first)
+        plans.First (λ k. settled-at (full-sweep camera width height strict) k .flag) (min (last .job .at .done) (samples width height)) (last .job .at .first)
     first-unsettled =
-        let flags : ℕ → Bool = λ k. settled-at (sweep-of camera width height strict) k .flag in
+        let flags : ℕ → Bool = λ k. settled-at (full-sweep camera width height strict) k .flag in
         let n = min (last .job .at .done) (samples width height) in
-        subst (plans.First flags n) (sym (plans.built-first plan table _ (held-state last) whole)) (plans.first-is flags n)
+        subst (plans.First flags n) (sym (alike-first plan table _ (held-state last) whole)) (plans.first-is flags n)
 
   -- However the work is split: two builds that are allowed as much end with the same record and the same table.
   pub any-split :
@@ -110,8 +122,8 @@ module _ {X : Type 0} (t : Turns X) (camera : Camera) (width height : ℕ) (stri
       let b = built-in-turns ls last calls in
       let c = built-in-turns ms other others in
       same-held last other (b .same-camera ∙ sym (c .same-camera)) (b .same-width ∙ sym (c .same-width)) (b .same-height ∙ sym (c .same-height)) (b .same-strict ∙ sym (c .same-strict))
-      (built-same plan table _ _ (held-state last) (held-state other) (b .built) (c .built)
-      (ap (λ (A : ℕ). min A (doable plan)) e))
+      (built-same made table _ _ (held-state last) (held-state other) (made-in-turns ls last calls) (made-in-turns ms other others)
+      (ap (λ (A : ℕ). min A (doable made)) e))
 
 -- ---- a build from a record that `fresh` handed out, with a table of its size
 
@@ -140,7 +152,7 @@ module _
         pub strict-settled :
             strict ≡ true
             → (last .job .at .unsettled ≡ 0)
-            × ((k : ℕ) → k < min (last .job .at .done) (samples width height) → settled-at (sweep-of camera width height strict) k .flag ≡ true)
+            × ((k : ℕ) → k < min (last .job .at .done) (samples width height) → settled-at (full-sweep camera width height strict) k .flag ≡ true)
         strict-settled h =
             let tallies = is-admitted (sweep-of camera width height strict) (last .job .at) (length (last .cells)) build-admitted .record-of .tallies in
             let none = tallies .none-strict h in
@@ -165,21 +177,30 @@ module _
             plans.built-allowed (Held X) (λ h. Unit {0}) (held-plan (t .kind)) held-state (t .Called) (turn-serves t) (first camera width height strict table) tt
             (kind-sound camera width height (t .kind) (t .fit) strict) table refl allowances last calls takes
 
-        -- The next call says finished exactly if T units are done after it, refused with the number of the unit behind those
-        -- done exactly if that unit has one and the allowance had room for it, and running otherwise.
-        pub build-says :
-            (a : ℕ) (said : Said) (then : Held X) → t .Called last a said then
-            → said ≡ says-at (table-of (t .kind) camera width height strict) (last .job .at .done) a (then .job .at .done)
-        build-says =
-            plans.built-says (Held X) (λ h. Unit {0}) (held-plan (t .kind)) held-state (t .Called) (turn-serves t) (first camera width height strict table) tt
-            (kind-sound camera width height (t .kind) (t .fit) strict) table refl allowances last calls takes
-
     mine :
         (ls : List ℕ) (last : Held X) → Build (Held X) (t .Called) ls (first camera width height strict table) last
         → Built (table-of (t .kind) camera width height strict) table (total ls) (held-state last)
     mine ls last calls =
         subst (λ (A : ℕ). Built (table-of (t .kind) camera width height strict) table A (held-state last)) (build-allowed ls last calls)
-        (built-in-turns t camera width height strict table ls last calls .built)
+        (made-in-turns t camera width height strict table ls last calls)
+
+    by-full :
+        (ls : List ℕ) (last : Held X) → Build (Held X) (t .Called) ls (first camera width height strict table) last
+        → BuiltAlike (full-table (t .kind) camera width height strict) table (total ls) (held-state last)
+    by-full ls last calls = tables.built-full (t .kind) camera width height strict table (total ls) (held-state last) (mine ls last calls)
+
+    -- The next call says finished exactly if T units are done after it, refused with the number of the unit behind those
+    -- done exactly if that unit has one and the allowance had room for it, and running otherwise.
+    pub build-says :
+        (allowances : List ℕ) (last : Held X) → Build (Held X) (t .Called) allowances (first camera width height strict table) last
+        → (a : ℕ) (said : Said) (then : Held X) → t .Called last a said then
+        → said ≡ says-at (full-table (t .kind) camera width height strict) (last .job .at .done) a (then .job .at .done)
+    build-says allowances last calls a said then c =
+        let more = plans.one-more-call allowances (first camera width height strict table) last calls a said then c in
+        let units = alike-units (full-table (t .kind) camera width height strict) table _ (held-state then) (by-full (allowances ++ a ∷ []) then more) in
+        plans.built-says (Held X) (λ h. Unit {0}) (held-plan (t .kind)) held-state (t .Called) (turn-serves t) (first camera width height strict table) tt
+        (kind-sound camera width height (t .kind) (t .fit) strict) table refl allowances last calls takes a said then c
+        ∙ tables.says-full (t .kind) camera width height strict (last .job .at .done) a (then .job .at .done) (omega (arith, units))
 
     -- ---- corners once
 
@@ -190,7 +211,7 @@ module _
     before-built : (n : ℕ) → Built (table-before (t .kind) camera width height strict) table n (before n .state)
     before-built = plans.as-defined (table-before (t .kind) camera width height strict) (before-sound camera width height (t .kind) (t .fit) strict) table long
 
-    same-as-before : SameTable (table-before (t .kind) camera width height strict) (table-of (t .kind) camera width height strict)
+    same-as-before : SameTable (table-before (t .kind) camera width height strict) (full-table (t .kind) camera width height strict)
     same-as-before = tables.corners-once (t .kind) (t .fit) camera width height strict (opened camera width height _ (fresh-opens camera width height strict start begin .0) .taken-size)
 
     module _
@@ -202,8 +223,10 @@ module _
             (n : ℕ) → before n .state .at .done ≡ samples-twice width height + width * height → all-units width height ≤ total allowances
             → (last .job .at .done ≡ all-units width height) × (last .job .at .region ≡ before n .state .at .region)
             × (last .cells ≡ before n .state .cells)
-        corners-once n =
-            same-as-before .finished table n (total allowances) (before n .state) (held-state last) (before-built n) (mine allowances last calls)
+        corners-once n h enough =
+            let b = by-full allowances last calls in
+            let r = same-as-before .finished table n (total allowances) (before n .state) _ (before-built n) (b .built) h enough in
+            (b .alike .done ∙ r .0, b .alike .region ∙ r .1, r .2)
 
         -- Where they are refused, so is this build's next call, with the same number, if with it the build is allowed its own T
         -- units, one of them in this call.
@@ -213,12 +236,12 @@ module _
             → said ≡ refused r
         corners-once-refused n r h a said then c some enough =
             let old = table-before (t .kind) camera width height strict in
-            let new = table-of (t .kind) camera width height strict in
+            let new = full-table (t .kind) camera width height strict in
             let d = plans.built-units old table n (before n .state) (before-built n) in
             let q = refused-told old n (before n .state .at .done) r d (sym (plans.defined-says old (before-sound camera width height (t .kind) (t .fit) strict) table n) ∙ h) in
             let more = plans.one-more-call allowances (first camera width height strict table) last calls a said then c in
-            let here = plans.built-units new table (total allowances) (held-state last) (mine allowances last calls) in
-            let there = plans.built-units new table _ (held-state then) (mine (allowances ++ a ∷ []) then more) in
+            let here = alike-units new table (total allowances) (held-state last) (by-full allowances last calls) in
+            let there = alike-units new table _ (held-state then) (by-full (allowances ++ a ∷ []) then more) in
             let sum = plans.total-more allowances a in
             let most = doable-most new in
             build-says allowances last calls a said then c

@@ -4,9 +4,9 @@ use mathlib.Core.Bool.{Bool}
 use mathlib.Core.List.{List}
 use Prim.Native.Nat.{ℕ}
 use Rattle.camera.specs.declared.Camera.{Camera}
-use Rattle.plans.specs.Built.{Built}
 use Rattle.plans.specs.Plan.{Plan, State}
-use Rattle.table_plans.specs.Tables.{Kind, table-of}
+use Rattle.alike_plans.specs.AlikePlans.{BuiltAlike}
+use Rattle.table_plans.specs.Tables.{Kind, full-table}
 use Rattle.job.specs.declared.Job.{Job}
 use Rattle.distortion_table.specs.Answer.{Answer, plan-of, state-of}
 
@@ -25,7 +25,8 @@ held-plan kind held = plan-of kind (held .job)
 abbrev pub held-state : {X : Type 0} → Held X → State X
 held-state held = state-of (held .job) (held .cells)
 
--- ---- what a build owes: camera, size and mark are kept, and the rest as the plan of their table has it
+-- ---- what a build owes: camera, size and mark are kept, and the rest as the full engine's plan of their table has it,
+-- but that the sign of a zero may differ among the edges that the record keeps
 
 pub record BuiltJob
     {X : Type 0} (kind : Kind X) (camera : Camera) (width height : ℕ) (strict : Bool)
@@ -35,4 +36,4 @@ pub record BuiltJob
   pub same-width : last .job .width ≡ width
   pub same-height : last .job .height ≡ height
   pub same-strict : last .job .strict ≡ strict
-  pub built : Built (table-of kind camera width height strict) table A (held-state last)
+  pub built : BuiltAlike (full-table kind camera width height strict) table A (held-state last)

@@ -2,7 +2,7 @@
 ghost use mathlib.Core.Path.{_≡_};
 ghost use Prim.Native.Nat.{_+_, _*_, _^_, _≤_, _<_};
 ghost use lib.ListN.{length};
-ghost use Rattle.camera.specs.Camera.{distort-judged};
+ghost use Rattle.engine.specs.Engine.{distort};
 ghost use Rattle.turns.specs.Turns.{turn, met};
 ghost use Rattle.plans.specs.Loops.{filled, Lent};
 ghost use Rattle.cell.specs.Cell.{f32, cell-by};
@@ -39,6 +39,7 @@ pub(crate) fn next_place(place: Place, width: usize) -> Place
 fn fill(
     rest: &mut [f32],
     camera: Camera,
+    short: bool,
     region: Region,
     by: Increments,
     width: usize,
@@ -48,7 +49,7 @@ fn fill(
     requires { ⌜ (0 < width) × (first + count < 2 ^ 32) × (2 * count ≤ length (now rest)) ⌝ }
     ensures { λ r. ⌜
         told-filled r (now (rest .exit))
-        ≡ met (turn (filled (cell-by (distort-judged camera) f32 region by) width first) count
+        ≡ met (turn (filled (cell-by (distort camera short) f32 region by) width first) count
         record { done = 0; cells = now (rest .entry) })
         ⌝ }
 {
@@ -58,7 +59,7 @@ fn fill(
     };
     let mut i = 0;
     while i < count {
-        match cell::cell_at(camera, region, by, place.u, place.v) {
+        match cell::cell_at(camera, short, region, by, place.u, place.v) {
             Cell::Refused(refusal) => {
                 return Filled {
                     done: i,
@@ -92,11 +93,13 @@ pub(crate) fn lend(table: &mut [f32], job: Job, run: Run) -> Filled
     let width = job.width;
     let region = run.at.region;
     let by = region::increments_of(region, width, job.height);
+    let short = engine::short_for(camera);
     let first = run.first;
     let start = 2 * first;
     fill(
         &mut table[start..],
         camera,
+        short,
         region,
         by,
         width,

@@ -2,7 +2,7 @@
 ghost use mathlib.Core.Path.{_≡_};
 ghost use Prim.Native.Nat.{_+_, _*_, _^_, _≤_, _<_};
 ghost use lib.ListN.{length};
-ghost use Rattle.camera.specs.Camera.{distort-judged};
+ghost use Rattle.engine.specs.Engine.{distort};
 ghost use Rattle.turns.specs.Turns.{turn, met};
 ghost use Rattle.plans.specs.Loops.{filled, Lent};
 ghost use Rattle.cell.specs.Cell.{i16, cell-by};
@@ -25,6 +25,7 @@ use region::Region;
 fn fill(
     rest: &mut [i16],
     camera: Camera,
+    short: bool,
     region: Region,
     by: Increments,
     width: usize,
@@ -34,7 +35,7 @@ fn fill(
     requires { ⌜ (0 < width) × (first + count < 2 ^ 32) × (2 * count ≤ length (now rest)) ⌝ }
     ensures { λ r. ⌜
         told-filled r (now (rest .exit))
-        ≡ met (turn (filled (cell-by (distort-judged camera) i16 region by) width first) count
+        ≡ met (turn (filled (cell-by (distort camera short) i16 region by) width first) count
         record { done = 0; cells = now (rest .entry) })
         ⌝ }
 {
@@ -44,7 +45,7 @@ fn fill(
     };
     let mut i = 0;
     while i < count {
-        match cell::cell_at16(camera, region, by, place.u, place.v) {
+        match cell::cell_at16(camera, short, region, by, place.u, place.v) {
             Cell16::Refused(refusal) => {
                 return Filled {
                     done: i,
@@ -78,11 +79,13 @@ pub(crate) fn lend(table: &mut [i16], job: Job, run: Run) -> Filled
     let width = job.width;
     let region = run.at.region;
     let by = region::increments_of(region, width, job.height);
+    let short = engine::short_for(camera);
     let first = run.first;
     let start = 2 * first;
     fill(
         &mut table[start..],
         camera,
+        short,
         region,
         by,
         width,

@@ -4,16 +4,17 @@ use mathlib.Core.Path.{_≡_, refl, sym, ap, _∙_, subst}
 use mathlib.Core.Bool.{Bool, true, false, not, _&&_, _||_, true≢false}
 use mathlib.Core.List.{List, [], _∷_}
 use Prim.Native.Nat.{ℕ, zero, suc, _+_, _*_, _<_}
-use native.Mathlib.Nat.{zero-add, add-comm}
+use native.Mathlib.Nat.{zero-add, add-comm, mul-pos}
 use borrow.Author.Tests.{lt-ltb}
-use lib.IntN.{ℤ}
+use lib.IntN.{ℤ, pos}
 use lib.Dec.{T, ltb, eqb, eqb·suc-zero}
 use lib.Ieee.{Float, nan, inf, fin, binary64, up, down, sub, mul, div, neg, lt, eq, le, below, fits}
+use lib.Ieee.Fits.{down-pos}
 use lib.Ieee.Scale.{finite}
 use Rattle.exact.specs.F64.{minus, _⊕_, _⊖_, _⊗_, _⊘_, isZero}
 use Rattle.exact.specs.Alike.{_≐_, same, both-zero, AllAlike}
 use Rattle.exact.proofs.Tests.{size-pos, equals-zero, zero-equals}
-use Rattle.exact.proofs.Zeros.{zero-elim, nought, not-under, zero-plus-zero, any-zero-plus, plus-any-zero, zero-plus-itself, itself-plus-zero, minus-isZero, zero-minus, zero-times, times-zero, zero-over-other}
+use Rattle.exact.proofs.Zeros.{zero-elim, zero-rounds, nought, not-under, zero-plus-zero, any-zero-plus, plus-any-zero, zero-plus-itself, itself-plus-zero, minus-isZero, zero-minus, zero-times, times-zero, zero-over-other}
 
 -- ---- an equivalence
 
@@ -118,6 +119,15 @@ pub _⟨⊗⟩_ : {x x' y y' : Float} → x ≐ x' → y ≐ y' → x ⊗ y ≐ 
 _⟨⊗⟩_ {x} {x'} {y} {y'} p q =
     ≐-trans (≐-elim (λ (x x' : Float). x ⊗ y ≐ x' ⊗ y) (λ x. ≐-refl) (zeros-times y) p) (≐-elim (λ (y y' : Float). x' ⊗ y ≐ x' ⊗ y') (λ y. ≐-refl) (times-zeros x') q)
 
+-- a square has no sign, so that it is equal
+zero-square : (s : Bool) (e : ℤ) → fin s zero e ⊗ fin s zero e ≡ fin false 0 (pos 0)
+unfolding mul
+zero-square true e = zero-rounds binary64 false (0 * up e * (0 * up e)) (down e * down e) (nought (up e) (0 * up e)) (mul-pos (down-pos e) (down-pos e))
+zero-square false e = zero-rounds binary64 false (0 * up e * (0 * up e)) (down e * down e) (nought (up e) (0 * up e)) (mul-pos (down-pos e) (down-pos e))
+
+pub square-same : {x y : Float} → x ≐ y → x ⊗ x ≡ y ⊗ y
+square-same = ≐-elim (λ (x y : Float). x ⊗ x ≡ y ⊗ y) (λ x. refl) (λ s t e d. zero-square s e ∙ sym (zero-square t d))
+
 -- ---- quotients, by what is no zero
 
 zeros-over : (y : Float) → isZero y ≡ false → (s t : Bool) (e d : ℤ) → fin s zero e ⊘ y ≐ fin t zero d ⊘ y
@@ -127,6 +137,14 @@ zeros-over (fin b m k) n s t e d = unfold isZero in both-zero (zero-over-other (
 
 pub ≐-over : {x x' y y' : Float} → isZero y' ≡ false → x ≐ x' → y ≐ y' → x ⊘ y ≐ x' ⊘ y'
 ≐-over {x} {x'} {y} {y'} n p q = ≐-trans (same (ap (λ (z : Float). x ⊘ z) (≐-other n q))) (≐-elim (λ (x x' : Float). x ⊘ y' ≐ x' ⊘ y') (λ x. ≐-refl) (zeros-over y' n) p)
+
+-- and by one number, a zero among them: what is no zero is equal, and zeros over a zero are NaN
+pub over-kept : {x y : Float} (k : Float) → x ≐ y → x ⊘ k ≐ y ⊘ k
+over-kept {x} {y} k p = go (isZero k) refl
+  where
+    go : (b : Bool) → isZero k ≡ b → x ⊘ k ≐ y ⊘ k
+    go false n = ≐-over n p (its k)
+    go true z = zero-elim (λ (k : Float). x ⊘ k ≐ y ⊘ k) (λ s e. ≐-elim (λ (x y : Float). x ⊘ fin s zero e ≐ y ⊘ fin s zero e) (λ x. its (x ⊘ fin s zero e)) (λ t u d c. unfold div in same refl) p) k z
 
 -- ---- a zero more or less
 

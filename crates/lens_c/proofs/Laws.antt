@@ -9,9 +9,9 @@ use lib.Ieee.{Float}
 use lib.ListN.{length}
 use Rattle.exact.specs.Determined.{Determined, DeterminedWith}
 use Rattle.turns.specs.Turns.{Said}
-use Rattle.plans.specs.Built.{Built}
 use Rattle.plans.specs.Calls.{allowed, Build}
-use Rattle.table_plans.specs.Tables.{f32s, i16s, table-of}
+use Rattle.alike_plans.specs.AlikePlans.{BuiltAlike}
+use Rattle.table_plans.specs.Tables.{f32s, i16s, full-table}
 use Rattle.table_plans.proofs.Sound.{f32-fit, i16-fit}
 use Rattle.turn_bytes.specs.Turn.{handed, answer-length}
 use Rattle.turn_bytes.specs.Calls.{HeldBytes, bytes-plan, bytes-state, left, bytes-said}
@@ -71,17 +71,17 @@ pub built-by-turns :
     (κ : _) (a : _) (r : _) (s : _) (post : lens-job-new-contract.Post κ a r s) (zero : r ≡ 0)
     (table : List X) (allowances : List ℕ) (last : HeldBytes X)
     (calls : Build (HeldBytes X) (t .Called) allowances record { job = now (s .1 .1 .1 .1 .1 .0); cells = table } last)
-    → Built (table-of (t .kind) (camera-of (a .0) (now (a .1 .0))) (a .1 .1 .0) (a .1 .1 .1 .0) (eqb (a .1 .1 .1 .1 .0) 1)) table
+    → BuiltAlike (full-table (t .kind) (camera-of (a .0) (now (a .1 .0))) (a .1 .1 .0) (a .1 .1 .1 .0) (eqb (a .1 .1 .1 .1 .0) 1)) table
     (allowed (bytes-plan (t .kind)) bytes-state allowances record { job = now (s .1 .1 .1 .1 .1 .0); cells = table } last calls) (bytes-state last)
 built-by-turns {X} t κ a r s post zero table allowances last calls =
     let e = both post in
     let model = a .0 in
     let params = now (a .1 .0) in
-    let plan = table-of (t .kind) (camera-of model params) (a .1 .1 .0) (a .1 .1 .1 .0) (eqb (a .1 .1 .1 .1 .0) 1) in
+    let plan = full-table (t .kind) (camera-of model params) (a .1 .1 .0) (a .1 .1 .1 .0) (eqb (a .1 .1 .1 .1 .0) 1) in
     let start : List ℕ → HeldBytes X = λ bs. record { job = bs; cells = table } in
     subst
     (λ (bs : List ℕ). (c : Build (HeldBytes X) (t .Called) allowances (start bs) last)
-    → Built plan table (allowed (bytes-plan (t .kind)) bytes-state allowances (start bs) last c) (bytes-state last))
+    → BuiltAlike plan table (allowed (bytes-plan (t .kind)) bytes-state allowances (start bs) last c) (bytes-state last))
     (sym (e .1))
     (built-in-bytes t model params (a .1 .1 .0) (a .1 .1 .1 .0) (a .1 .1 .1 .1 .0) (now (a .1 .1 .1 .1 .1 .0)) (sym (e .0) ∙ zero) table allowances last)
     calls

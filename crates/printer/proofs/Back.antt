@@ -15,7 +15,7 @@ use Rattle.region.specs.declared.Increments.{Increments}
 use Rattle.region.specs.declared.Region.{Region}
 use Rattle.narrow.specs.Narrow.{narrowed}
 use Rattle.narrow.proofs.Laws.{narrow-fits}
-use Rattle.camera.specs.Camera.{distort-judged}
+use Rattle.engine.specs.Engine.{short-for, distort}
 use Rattle.camera.specs.declared.Camera.{Camera}
 use Rattle.listing.proofs.Fair.{AllFit}
 use Rattle.cell.specs.Cell.{cell-point, f32, of-pixel, cell-by}
@@ -51,12 +51,12 @@ module _ (camera : Camera) (width height : ℕ) where
   abbrev table : Plan Float
   table = f32-table camera width height false
 
-  cell-fit : (region : Region) (by : Increments) (u v : ℕ) → ContentFit (cell-by (distort-judged camera) f32 region by u v)
+  cell-fit : (region : Region) (by : Increments) (u v : ℕ) → ContentFit (cell-by (distort camera (short-for camera)) f32 region by u v)
   unfolding cell-by
   cell-fit region by u v = go (finite (cell-point region by u v .0) && finite (cell-point region by u v .1))
     where
-      go : (b : Bool) → ContentFit (cond b (of-pixel f32 (distort-judged camera (cell-point region by u v))) (none 11))
-      go true = pixel-fit (distort-judged camera (cell-point region by u v))
+      go : (b : Bool) → ContentFit (cond b (of-pixel f32 (distort camera (short-for camera) (cell-point region by u v))) (none 11))
+      go true = pixel-fit (distort camera (short-for camera) (cell-point region by u v))
       go false = tt
 
   unit-fits : (s t : State Float) → AllFit (s .cells) → Done table s t → AllFit (t .cells)

@@ -25,7 +25,8 @@ use Rattle.listing.specs.Read.{listed, fair, read-listing}
 use Rattle.listing.proofs.Fair.{AllFit, listed-fair}
 use Rattle.listing.proofs.Laws.{listing-is, listing-read}
 use Rattle.region.specs.Fits.{FourFit}
-use Rattle.camera.proofs.Fits.{undistort-judged-fits}
+use Rattle.engine.specs.Engine.{short-for}
+use Rattle.engine.proofs.Laws.{points-fit}
 use Rattle.turns.specs.Turns.{Said, finished, refused, running, Turn, turn}
 use Rattle.plans.specs.Plan.{Plan, State, nowhere, next}
 use Rattle.plans.specs.Plan as plan
@@ -119,7 +120,7 @@ module _ (input : List ℕ) (camera : Camera) (width height : ℕ) (asks : parse
   region-fits : FourFit (last .state .at .region)
   region-fits =
       let start = plan.fresh (blank (width * height)) in
-      turn-numbers-fit table (undistort-judged-fits camera) enough start (start-numbers-fit start refl refl) .region
+      turn-numbers-fit table (points-fit camera (short-for camera)) enough start (start-numbers-fit start refl refl) .region
 
   fair-built : fair (listed width height (built .job .at .updates) (built .job .at .region) (built .cells)) ≡ true
   fair-built =

@@ -62,7 +62,10 @@ fn distortion(params: BrownConradyParams, point: Point) -> Point
 pub fn distort(params: BrownConradyParams, point: Point) -> Pixel
     ensures { λ r. ⌜ r ≡ distort params point ⌝ }
 {
-    let pixel = affine::distort(brown_conrady::affine_params(params), distortion(params, point));
+    let pixel = affine::distort(
+        brown_conrady::affine_params(params),
+        distortion(params, point),
+    );
     if is_finite(pixel.0 + pixel.1) {
         return pixel;
     }

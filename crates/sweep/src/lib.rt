@@ -6,8 +6,7 @@ ghost use Prim.Native.Nat.{_+_, _-_, _*_, _^_, _≤_, _<_, min};
 ghost use Rattle.turns.specs.Turns.{turn, met};
 ghost use Rattle.border.specs.Border.{samples};
 ghost use Rattle.plans.specs.Plan.{one-no, first-after, sampled, closed, swept};
-ghost use Rattle.table_plans.specs.Tables.{sweep-of};
-ghost use Rattle.sweep.specs.Sweep.{roomy, run, told-swept, told-stop};
+ghost use Rattle.sweep.specs.Sweep.{roomy, by-mark, run, told-swept, told-stop};
 use camera::Camera;
 use lens::Judgement;
 use lens::Refusal;
@@ -97,6 +96,7 @@ fn closed(width: usize, height: usize, at: Progress) -> Swept
 // One border unit of `all`.
 fn sweep_one(
     camera: Camera,
+    short: bool,
     width: usize,
     height: usize,
     strict: bool,
@@ -107,9 +107,9 @@ fn sweep_one(
         (all ≡ samples width height) × (at .done < 2 ^ 32) × (at .updates + 50 < 2 ^ 32)
         × (at .unsettled < 2 ^ 32)
         ⌝ }
-    ensures { λ r. ⌜ told-swept r ≡ swept (sweep-of camera width height strict) at ⌝ }
+    ensures { λ r. ⌜ told-swept r ≡ swept (by-mark camera short width height strict) at ⌝ }
 {
-    match camera::undistort_judged(camera, border::border_pixel(width, height, at.done)) {
+    match engine::undistort(camera, short, border::border_pixel(width, height, at.done)) {
         Undistorted::Refused(refusal) => Swept::Refused(refusal),
         Undistorted::At(settled) => {
             if too_strict(strict, settled.flag) {
@@ -127,6 +127,7 @@ fn sweep_one(
 // So many border units of `all`, or fewer if one refuses.
 fn units(
     camera: Camera,
+    short: bool,
     width: usize,
     height: usize,
     strict: bool,
@@ -138,12 +139,12 @@ fn units(
         (all ≡ samples width height) × (all < 2 ^ 32) × (count ≤ all - from .done)
         × (from .updates + 50 * count < 2 ^ 32) × (from .unsettled + count < 2 ^ 32)
         ⌝ }
-    ensures { λ r. ⌜ told-stop r ≡ met (turn (swept (sweep-of camera width height strict)) count from) ⌝ }
+    ensures { λ r. ⌜ told-stop r ≡ met (turn (swept (by-mark camera short width height strict)) count from) ⌝ }
 {
     let mut at = from;
     let mut left = count;
     while 0 < left {
-        match sweep_one(camera, width, height, strict, all, at) {
+        match sweep_one(camera, short, width, height, strict, all, at) {
             Swept::Refused(refusal) => {
                 return Stop {
                     at,
@@ -201,7 +202,8 @@ pub fn sweep(
     if roomy(width, height, from) {
         let all = border::samples(width as u32, height as u32);
         let count = due(from.done, all, allowance);
-        return units(camera, width, height, strict, all, from, count);
+        let short = engine::short_for(camera);
+        return units(camera, short, width, height, strict, all, from, count);
     }
     Stop {
         at: from,

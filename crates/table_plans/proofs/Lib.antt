@@ -1,4 +1,5 @@
 pub mod Corners
 pub mod Laws
 pub mod Numbers
+pub mod Picked
 pub mod Sound

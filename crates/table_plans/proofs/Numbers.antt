@@ -1,5 +1,5 @@
 -- Which numbers a unit of our tables is refused with. Assumes nothing.
-use mathlib.Core.Path.{_≡_, refl, sym, ap, subst}
+use mathlib.Core.Path.{_≡_, refl, sym, ap, _∙_, subst}
 use mathlib.Core.Bool.{Bool, true, false, cond, false≢true, _&&_, _||_}
 use mathlib.Core.List.{List, [], _∷_, _++_}
 use mathlib.Core.Logic.{_⊎_, inl, inr}
@@ -27,7 +27,9 @@ use Rattle.plans.specs.Calls.{said-number}
 use Rattle.plans.proofs.Numbers.{Told, Refusing, turn-says}
 use Rattle.turns.specs.Turns.{Said, finished, refused, running, turn}
 use Rattle.cell.specs.Cell.{cell-point, of-pixel, cell-by}
-use Rattle.table_plans.specs.Tables.{Kind, table-of, one-of, unit-numbers}
+use Rattle.alike_plans.specs.AlikePlans.{AlikeFound}
+use Rattle.table_plans.specs.Tables.{full, picked, Kind, table-of, one-of, unit-numbers}
+use Rattle.table_plans.proofs.Picked.{points-alike, cells-same}
 use Rattle.table_plans.proofs.Sound.{Fit}
 
 -- ---- one of some numbers
@@ -87,6 +89,14 @@ module _ (refusal : ℕ) (strict : Bool) where
       go true = tt
       go false = refl
 
+  alike-known : (u v : Undistorted) → AlikeFound u v → FoundKnown v → FoundKnown u
+  alike-known (found.At s) v h k = tt
+  alike-known (found.Refused r) (found.At t) h k = absurd h
+  alike-known (found.Refused q) (found.Refused r) h k = subst (λ (r : Refusal). Known refusal strict (number r)) (sym h) k
+
+  picked-known : (camera : Camera) (pixel : Pixel) → FoundKnown (picked camera .undistort pixel)
+  picked-known camera pixel = alike-known (picked camera .undistort pixel) (full camera .undistort pixel) (points-alike camera pixel) (finite-known (point-of camera pixel) (point-known camera pixel))
+
   -- ---- the increments: 8 or 11
 
   abbrev JudgedKnown : Judgement → Type 0
@@ -141,10 +151,12 @@ module _ {X : Type 0} (kind : Kind X) (fit : Fit kind) (camera : Camera) (width 
 
   refusing : Refusing (table-of kind camera width height strict) (Known refusal strict)
   refusing = record {
-    samples = λ pixel r e. subst (FoundKnown refusal strict) e (finite-known refusal strict (point-of camera pixel) (point-known refusal strict camera pixel));
+    samples = λ pixel r e. subst (FoundKnown refusal strict) e (picked-known refusal strict camera pixel);
     strictly = λ e. ap (λ (b : Bool). one-of 18 (unit-numbers refusal b)) e;
     increments = λ by r e. subst (JudgedKnown refusal strict) e (wrong-known refusal strict by);
-    cells = λ region u v n e. subst (ContentKnown refusal strict) e (cell-known kind fit strict camera region (increments region width height) u v);
+    cells = λ region u v n e.
+        let by = increments region width height in
+        subst (ContentKnown refusal strict) (sym (cells-same (kind .holds) camera region by u v) ∙ e) (cell-known kind fit strict camera region by u v);
   }
 
   -- A turn that a unit refuses is refused with 8, 10, 11 or 16, in a strict job with 18, or with what its kind of cell refuses with.

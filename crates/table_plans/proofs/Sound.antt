@@ -10,6 +10,7 @@ use Rattle.narrow.specs.Narrow.{narrowed}
 use Rattle.thirty_seconds.specs.Multiple.{nearest-multiple}
 use Rattle.thirty_seconds.specs.declared.Multiple.{Multiple}
 use Rattle.thirty_seconds.specs.declared.Multiple.the-variants.{Is, TooFar}
+use Rattle.exact.proofs.Alike.{≐-finite}
 use Rattle.lens.specs.Finite.{all-finite}
 use Rattle.lens.specs.Refusal.{number}
 use Rattle.lens.specs.Undistorted.{told}
@@ -34,9 +35,11 @@ use Rattle.camera.specs.Camera.{parameters, zero-focal, point-of, finite-point,
 use Rattle.camera.specs.declared.Camera.{Camera}
 use Rattle.camera.proofs.Laws.{updates-limit-judged}
 use Rattle.plans.specs.Plan.{Content, numbers, none}
+use Rattle.alike_plans.specs.AlikePlans.{AlikeFound}
 use Rattle.plans.specs.Calls.{Sound}
 use Rattle.cell.specs.Cell.{cell-point, both-held, of-pixel, cell-by}
-use Rattle.table_plans.specs.Tables.{Engine, engine-of, Border, corners-once, corners-twice, opens-for, sweep-by, table-by, Kind, f32s, i16s, table-of, table-before, f32-table, i16-table}
+use Rattle.table_plans.specs.Tables.{Engine, full, picked, Border, corners-once, corners-twice, opens-for, sweep-by, table-by, Kind, f32s, i16s, table-of, table-before, f32-table, i16-table}
+use Rattle.table_plans.proofs.Picked.{points-alike}
 
 -- an engine whose answers are finite and within its limit
 pub record Sure (engine : Engine) : Type 0 where
@@ -59,11 +62,33 @@ found-finite (At w) s h = go (finite (w .point .0)) refl (finite (w .point .1)) 
     go true e false f k = let z : _≡_ {A = ℕ} 0 1 = cc in absurd (omega arith)
     go false e q f k = let z : _≡_ {A = ℕ} 0 1 = cc in absurd (omega arith)
 
-pub engine-sure : (camera : Camera) → Sure (engine-of camera)
-engine-sure camera = record {
+pub full-sure : (camera : Camera) → Sure (full camera)
+full-sure camera = record {
   limited = λ pixel settled e. subst (λ (u : Undistorted). told u .settled .updates ≤ limit camera) e (updates-limit-judged camera pixel);
   points = λ pixel settled e. found-finite (point-of camera pixel) settled e;
 }
+
+-- an engine whose answers are alike those of a sure one is sure
+module _ (e f : Engine) (same-limit : e .limit ≡ f .limit) (alike : (pixel : Pixel) → AlikeFound (e .undistort pixel) (f .undistort pixel)) (s : Sure f) where
+  at-most : (a : Settled) (v : Undistorted) (pixel : Pixel) → f .undistort pixel ≡ v → AlikeFound (At a) v → a .updates ≤ e .limit
+  at-most a (At b) pixel i k = subst (λ (n : ℕ). n ≤ e .limit) (sym (k .updates)) (subst (λ (n : ℕ). b .updates ≤ n) (sym same-limit) (s .limited pixel b i))
+  at-most a (Refused r) pixel i k = absurd k
+
+  both-finite : (a : Settled) (v : Undistorted) (pixel : Pixel) → f .undistort pixel ≡ v → AlikeFound (At a) v → (finite (a .point .0) ≡ true) × (finite (a .point .1) ≡ true)
+  both-finite a (At b) pixel i k = let t = s .points pixel b i in (≐-finite (k .point .x) ∙ t .0, ≐-finite (k .point .y) ∙ t .1)
+  both-finite a (Refused r) pixel i k = absurd k
+
+  found-so : (pixel : Pixel) (a : Settled) → e .undistort pixel ≡ At a → AlikeFound (At a) (f .undistort pixel)
+  found-so pixel a k = subst (λ (u : Undistorted). AlikeFound u (f .undistort pixel)) k (alike pixel)
+
+  sure-alike : Sure e
+  sure-alike = record {
+    limited = λ pixel a k. at-most a (f .undistort pixel) pixel refl (found-so pixel a k);
+    points = λ pixel a k. both-finite a (f .undistort pixel) pixel refl (found-so pixel a k);
+  }
+
+pub picked-sure : (camera : Camera) → Sure (picked camera)
+picked-sure camera = sure-alike (picked camera) (full camera) refl (points-alike camera) (full-sure camera)
 
 numbered : {X : Type 0} (r : ℕ) → 0 < r → _≡_ {A = Content X} (none r) (none 0) → ⊥
 numbered r h e = let z : r ≡ 0 = cc in omega (arith, h, z)
@@ -144,10 +169,10 @@ module _ (camera : Camera) (width height : ℕ) where
     }
 
   pub kind-sound : {X : Type 0} (kind : Kind X) → Fit kind → (strict : Bool) → Sound (table-of kind camera width height strict)
-  kind-sound kind fit strict = table-sound (engine-of camera) (corners-once width height) strict kind (engine-sure camera) fit (λ size. omega (arith, size .wide))
+  kind-sound kind fit strict = table-sound (picked camera) (corners-once width height) strict kind (picked-sure camera) fit (λ size. omega (arith, size .wide))
 
   pub before-sound : {X : Type 0} (kind : Kind X) → Fit kind → (strict : Bool) → Sound (table-before kind camera width height strict)
-  before-sound kind fit strict = table-sound (engine-of camera) (corners-twice width height) strict kind (engine-sure camera) fit (λ size. omega arith)
+  before-sound kind fit strict = table-sound (full camera) (corners-twice width height) strict kind (full-sure camera) fit (λ size. omega arith)
 
   pub f32-sound : (strict : Bool) → Sound (f32-table camera width height strict)
   f32-sound = kind-sound f32s f32-fit

@@ -19,6 +19,7 @@ use Rattle.region.specs.Size.{sized}
 use Rattle.region.specs.declared.Region.{Region}
 use Rattle.camera.specs.Camera.{parameters, zero-focal, distort-judged, undistort-judged, limit}
 use Rattle.camera.specs.declared.Camera.{Camera}
+use Rattle.engine.specs.Engine.{short-for, distort, undistort}
 use Rattle.border.specs.Border.{outside, pixel, samples, border-at, border-twice, samples-twice}
 use Rattle.plans.specs.Plan.{Content, Sweep, Plan}
 use Rattle.cell.specs.Cell.{f32, i16, cell-by}
@@ -30,12 +31,25 @@ pub record Engine : Type 0 where
   pub distort : Point → Distorted
   pub limit : ℕ
 
-abbrev pub engine-of : Camera → Engine
-engine-of camera = record {
+-- the camera's own: what a table is said to hold
+abbrev pub full : Camera → Engine
+full camera = record {
   undistort = undistort-judged camera;
   distort = distort-judged camera;
   limit = limit camera;
 }
+
+-- and by the mark that a turn asks for once: the short one for a bc camera whose k4, k5 and k6 are zeros
+abbrev pub engine-by : Bool → Camera → Engine
+engine-by mark camera = record {
+  undistort = undistort camera mark;
+  distort = distort camera mark;
+  limit = limit camera;
+}
+
+-- which is the one that builds it
+abbrev pub picked : Camera → Engine
+picked camera = engine-by (short-for camera) camera
 
 -- ---- borders: how many samples, and the pixel of each
 
@@ -84,8 +98,16 @@ table-by sweep engine kind = record {
 }
 
 -- the sweep of every table, whatever its cells hold; a strict one is refused at a sample that didn't settle
+abbrev pub sweep-with : Engine → Camera → ℕ → ℕ → Bool → Sweep
+sweep-with engine camera width height strict =
+    sweep-by camera engine (corners-once width height) strict width height
+
+-- as it is said, and as it is built
+abbrev pub full-sweep : Camera → ℕ → ℕ → Bool → Sweep
+full-sweep camera = sweep-with (full camera) camera
+
 abbrev pub sweep-of : Camera → ℕ → ℕ → Bool → Sweep
-sweep-of camera width height strict = sweep-by camera (engine-of camera) (corners-once width height) strict width height
+sweep-of camera = sweep-with (picked camera) camera
 
 -- ---- kinds of cell: what a cell holds of its pixel, and the number of the refusal where it can't
 
@@ -99,10 +121,15 @@ f32s = record { holds = f32; refusal = 12 }
 abbrev pub i16s : Kind ℤ
 i16s = record { holds = i16; refusal = 19 }
 
--- the table of a kind
+-- the table of a kind: as it is said, by the full engine, and as it is built. The law `built-full` has the two alike: a
+-- zero's sign may differ in an edge that a record keeps, and nowhere else
+abbrev pub full-table : {X : Type 0} → Kind X → Camera → ℕ → ℕ → Bool → Plan X
+full-table kind camera width height strict =
+    table-by (full-sweep camera width height strict) (full camera) (kind .holds)
+
 abbrev pub table-of : {X : Type 0} → Kind X → Camera → ℕ → ℕ → Bool → Plan X
 table-of kind camera width height strict =
-    table-by (sweep-of camera width height strict) (engine-of camera) (kind .holds)
+    table-by (sweep-of camera width height strict) (picked camera) (kind .holds)
 
 abbrev pub f32-table : Camera → ℕ → ℕ → Bool → Plan Float
 f32-table = table-of f32s
@@ -113,7 +140,7 @@ i16-table = table-of i16s
 -- and the one that was built before P11, with its corners twice
 abbrev pub table-before : {X : Type 0} → Kind X → Camera → ℕ → ℕ → Bool → Plan X
 table-before kind camera width height strict =
-    table-by (sweep-by camera (engine-of camera) (corners-twice width height) strict width height) (engine-of camera)
+    table-by (sweep-by camera (full camera) (corners-twice width height) strict width height) (full camera)
     (kind .holds)
 
 -- ---- what refuses a unit of it: 8, 10, 11, 16, 18 in a strict one, and what its kind refuses with

@@ -19,7 +19,8 @@ use Rattle.lens.specs.declared.Refusal.{Refusal}
 use Rattle.lens.proofs.Laws.{number-within}
 use Rattle.region.proofs.Size.{bounded}
 use Rattle.camera.specs.Camera.{parameters, limit}
-use Rattle.camera.proofs.Fits.{undistort-judged-fits}
+use Rattle.engine.specs.Engine.{short-for}
+use Rattle.engine.proofs.Laws.{points-fit}
 use Rattle.camera.proofs.Laws.{limit-most}
 use Rattle.turns.specs.Turns.{Said, finished, refused, running, Turn, turn}
 use Rattle.border.specs.Border.{samples}
@@ -144,7 +145,7 @@ module _ {X : Type 0} (kind : Kind X) (fit : Fit kind) (job : Job) (w : Writable
         let k = is-admitted (sweep-for job) (job .at) (length cells) e in
         let size = opened (job .camera) (job .width) (job .height) (job .at .region) (k .opens) .size in
         let g = turn-keeps (plan-of kind job) (kind-sound (job .camera) (job .width) (job .height) kind fit (job .strict)) a (state-of job cells) good in
-        let n = turn-numbers-fit (plan-of kind job) (undistort-judged-fits (job .camera)) a (state-of job cells) record { region = w .region; edges = w .edges } in
+        let n = turn-numbers-fit (plan-of kind job) (points-fit (job .camera) (short-for (job .camera))) a (state-of job cells) record { region = w .region; edges = w .edges } in
         let most = min-le-right (turned .state .at .done) (samples (job .width) (job .height)) in
         let few : limit (job .camera) * min (turned .state .at .done) (samples (job .width) (job .height)) ≤ 50 * samples (job .width) (job .height) = mul-le-mul (limit-most (job .camera)) most in
         record {

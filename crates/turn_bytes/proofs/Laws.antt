@@ -17,7 +17,9 @@ use Rattle.plans.specs.Built.{Built}
 use Rattle.plans.specs.Calls.{said-number, judged, allowed, Sound, Build}
 use Rattle.plans.specs.Plan.{Plan, fresh}
 use Rattle.plans.proofs.Laws as plans
-use Rattle.table_plans.specs.Tables.{Kind, f32s, i16s, table-of, one-of}
+use Rattle.alike_plans.specs.AlikePlans.{BuiltAlike}
+use Rattle.table_plans.specs.Tables.{Kind, f32s, i16s, full-table, table-of, one-of}
+use Rattle.table_plans.proofs.Laws.{built-full}
 use Rattle.table_plans.proofs.Numbers.{by-each, by-unit, last-of}
 use Rattle.table_plans.proofs.Sound.{Fit, f32-fit, i16-fit, kind-sound}
 use Rattle.job.specs.Job.{fresh-job}
@@ -264,8 +266,12 @@ module _
     (model : ℕ) (params : List ℕ) (width height mark : ℕ) (buffer : List ℕ) (begun : fresh-bytes model params width height mark buffer .code ≡ 0)
     (table : List X)
   where
+    -- the definition's plan, by the full engine, and the one that is built
     abbrev plan : Plan X
-    plan = table-of (t .kind) (camera-of model params) width height (eqb mark 1)
+    plan = full-table (t .kind) (camera-of model params) width height (eqb mark 1)
+
+    abbrev made : Plan X
+    made = table-of (t .kind) (camera-of model params) width height (eqb mark 1)
 
     abbrev first : HeldBytes X
     first = record { job = fresh-bytes model params width height mark buffer .answer; cells = table }
@@ -278,7 +284,7 @@ module _
     job-read : job-at (first .job) ≡ fresh-job (camera-of model params) width height (eqb mark 1)
     job-read = sym (read-of (first .job) (fresh-job (camera-of model params) width height (eqb mark 1)) (fresh-read model params width height mark buffer begun .2) .0)
 
-    plan-is : bytes-plan (t .kind) first ≡ plan
+    plan-is : bytes-plan (t .kind) first ≡ made
     plan-is = ap (plan-of (t .kind)) job-read
 
     sound : Sound (bytes-plan (t .kind) first)
@@ -292,10 +298,12 @@ module _
       -- mark, with any table, and call `turn` (`f32-turns`) or `turn16` (`i16-turns`) with any allowances and an answer of 48 bytes, each
       -- time with the record's bytes and the table that the call before handed back. Then what is read out of the bytes and what stands
       -- in the table are those of exactly min(A, F) units, as `built-in-turns` of distortion_table has it.
-      pub built-in-bytes : Built plan table (allowed (bytes-plan (t .kind)) bytes-state allowances first last calls) (bytes-state last)
+      pub built-in-bytes : BuiltAlike plan table (allowed (bytes-plan (t .kind)) bytes-state allowances first last calls) (bytes-state last)
       built-in-bytes =
-          subst (λ (p : Plan X). Built p table (allowed (bytes-plan (t .kind)) bytes-state allowances first last calls) (bytes-state last)) plan-is
-          (plans.built (HeldBytes X) Ready (bytes-plan (t .kind)) bytes-state (t .Called) (bytes-serve (t .kind) (t .fit) (t .Called) (t .by-turn-bytes)) first ready sound table starts allowances last calls)
+          let A = allowed (bytes-plan (t .kind)) bytes-state allowances first last calls in
+          built-full (t .kind) (camera-of model params) width height (eqb mark 1) table A (bytes-state last)
+          (subst (λ (p : Plan X). Built p table A (bytes-state last)) plan-is
+          (plans.built (HeldBytes X) Ready (bytes-plan (t .kind)) bytes-state (t .Called) (bytes-serve (t .kind) (t .fit) (t .Called) (t .by-turn-bytes)) first ready sound table starts allowances last calls))
 
       -- Where the table has the size's length, every call is admitted: none is refused with 1, 4, 5, 6, 7 or 13, its number is 0, or 8,
       -- 10, 11 or 16 of a unit, 18 in a strict job, or 12 of f32s and 19 of i16s, and its answer's six words are what it said, and the

@@ -1,6 +1,6 @@
 -- `sweep::sweep` meets its contract. Assumes nothing.
-use mathlib.Core.Path.{_≡_, refl, sym, ap, _∙_}
-use mathlib.Core.Bool.{true, _&&_}
+use mathlib.Core.Path.{_≡_, refl, sym, ap, ap₂, _∙_}
+use mathlib.Core.Bool.{Bool, true, _&&_}
 use Prim.Native.Nat.{ℕ, _-_, _^_, _≤_, _<_, min}
 use native.Mathlib.Nat.{min-le-right}
 use native.Mathlib.Omega.{arith}
@@ -12,10 +12,9 @@ use Rattle.region.proofs.Size.{is-sized}
 use Rattle.border.specs.Border.{samples}
 use Rattle.border.proofs.Finite.{both}
 use Rattle.turns.specs.Turns.{turn, met}
-use Rattle.plans.specs.Plan.{swept}
+use Rattle.plans.specs.Plan.{Sweep, swept}
 use Rattle.plans.specs.declared.Progress.{Progress}
-use Rattle.table_plans.specs.Tables.{sweep-of}
-use Rattle.sweep.specs.Sweep.{roomy, run}
+use Rattle.sweep.specs.Sweep.{roomy, by-mark, run}
 use Rattle.sweep.proofs.Runs.{run-is}
 use Rattle.sweep.proofs.sweep.Statement.{statement}
 use Rattle.sweep.proofs.sweep.Tie as tie
@@ -39,12 +38,13 @@ cast-samples-2 c = let a = c .before .before .args in omega (arith, size (a .wid
 
 units-requires : tie.Need-units-requires
 units-requires c κs =
-    let a = c .before .before .before .before .args in
-    let roomy = sym (c .before .before .before .roomy .ensures) ∙ c .before .before .if1 .taken in
+    let d = c .before in
+    let a = d .before .before .before .before .args in
+    let roomy = sym (d .before .before .before .roomy .ensures) ∙ d .before .before .if1 .taken in
     let s = size (a .width) (a .height) (a .from) roomy in
     let f = few (a .width) (a .height) (a .from) roomy in
-    let n = c .before .samples .ensures in
-    let room : c .due .result ≤ c .before .samples .result - a .from .done = omega (arith, c .due .ensures, min-le-right (a .allowance) (c .before .samples .result - a .from .done)) in (
+    let n = d .before .samples .ensures in
+    let room : d .due .result ≤ d .before .samples .result - a .from .done = omega (arith, d .due .ensures, min-le-right (a .allowance) (d .before .samples .result - a .from .done)) in (
       n,
       omega (arith, n, s .not-wider, s .not-higher),
       room,
@@ -54,12 +54,14 @@ units-requires c κs =
 
 returns : tie.Need-returns
 returns c =
-    let a = c .before .before .before .before .before .args in
-    let roomy = sym (c .before .before .before .before .roomy .ensures) ∙ c .before .before .before .if1 .taken in
+    let d = c .before .before in
+    let a = d .before .before .before .before .args in
+    let roomy = sym (d .before .before .before .roomy .ensures) ∙ d .before .before .if1 .taken in
     let f = few (a .width) (a .height) (a .from) roomy in
-    let count : c .before .due .result ≡ min (a .allowance) (samples (a .width) (a .height) - a .from .done) = rw (← c .before .before .samples .ensures) (c .before .due .ensures) in
+    let count : d .due .result ≡ min (a .allowance) (samples (a .width) (a .height) - a .from .done) = rw (← d .before .samples .ensures) (d .due .ensures) in
+    let is = ap (λ (mark : Bool). by-mark (a .camera) mark (a .width) (a .height) (a .strict)) (c .before .short-for .ensures) in
     c .units .ensures
-    ∙ ap (λ (n : ℕ). met (turn (swept (sweep-of (a .camera) (a .width) (a .height) (a .strict))) n (a .from))) count
+    ∙ ap₂ (λ (s : Sweep) (n : ℕ). met (turn (swept s) n (a .from))) is count
     ∙ sym (run-is (a .camera) (a .width) (a .height) (a .strict) (a .allowance) (a .from) (parts (a .width) (a .height) (a .from) roomy .0) (f .0) (f .1))
 
 returns-2 : tie.Need-returns-2
@@ -69,4 +71,4 @@ returns-2 c = rw (← c .before .roomy .ensures, c .if1 .left) refl
 pub sweep-spec : {M : Type 1} → statement M
 sweep-spec =
     tie.close
-    (tie.spec (λ c κs. search needs) cast-samples cast-samples-2 (λ c κs. search needs) (λ c κs. search needs) units-requires returns returns-2)
+    (tie.spec (λ c κs. search needs) cast-samples cast-samples-2 (λ c κs. search needs) (λ c κs. search needs) (λ c κs. search needs) units-requires returns returns-2)

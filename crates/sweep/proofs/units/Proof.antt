@@ -4,26 +4,25 @@ use Prim.Native.Nat.{ℕ, _+_, _*_, _^_, _≤_, _<_}
 use native.Mathlib.Omega.{arith}
 use borrow.Author.Needs.{needs}
 use Rattle.lens.specs.Undistorted.{told}
-use Rattle.camera.specs.Camera.{undistort-judged}
-use Rattle.camera.proofs.Laws.{updates-limit-judged, limit-most}
+use Rattle.engine.specs.Engine.{undistort}
+use Rattle.engine.proofs.Laws.{most-updates}
 use Rattle.turns.specs.Turns.{turn, met}
 use Rattle.turns.proofs.Laws.{met-none, met-refused, met-done}
 use Rattle.border.specs.Border.{border-at}
 use Rattle.plans.specs.Plan.{swept}
 use Rattle.plans.proofs.AtBorder.{swept-counts}
 use Rattle.plans.proofs.Tallies.{at-most-one}
-use Rattle.table_plans.specs.Tables.{sweep-of}
-use Rattle.sweep.specs.Sweep.{told-swept}
+use Rattle.sweep.specs.Sweep.{by-mark, told-swept}
 use Rattle.sweep.proofs.units.Statement.{statement}
 use Rattle.sweep.proofs.units.Tie as tie
 
 abbrev Inv-loop : tie.InvT-loop
-Inv-loop camera width height strict all count at₀ left₀ at left =
+Inv-loop camera short width height strict all count at₀ left₀ at left =
     (at .done + left ≡ at₀ .done + left₀) × (left ≤ left₀) × (at .updates + 50 * left < 2 ^ 32) × (at .unsettled + left < 2 ^ 32)
-    × (met (turn (swept (sweep-of camera width height strict)) left at) ≡ met (turn (swept (sweep-of camera width height strict)) left₀ at₀))
+    × (met (turn (swept (by-mark camera short width height strict)) left at) ≡ met (turn (swept (by-mark camera short width height strict)) left₀ at₀))
 
 abbrev μ-loop : tie.MeasureT-loop
-μ-loop camera width height strict all count at₀ left₀ at left = left
+μ-loop camera short width height strict all count at₀ left₀ at left = left
 
 loop-holds : tie.Need-loop-holds Inv-loop μ-loop
 loop-holds c = (refl, omega arith, c .pre .3, c .pre .4, refl)
@@ -36,7 +35,7 @@ returns c =
     let a = c .before .before .before .before .before .before .args in
     let l = c .before .before .before .before .before .loop in
     let e = sym (c .before .before .before .sweep-one .ensures) ∙ ap told-swept (c .before .refusal .given .1) in
-    sym (met-refused (swept (sweep-of (a .camera) (a .width) (a .height) (a .strict))) (l .left) (l .at) (omega arith) _ e) ∙ l .inv .4
+    sym (met-refused (swept (by-mark (a .camera) (a .short) (a .width) (a .height) (a .strict))) (l .left) (l .at) (omega arith) _ e) ∙ l .inv .4
 
 loop-again : tie.Need-loop-again Inv-loop μ-loop
 loop-again c =
@@ -44,12 +43,12 @@ loop-again c =
     let l = c .before .before .before .before .before .loop in
     let t = c .before .next .given .0 .0 in
     let e = sym (c .before .before .before .sweep-one .ensures) ∙ ap told-swept (c .before .next .given .1) in
-    let n = swept-counts (sweep-of (a .camera) (a .width) (a .height) (a .strict)) (l .at) t e in (
+    let n = swept-counts (by-mark (a .camera) (a .short) (a .width) (a .height) (a .strict)) (l .at) t e in (
       omega (arith, n .units),
       omega arith,
-      omega (arith, n .updates, updates-limit-judged (a .camera) (border-at (a .width) (a .height) (l .at .done)), limit-most (a .camera)),
-      omega (arith, n .unsettled, at-most-one (told (undistort-judged (a .camera) (border-at (a .width) (a .height) (l .at .done))) .settled .flag)),
-      sym (met-done (swept (sweep-of (a .camera) (a .width) (a .height) (a .strict))) (l .left) (l .at) (omega arith) t e) ∙ l .inv .4,
+      omega (arith, n .updates, most-updates (a .camera) (a .short) (border-at (a .width) (a .height) (l .at .done))),
+      omega (arith, n .unsettled, at-most-one (told (undistort (a .camera) (a .short) (border-at (a .width) (a .height) (l .at .done))) .settled .flag)),
+      sym (met-done (swept (by-mark (a .camera) (a .short) (a .width) (a .height) (a .strict))) (l .left) (l .at) (omega arith) t e) ∙ l .inv .4,
     )
 
 returns-2 : tie.Need-returns-2 Inv-loop μ-loop
@@ -57,7 +56,7 @@ returns-2 c =
     let a = c .before .before .args in
     let l = c .before .loop in
     let z : l .left ≡ 0 = omega arith in
-    let s = swept (sweep-of (a .camera) (a .width) (a .height) (a .strict)) in
+    let s = swept (by-mark (a .camera) (a .short) (a .width) (a .height) (a .strict)) in
     sym (ap (λ (n : ℕ). met (turn s n (l .at))) z ∙ met-none s (l .at)) ∙ l .inv .4
 
 pub units-spec : {M : Type 1} → statement M

@@ -5,18 +5,18 @@ use native.Mathlib.Nat.{le-mul-of-pos-right}
 use native.Mathlib.Omega.{arith}
 use borrow.Author.Needs.{needs}
 use lib.ListN.{length-set}
-use Rattle.camera.specs.Camera.{distort-judged}
+use Rattle.engine.specs.Engine.{distort}
 use Rattle.plans.proofs.Filler.{Filled, none-filled, all-filled, one-refused, one-filled}
 use Rattle.cell.specs.Cell.{f32, cell-by, told}
 use Rattle.distortion_table.proofs.filler.fill.Statement.{statement}
 use Rattle.distortion_table.proofs.filler.fill.Tie as tie
 
 abbrev Inv-loop : tie.InvT-loop
-Inv-loop rest₀ camera region by width first count place₀ i₀ rest place i =
-    Filled (cell-by (distort-judged camera) f32 region by) width first count rest₀ (place .u) (place .v) i rest
+Inv-loop rest₀ camera short region by width first count place₀ i₀ rest place i =
+    Filled (cell-by (distort camera short) f32 region by) width first count rest₀ (place .u) (place .v) i rest
 
 abbrev μ-loop : tie.MeasureT-loop
-μ-loop rest₀ camera region by width first count place₀ i₀ rest place i = count - i
+μ-loop rest₀ camera short region by width first count place₀ i₀ rest place i = count - i
 
 loop-holds : tie.Need-loop-holds Inv-loop μ-loop
 loop-holds c = none-filled (c .before .pre .0)

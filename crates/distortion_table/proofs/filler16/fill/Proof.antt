@@ -7,7 +7,7 @@ use borrow.Author.Needs.{needs}
 use mir.Syntax.{w16}
 use mir.ValLaws.{toZ-ofZ}
 use lib.ListN.{length-set}
-use Rattle.camera.specs.Camera.{distort-judged}
+use Rattle.engine.specs.Engine.{distort}
 use Rattle.plans.specs.Plan.{numbers}
 use Rattle.plans.proofs.Filler.{Filled, none-filled, all-filled, one-refused, one-filled}
 use Rattle.cell.specs.Cell.{i16, cell-by, told16}
@@ -15,11 +15,11 @@ use Rattle.distortion_table.proofs.filler16.fill.Statement.{statement}
 use Rattle.distortion_table.proofs.filler16.fill.Tie as tie
 
 abbrev Inv-loop : tie.InvT-loop
-Inv-loop rest₀ camera region by width first count place₀ i₀ rest place i =
-    Filled (cell-by (distort-judged camera) i16 region by) width first count rest₀ (place .u) (place .v) i rest
+Inv-loop rest₀ camera short region by width first count place₀ i₀ rest place i =
+    Filled (cell-by (distort camera short) i16 region by) width first count rest₀ (place .u) (place .v) i rest
 
 abbrev μ-loop : tie.MeasureT-loop
-μ-loop rest₀ camera region by width first count place₀ i₀ rest place i = count - i
+μ-loop rest₀ camera short region by width first count place₀ i₀ rest place i = count - i
 
 loop-holds : tie.Need-loop-holds Inv-loop μ-loop
 loop-holds c = none-filled (c .pre .0)
