@@ -217,11 +217,9 @@ module _ (n : ℕ) where
   unfolding decimal
   decimal-some = omega (arith, length-digits 10 (places n n) n, fewest .0)
 
-  pub decimal-few : n ≤ 9999 → length (decimal n) ≤ 4
+  pub decimal-short : (k : ℕ) → n < 10 ^ suc k → length (decimal n) ≤ suc k
   unfolding decimal
-  decimal-few h =
-      let l : n < 10 ^ 4 = omega arith in
-      omega (arith, length-digits 10 (places n n) n, fewest-short n (places n n) 4 (omega arith) l fewest)
+  decimal-short k h = omega (arith, length-digits 10 (places n n) n, fewest-short n (places n n) (suc k) (omega arith) h fewest)
 
   by-count : (k : ℕ) → 1 ≤ n → Fewest 10 1 n k → getD (digits 10 k n) 0 0 ≡ 48 → ⊥
   by-count zero h f e = omega (arith, f .0)

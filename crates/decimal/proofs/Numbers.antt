@@ -15,7 +15,7 @@ use Rattle.decimal.specs.Text.{all}
 use Rattle.decimal.specs.Decimal.{decimal, digit, worth, is-number, said, number-in}
 use Rattle.decimal.specs.declared.Number.the-variants.{Is, NotANumber}
 use Rattle.decimal.proofs.Bytes.{and-left, and-right, both, ends, goes-on, at-end}
-use Rattle.decimal.proofs.Digits.{digit-range, digits-worth, worth-between, decimal-is, decimal-digits, decimal-some, decimal-few, decimal-lead}
+use Rattle.decimal.proofs.Digits.{digit-range, digits-worth, worth-between, decimal-is, decimal-digits, decimal-some, decimal-short, decimal-lead}
 
 -- ---- one way
 
@@ -24,7 +24,7 @@ pub decimal-number : (n : ℕ) → 1 ≤ n → n ≤ 9999 → is-number (decimal
 unfolding is-number
 decimal-number n some few =
     both (lt-ltb 0 (length (decimal n)) (decimal-some n))
-    (both (le-leb (length (decimal n)) 4 (decimal-few n few))
+    (both (le-leb (length (decimal n)) 4 (decimal-short n 3 (omega arith)))
     (both (ap not (ne-eqb (getD (decimal n) 0 0) 48 (decimal-lead n some))) (decimal-digits n)))
 
 -- ---- and back

@@ -17,6 +17,7 @@ use Rattle.hex.specs.declared.Bits.the-variants.{Of, None}
 use Rattle.hex.proofs.Reading.{pushed-short}
 use Rattle.hex.proofs.Written.{none-of, read-digits, digits-read}
 use Rattle.hex.proofs.Word.{after-other}
+use Rattle.hex.proofs.digit.Reads as digit-contract
 use Rattle.hex.proofs.spelled.Reads as spelled-contract
 use Rattle.hex.proofs.after.Reads as after-contract
 use Rattle.hex.proofs.field.Reads as field-contract
@@ -94,7 +95,10 @@ fields-there line j (suc n) (suc k) e h =
 
 -- ---- each contract permits one answer
 
--- Any two answers to one call that the contract of `spelled` permits are equal; and so for `after` and `field`.
+-- Any two answers to one call that the contract of `digit` permits are equal; and so for `spelled`, `after` and `field`.
+pub digit-determined : Determined digit-contract.Post
+digit-determined κ a s s' r r' p q = p ∙ sym q
+
 pub spelled-determined : Determined spelled-contract.Post
 spelled-determined κ a s s' r r' p q = p ∙ sym q
 

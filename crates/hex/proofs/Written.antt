@@ -28,7 +28,7 @@ glyph-read d false e h =
     )
     (omega arith)
 
-digit-glyph : (d : ℕ) → d < 16 → digit (glyph d) ≡ d
+pub digit-glyph : (d : ℕ) → d < 16 → digit (glyph d) ≡ d
 digit-glyph d h = glyph-read d (ltb d 10) refl h
 
 -- the byte's range by its four tests

@@ -14,7 +14,7 @@ pub enum Bits {
 }
 
 // The value of a digit, and 16 for any other byte.
-fn digit(b: u8) -> u8
+pub fn digit(b: u8) -> u8
     ensures { λ r. ⌜ r ≡ digit b ⌝ }
 {
     match b {

@@ -32,7 +32,6 @@ edge x f = lt-ltb (toBits binary64 x) (2 ^ 64) (toBits-lt binary64 x f)
 pub listed-fair :
     (width height updates : ℕ) (region : Region) (table : List Float) →
     Sized width height →
-    width * height ≤ 4096 →
     updates < 2 ^ 32 →
     T (fits binary64 (region .left)) →
     T (fits binary64 (region .top)) →
@@ -41,10 +40,10 @@ pub listed-fair :
     length table ≡ 2 * (width * height) →
     AllFit table →
     fair (listed width height updates region table) ≡ true
-listed-fair width height updates region table s few u h i j k long f =
+listed-fair width height updates region table s u h i j k long f =
     let side : (n : ℕ) → 2 ≤ n → n ≤ 4096 → (leb 2 n && leb n 4096) ≡ true = λ n a b. and (le-leb 2 n a) (le-leb n 4096 b) in
     and
     (and
-    (and (and (and (side width (s .wide) (s .not-wider)) (side height (s .high) (s .not-higher))) (le-leb (width * height) 4096 few)) (lt-ltb updates (2 ^ 32) u))
+    (and (and (side width (s .wide) (s .not-wider)) (side height (s .high) (s .not-higher))) (lt-ltb updates (2 ^ 32) u))
     (and (and (edge (region .left) h) (edge (region .top) i)) (and (edge (region .right) j) (edge (region .bottom) k))))
     (and (eq-eqb (length (map (toBits binary32) table)) (2 * (width * height)) (length-map table (toBits binary32) ∙ long)) (all-fit table f))

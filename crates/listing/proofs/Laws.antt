@@ -84,8 +84,7 @@ whole l f =
     let x = both-true (fair-header h && fair-edges (l .edges)) _ f in
     let y = both-true (fair-header h) _ (x .0) in
     let z = both-true (eqb (length (l .cells)) (2 * (h .width * h .height))) _ (x .1) in
-    let t = both-true (sized (h .width) (h .height) && leb (h .width * h .height) 4096) _ (y .0) .0 in
-    let w = both-true (within (h .width)) _ (both-true (sized (h .width) (h .height)) _ t .0) .0 in
+    let w = both-true (within (h .width)) _ (both-true (sized (h .width) (h .height)) _ (y .0) .0) .0 in
     (leb-true 2 (h .width) (both-true (leb 2 (h .width)) _ w .0), eqb-true (length (l .cells)) _ (z .0))
 
 listed-back : (l : Listed) → fair l ≡ true → listed-of (lines (listed-text l)) ≡ l
@@ -100,7 +99,8 @@ listed-back l f =
     patterns-back (h .width) (h .height) 0 0 (l .cells) (omega (arith, n .0)) (omega (arith, n .1)) (z .1) in
     ap listed-of (listed-cut l) ∙ simp (header-back (h .width) (h .height) (h .updates), edges-back (l .edges) (y .1), cells)
 
--- From the bytes that are written of what a listing may tell, that comes back: w·h cells row by row, sides of 2 to 4,096, at most 4,096 cells, any bit pattern.
+-- From the bytes that are written of what a listing may tell, that comes back: w·h cells row by row, sides of 2 to 4,096, any bit
+-- pattern.
 pub listing-read : (l : Listed) → fair l ≡ true → read-listing (listed-text l) ≡ some l
 unfolding read-listing
 listing-read l f = read-again fair listed-text (listed-of (lines (listed-text l))) (listed-text l) l (listed-back l f) refl f

@@ -1,10 +1,10 @@
--- Reading a listing: what it tells, for the bytes that are the listing of a table of a size that is printed, and none
--- for any other bytes: not for one with a cell too few, too many or out of its place. Definitions only.
+-- Reading a listing: what it tells, for the bytes that are the listing of a table with sides of 2 to 4,096, and none for
+-- any other bytes: not for one with a cell too few, too many or out of its place. Definitions only.
 use mathlib.Core.Bool.{Bool, true, cond, _&&_}
 use mathlib.Core.List.{List, [], _∷_, map}
 use mathlib.Core.Option.{Option}
-use Prim.Native.Nat.{ℕ, _*_, _^_}
-use lib.Dec.{eqb, leb, ltb}
+use Prim.Native.Nat.{ℕ, _*_}
+use lib.Dec.{eqb}
 use lib.Ieee.{Float, binary32, binary64, toBits}
 use lib.ListN.{length, getD, drop}
 use Rattle.decimal.specs.Text.{newline}
@@ -43,9 +43,9 @@ listed-text l =
 
 -- ---- what it may tell
 
--- sides of 2 to 4,096, at most 4,096 cells, and updates that are a u32
+-- sides of 2 to 4,096, and updates that are a u32
 abbrev pub fair-header : Header → Bool
-fair-header h = (sized (h .width) (h .height) && leb (h .width * h .height) 4096) && ltb (h .updates) (2 ^ 32)
+fair-header h = sized (h .width) (h .height) && single (h .updates)
 
 abbrev pub all-single : List ℕ → Bool
 all-single [] = true

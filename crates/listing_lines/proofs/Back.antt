@@ -13,7 +13,7 @@ use Rattle.hex.specs.Hex.{read, bits-of}
 use Rattle.hex.specs.declared.Bits.the-variants.{Of}
 use Rattle.hex.proofs.Written.{read-digits}
 use Rattle.listing_lines.specs.Line.{hex, line, word-table, word-region, word-cell, table-line, region-text, cell-text}
-use Rattle.listing_lines.specs.Read.{onto, fields, single, double, header-of, Edges, edges-text, fair-edges, edges-of, Cell, text-of-cell, fair-cell, cell-of}
+use Rattle.listing_lines.specs.Read.{onto, fields, single, double, header-of, Edges, edges-text, fair-edges, edges-of, Cell, text-of-cell, cell-of}
 use Rattle.listing_lines.proofs.Reading.{both-true}
 
 -- ---- a bit pattern
@@ -45,11 +45,11 @@ digits-plain base zero n = tt
 digits-plain base (suc k) n =
     plain-append (digits base k (n / base)) (glyph (n % base) ∷ []) (digits-plain base k (n / base)) (glyph-plain (n % base) (ltb (n % base) 10), tt)
 
-decimal-plain : (n : ℕ) → Plain (decimal n)
+pub decimal-plain : (n : ℕ) → Plain (decimal n)
 unfolding decimal
 decimal-plain n = digits-plain 10 (places n n) n
 
-hex-plain : (k n : ℕ) → Plain (hex k n)
+pub hex-plain : (k n : ℕ) → Plain (hex k n)
 unfolding hex
 hex-plain k n = digits-plain 16 k n
 
@@ -116,7 +116,7 @@ module _ (c : Cell) where
   pub plains-of-cell : Plains (decimal (c .u) ∷ decimal (c .v) ∷ hex 8 (c .a) ∷ hex 8 (c .b) ∷ [])
   plains-of-cell = (decimal-plain (c .u), (decimal-plain (c .v), (hex-plain 8 _, (hex-plain 8 _, tt))))
 
-  pub cell-back : fair-cell c ≡ true → cell-of (fields (text-of-cell c)) ≡ c
+  pub cell-back : (single (c .a) && single (c .b)) ≡ true → cell-of (fields (text-of-cell c)) ≡ c
   unfolding cell-text cell-of
   cell-back h =
       let x = both-true (single (c .a)) _ h in

@@ -1,6 +1,10 @@
 pub mod Growing
 pub mod Numbers
+pub mod Length
 pub mod Lines
 pub mod Reading
 pub mod Back
+pub mod Passing
+pub mod Fields
+pub mod Guess
 pub mod Laws

@@ -29,6 +29,10 @@ word-region = 114 ∷ 101 ∷ 103 ∷ 105 ∷ 111 ∷ 110 ∷ []
 abbrev pub word-cell : List ℕ
 word-cell = 99 ∷ 101 ∷ 108 ∷ 108 ∷ []
 
+-- of a comparison's last line
+abbrev pub word-count : List ℕ
+word-count = 99 ∷ 111 ∷ 117 ∷ 110 ∷ 116 ∷ []
+
 abbrev pub word-refused : List ℕ
 word-refused = 114 ∷ 101 ∷ 102 ∷ 117 ∷ 115 ∷ 101 ∷ 100 ∷ []
 
@@ -58,3 +62,11 @@ cell-line u v a b = cell-text u v (toBits binary32 a) (toBits binary32 b)
 -- all that is printed of a refusal
 unfoldable pub refused-line : ℕ → List ℕ
 refused-line number = line word-refused (decimal number ∷ [])
+
+-- a cell that differs between two listings: its place, its old bit patterns, its new ones
+unfoldable pub difference-line : ℕ → ℕ → ℕ → ℕ → ℕ → ℕ → List ℕ
+difference-line u v a b c d = line (decimal u) (decimal v ∷ hex 8 a ∷ hex 8 b ∷ hex 8 c ∷ hex 8 d ∷ [])
+
+-- how many there are
+unfoldable pub count-line : ℕ → List ℕ
+count-line n = line word-count (decimal n ∷ [])

@@ -11,6 +11,13 @@ use Rattle.decimal.specs.Text.{tab, newline, same}
 use Rattle.hex.specs.Hex.{read, bits-of}
 use Rattle.hex.specs.declared.Bits.the-variants.{Of}
 use Rattle.listing_lines.specs.Line.{table-line, region-text, cell-text}
+use Rattle.listing_lines.specs.declared.TableLine.{TableLine}
+use Rattle.listing_lines.specs.declared.TableLine.the-variants.{Table, NoTable}
+use Rattle.listing_lines.specs.declared.RegionLine.{RegionLine}
+use Rattle.listing_lines.specs.declared.RegionLine.the-variants.{Region, NoRegion}
+use Rattle.listing_lines.specs.declared.CellLine.{CellLine}
+use Rattle.listing_lines.specs.declared.CellLine.the-variants.{NoCell}
+use Rattle.listing_lines.specs.declared.CellLine.the-variants as line
 
 -- ---- pieces
 
@@ -52,11 +59,20 @@ pub record Header : Type 0 where
 abbrev pub header-text : Header → List ℕ
 header-text h = table-line (h .width) (h .height) (h .updates)
 
+-- numbers of 32 bits
+abbrev pub fair-numbers : Header → Bool
+fair-numbers h = single (h .width) && (single (h .height) && single (h .updates))
+
 unfoldable pub header-of : List (List ℕ) → Header
 header-of f = record { width = number-at f 1; height = number-at f 2; updates = number-at f 3 }
 
 unfoldable pub read-table : List ℕ → Option Header
-read-table text = read-as (λ h. true) header-text (header-of (fields text)) text
+read-table text = read-as fair-numbers header-text (header-of (fields text)) text
+
+-- as the code says it
+abbrev pub table-told : Option Header → TableLine
+table-told none = NoTable
+table-told (some h) = Table (h .width) (h .height) (h .updates)
 
 -- ---- a region's: the bit patterns of its edges
 
@@ -78,6 +94,10 @@ edges-of f = record { left = pattern-at f 1; top = pattern-at f 2; right = patte
 unfoldable pub read-region : List ℕ → Option Edges
 read-region text = read-as fair-edges edges-text (edges-of (fields text)) text
 
+abbrev pub region-told : Option Edges → RegionLine
+region-told none = NoRegion
+region-told (some e) = Region (e .left) (e .top) (e .right) (e .bottom)
+
 -- ---- a cell's: its place, and two bit patterns
 
 pub record Cell : Type 0 where
@@ -89,11 +109,16 @@ pub record Cell : Type 0 where
 abbrev pub text-of-cell : Cell → List ℕ
 text-of-cell c = cell-text (c .u) (c .v) (c .a) (c .b)
 
+-- a place of 32 bits, and an f32's patterns
 abbrev pub fair-cell : Cell → Bool
-fair-cell c = single (c .a) && single (c .b)
+fair-cell c = (single (c .u) && single (c .v)) && (single (c .a) && single (c .b))
 
 unfoldable pub cell-of : List (List ℕ) → Cell
 cell-of f = record { u = number-at f 1; v = number-at f 2; a = pattern-at f 3; b = pattern-at f 4 }
 
 unfoldable pub read-cell : List ℕ → Option Cell
 read-cell text = read-as fair-cell text-of-cell (cell-of (fields text)) text
+
+abbrev pub cell-told : Option Cell → CellLine
+cell-told none = NoCell
+cell-told (some c) = line.Cell (c .u) (c .v) (c .a) (c .b)

@@ -131,7 +131,7 @@ module _ (input : List ℕ) (camera : Camera) (width height : ℕ) (asks : parse
       let at = last .state .at in
       let u : at .updates < 10000000 = few camera width height s _ (at .done) (after .record-of .updates) in
       ap (λ (a : Answer Float). fair (listed width height (a .job .at .updates) (a .job .at .region) (a .cells))) built-is
-      ∙ listed-fair width height (at .updates) (at .region) (last .state .cells) s cells-few (omega arith)
+      ∙ listed-fair width height (at .updates) (at .region) (last .state .cells) s (omega arith)
       (region-fits .0) (region-fits .1) (region-fits .2) (region-fits .3) (after .long) cells-fit
 
   -- From what is printed of a finished table its size and updates are read back, and every bit of its region and cells.

@@ -7,58 +7,28 @@ use native.Mathlib.Nat.{pow-suc, div-lt-iff-lt-mul}
 use native.Mathlib.Omega.{arith}
 use borrow.Author.Tests.{lt-ltb, ltb-true, eqb-false}
 use lib.Dec.{eqb, ltb}
-use lib.Ieee.{Float}
+use lib.Ieee.{Float, binary32, toBits}
 use lib.ListN.{length, length-append}
 use Rattle.region.specs.declared.Region.{Region}
-use Rattle.decimal.specs.Decimal.{places, decimal}
-use Rattle.decimal.proofs.Digits.{length-digits}
+use Rattle.decimal.proofs.Digits.{decimal-short}
 use Rattle.put_text.specs.Placed.{joined}
 use Rattle.listing_lines.specs.Line.{line, table-line, region-text, region-line, cell-text, cell-line, refused-line}
 use Rattle.listing.specs.Listing.{across, down, cell-texts, cell-lines}
-use Rattle.listing_lines.proofs.Numbers.{hex-length}
-
--- a number below ten to the k + 1 has no more than k + 1 digits
-places-most : (k most n : ℕ) → n < 10 ^ suc k → places most n ≤ suc k
-unfolding places
-places-most k zero n h = omega arith
-places-most zero (suc most) n h = simp (lt-ltb n 10 h) (omega arith)
-places-most (suc k) (suc most) n h =
-    let q : n / 10 < 10 ^ suc k = div-lt-iff-lt-mul {k = 10} {x = n} {y = 10 ^ suc k} (omega arith) .1 (omega (arith, pow-suc 10 (suc k))) in
-    go (ltb n 10) (places-most k most (n / 10) q)
-  where
-    go : (b : Bool) → places most (n / 10) ≤ suc k → cond b 1 (suc (places most (n / 10))) ≤ suc (suc k)
-    go true i = omega arith
-    go false i = omega arith
-
-decimal-short : (k n : ℕ) → n < 10 ^ suc k → length (decimal n) ≤ suc k
-unfolding decimal
-decimal-short k n h = omega (arith, length-digits 10 (places n n) n, places-most k n n h)
+use Rattle.listing_lines.proofs.Length.{table-length, region-length, cell-length, refused-length}
 
 -- ---- lines
 
-field-more : (word field : List ℕ) (fields : List (List ℕ)) → length (line word (field ∷ fields)) ≡ length word + 1 + length (line field fields)
-unfolding line
-field-more word field fields = simp (length-append) (omega arith)
-
-field-last : (word : List ℕ) → length (line word []) ≡ length word + 1
-unfolding line
-field-last word = length-append word (10 ∷ [])
-
 pub refused-short : (n : ℕ) → n < 10 ^ 2 → length (refused-line n) ≤ 11
-unfolding refused-line
-refused-short n h = simp (field-more, field-last) (omega (arith, decimal-short 1 n h))
+refused-short n h = omega (arith, refused-length n, decimal-short n 1 h)
 
 pub table-short : (width height updates : ℕ) → width < 10 ^ 4 → height < 10 ^ 4 → updates < 10 ^ 7 → length (table-line width height updates) ≤ 24
-unfolding table-line
-table-short width height updates h i j = simp (field-more, field-last) (omega (arith, decimal-short 3 width h, decimal-short 3 height i, decimal-short 6 updates j))
+table-short width height updates h i j = omega (arith, table-length width height updates, decimal-short width 3 h, decimal-short height 3 i, decimal-short updates 6 j)
 
 pub region-long : (r : Region) → length (region-line r) ≡ 75
-unfolding region-text
-region-long r = simp (field-more, field-last, hex-length) refl
+region-long r = region-length _ _ _ _
 
 cell-short : (u v : ℕ) (a b : Float) → u < 10 ^ 4 → v < 10 ^ 4 → length (cell-line u v a b) ≤ 33
-unfolding cell-text
-cell-short u v a b h i = simp (field-more, field-last, hex-length) (omega (arith, decimal-short 3 u h, decimal-short 3 v i))
+cell-short u v a b h i = omega (arith, cell-length u v (toBits binary32 a) (toBits binary32 b), decimal-short u 3 h, decimal-short v 3 i)
 
 -- ---- cells
 
