@@ -16,8 +16,10 @@ import pathlib
 import re
 import sys
 
-from lens_models import AFFINE, BC, BC12, COUNTS, EUCM, KB, MODELS
+import listings
+from lens_models import AFFINE, BC, BC12, COUNTS, EUCM, KB, MODELS, bits
 from lens_tables import FINISHED, fresh, total, turn
+from listings import refused
 from make_leaf_vectors import value
 from model_questions import BC_EXAMPLE, PRISM, spelled
 from make_head_calls import JOBS
@@ -35,16 +37,8 @@ MOST_CELLS = 4096
 # ---- what is printed
 
 
-def refused(number):
-    return b"refused\t%d\n" % number
-
-
 def listing(job, table):
-    yield b"table\t%d\t%d\t%d\n" % (job.width, job.height, job.updates)
-    yield b"region" + b"".join(b"\t" + spelled(x).encode() for x in job.region) + b"\n"
-    for i in range(job.width * job.height):
-        v, u = divmod(i, job.width)
-        yield b"cell\t%d\t%d\t%08x\t%08x\n" % (u, v, table[2 * i], table[2 * i + 1])
+    return listings.written(job.width, job.height, job.updates, map(bits, job.region), zip(table[::2], table[1::2]))
 
 
 def asked(text):
@@ -72,7 +66,7 @@ def printed(text):
         return refused(6)
     table = [0] * (2 * job.width * job.height)
     status, number, job = turn(job, table, total(job.width, job.height))
-    return b"".join(listing(job, table)) if status == FINISHED else refused(number)
+    return listing(job, table) if status == FINISHED else refused(number)
 
 
 # ---- inputs

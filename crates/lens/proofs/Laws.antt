@@ -23,7 +23,7 @@ use Rattle.lens.specs.declared.Judgement.the-variants as judged
 use Rattle.lens.specs.Undistorted.{Told, told}
 use Rattle.lens.specs.declared.Pixel.{Pixel}
 use Rattle.lens.specs.declared.Refusal.{Refusal}
-use Rattle.lens.specs.declared.Refusal.the-variants.{UnknownModel, NoParameterJacobian, WrongCount, NotFinite, ZeroFocalLength, WrongSize, WrongLength, IncrementNotPositive, OutsideTable, AngleTooLarge, AnswerNotFinite, CellInfinite, ImpossibleRecord, NotTheForm, RayNotForward, SampleUnsettled, TooFar}
+use Rattle.lens.specs.declared.Refusal.the-variants.{UnknownModel, NoParameterJacobian, WrongCount, NotFinite, ZeroFocalLength, WrongSize, WrongLength, IncrementNotPositive, OutsideTable, AngleTooLarge, AnswerNotFinite, CellInfinite, ImpossibleRecord, NotTheForm, SizesDiffer, RayNotForward, SampleUnsettled, TooFar}
 use Rattle.lens.specs.declared.Settled.{Settled}
 use Rattle.lens.specs.declared.Undistorted.{Undistorted}
 use Rattle.lens.specs.declared.Undistorted.the-variants.{At, Refused}
@@ -40,11 +40,12 @@ use Rattle.lens.proofs.finite_pixel.Reads as finite-pixel-contract
 
 -- ---- refusals
 
--- by their numbers, from 1 to 14; behind them stand 16, 18 and 19, and no refusal has 15 or 17
+-- by their numbers, from 1 to 16; behind them stand 18 and 19, and no refusal has 17
 refusals : List Refusal
 refusals =
     UnknownModel ∷ NoParameterJacobian ∷ WrongCount ∷ NotFinite ∷ ZeroFocalLength ∷ WrongSize ∷ WrongLength
-    ∷ IncrementNotPositive ∷ OutsideTable ∷ AngleTooLarge ∷ AnswerNotFinite ∷ CellInfinite ∷ ImpossibleRecord ∷ NotTheForm ∷ []
+    ∷ IncrementNotPositive ∷ OutsideTable ∷ AngleTooLarge ∷ AnswerNotFinite ∷ CellInfinite ∷ ImpossibleRecord ∷ NotTheForm
+    ∷ SizesDiffer ∷ RayNotForward ∷ []
 
 abbrev numbered : ℕ → Refusal
 numbered n = cond (eqb n 19) TooFar (cond (eqb n 18) SampleUnsettled (getD refusals (n - 1) RayNotForward))
@@ -65,6 +66,7 @@ listed AnswerNotFinite = (lit≤ tt, lit≤ tt, refl)
 listed CellInfinite = (lit≤ tt, lit≤ tt, refl)
 listed ImpossibleRecord = (lit≤ tt, lit≤ tt, refl)
 listed NotTheForm = (lit≤ tt, lit≤ tt, refl)
+listed SizesDiffer = (lit≤ tt, lit≤ tt, refl)
 listed RayNotForward = (lit≤ tt, lit≤ tt, refl)
 listed SampleUnsettled = (lit≤ tt, lit≤ tt, refl)
 listed TooFar = (lit≤ tt, lit≤ tt, refl)
@@ -87,14 +89,13 @@ number-one-to-one a b e = sym (listed a .2) ∙ ap numbered e ∙ listed b .2
 pub number-within : (r : Refusal) → (1 ≤ number r) × (number r ≤ 19)
 number-within r = (listed r .0, listed r .1)
 
--- Each of 1 to 14, 16, 18 and 19 is the number of some refusal.
-pub number-each : (n : ℕ) → 1 ≤ n → (n ≤ 14) ⊎ ((n ≡ 16) ⊎ ((n ≡ 18) ⊎ (n ≡ 19))) → (r : Refusal) × (number r ≡ n)
+-- Each of 1 to 16, 18 and 19 is the number of some refusal.
+pub number-each : (n : ℕ) → 1 ≤ n → (n ≤ 16) ⊎ ((n ≡ 18) ⊎ (n ≡ 19)) → (r : Refusal) × (number r ≡ n)
 unfolding refusals
 number-each n low (inl high) =
-    (getD refusals (n - 1) RayNotForward, sym (List·getD-map number refusals (n - 1) RayNotForward) ∙ counted-at 1 14 (n - 1) 16 (omega arith) ∙ omega arith)
-number-each n low (inr (inl e)) = (RayNotForward, sym e)
-number-each n low (inr (inr (inl e))) = (SampleUnsettled, sym e)
-number-each n low (inr (inr (inr e))) = (TooFar, sym e)
+    (getD refusals (n - 1) RayNotForward, sym (List·getD-map number refusals (n - 1) RayNotForward) ∙ counted-at 1 16 (n - 1) 16 (omega arith) ∙ omega arith)
+number-each n low (inr (inl e)) = (SampleUnsettled, sym e)
+number-each n low (inr (inr e)) = (TooFar, sym e)
 
 -- What a judgement's number says determines it.
 pub verdict-one-to-one : (a b : Judgement) → verdict a ≡ verdict b → a ≡ b

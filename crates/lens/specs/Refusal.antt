@@ -1,7 +1,7 @@
 -- The number of each refusal. Definitions only.
 use Prim.Native.Nat.{ℕ}
 use Rattle.lens.specs.declared.Refusal.{Refusal}
-use Rattle.lens.specs.declared.Refusal.the-variants.{UnknownModel, NoParameterJacobian, WrongCount, NotFinite, ZeroFocalLength, WrongSize, WrongLength, IncrementNotPositive, OutsideTable, AngleTooLarge, AnswerNotFinite, CellInfinite, ImpossibleRecord, NotTheForm, RayNotForward, SampleUnsettled, TooFar}
+use Rattle.lens.specs.declared.Refusal.the-variants.{UnknownModel, NoParameterJacobian, WrongCount, NotFinite, ZeroFocalLength, WrongSize, WrongLength, IncrementNotPositive, OutsideTable, AngleTooLarge, AnswerNotFinite, CellInfinite, ImpossibleRecord, NotTheForm, SizesDiffer, RayNotForward, SampleUnsettled, TooFar}
 
 abbrev pub number : Refusal → ℕ
 number UnknownModel = 1
@@ -18,6 +18,7 @@ number AnswerNotFinite = 11
 number CellInfinite = 12
 number ImpossibleRecord = 13
 number NotTheForm = 14
+number SizesDiffer = 15
 number RayNotForward = 16
 number SampleUnsettled = 18
 number TooFar = 19

@@ -88,6 +88,8 @@ pub enum Refusal {
     ImpossibleRecord,
     // a program can't read its input
     NotTheForm,
+    // two listings to compare aren't of one size
+    SizesDiffer,
     // the ray of a pixel doesn't point forwards: its point would be mirrored, or nowhere
     RayNotForward,
     // a strict job met a border sample that didn't settle
@@ -122,6 +124,7 @@ pub fn number(refusal: Refusal) -> u8
         Refusal::CellInfinite => 12,
         Refusal::ImpossibleRecord => 13,
         Refusal::NotTheForm => 14,
+        Refusal::SizesDiffer => 15,
         Refusal::RayNotForward => 16,
         Refusal::SampleUnsettled => 18,
         Refusal::TooFar => 19,

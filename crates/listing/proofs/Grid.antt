@@ -32,12 +32,12 @@ by-end width u v true e h =
     (omega arith, omega (arith, m))
 by-end width u v false e h = (omega (arith, eqb-false (u + 1) width e), omega arith)
 
-next : (width u v : ℕ) → u < width → (across width u < width) × (down width u v * width + across width u ≡ v * width + u + 1)
+pub next : (width u v : ℕ) → u < width → (across width u < width) × (down width u v * width + across width u ≡ v * width + u + 1)
 unfolding across down
 next width u v h = by-end width u v (eqb (u + 1) width) refl h
 
 -- a place before the end is in a row before the last
-in-a-row : (width height u v : ℕ) → v * width + u < width * height → v < height
+pub in-a-row : (width height u v : ℕ) → v * width + u < width * height → v < height
 in-a-row width height u v h = by-row (ltb v height) refl
   where
     by-row : (t : Bool) → ltb v height ≡ t → v < height

@@ -1,5 +1,5 @@
--- Reading a listing: what it tells, for the bytes that are the listing of a table with sides of 2 to 4,096, and none for
--- any other bytes: not for one with a cell too few, too many or out of its place. Definitions only.
+-- Reading a listing: what it tells, for the bytes that are the listing of a table with sides of 2 to 4,096, and none
+-- for any other bytes: not for one with a cell too few, too many or out of its place. Definitions only.
 use mathlib.Core.Bool.{Bool, true, cond, _&&_}
 use mathlib.Core.List.{List, [], _∷_, map}
 use mathlib.Core.Option.{Option}
@@ -11,7 +11,8 @@ use Rattle.decimal.specs.Text.{newline}
 use Rattle.region.specs.Size.{sized}
 use Rattle.region.specs.declared.Region.{Region}
 use Rattle.put_text.specs.Placed.{joined}
-use Rattle.listing_lines.specs.Read.{onto, read-as, fields, single, Header, header-text, header-of, Edges, edges-text, fair-edges, edges-of, cell-of}
+use Rattle.listing_lines.specs.Read.{onto, read-as, fields, single, Header, header-text, header-of, Edges, edges-text}
+use Rattle.listing_lines.specs.Read.{fair-edges, edges-of, cell-of}
 use Rattle.listing.specs.Listing.{cell-texts}
 
 -- ---- what a listing tells

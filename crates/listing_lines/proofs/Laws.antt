@@ -9,7 +9,9 @@ use Rattle.exact.specs.Determined.{Determined, DeterminedWith}
 use Rattle.decimal.specs.Decimal.{places, decimal}
 use Rattle.put_text.proofs.Laws.{both}
 use Rattle.listing_lines.specs.Line.{hex, line, table-line, refused-line}
-use Rattle.listing_lines.specs.Read.{single, fields, Header, header-text, fair-numbers, header-of, read-table, Edges, edges-text, fair-edges, edges-of, read-region, Cell, text-of-cell, fair-cell, cell-of, read-cell}
+use Rattle.listing_lines.specs.Read.{single, fields, Header, header-text, fair-numbers, header-of, read-table}
+use Rattle.listing_lines.specs.Read.{Edges, edges-text, fair-edges, edges-of, read-region, Cell, text-of-cell}
+use Rattle.listing_lines.specs.Read.{fair-cell, cell-of, read-cell}
 use Rattle.listing_lines.proofs.Reading.{both-true, read-again, only-read}
 use Rattle.listing_lines.proofs.Back.{header-back, edges-back, cell-back}
 use Rattle.listing_lines.proofs.table_line.Reads as table-line-contract
@@ -26,7 +28,8 @@ use Rattle.listing_lines.proofs.read_cell.Reads as read-cell-contract
 
 -- ---- each contract permits one answer, and one buffer
 
--- Any two answers that the contract of `table_line` permits to one call are equal, and so are any two buffers at the return;
+-- Any two answers that the contract of `table_line` permits to one call are equal, and so are any two buffers at the
+-- return;
 pub table-line-determined : DeterminedWith table-line-contract.Post (λ κ s. now (s .0))
 table-line-determined κ a s s' r r' p q = both (p ∙ sym q)
 
@@ -74,7 +77,8 @@ read-cell-determined κ a s s' r r' p q = p ∙ sym q
 -- From a table's line its width, height and updates come back, whichever they are of the 2^32,
 pub table-read : (h : Header) → fair-numbers h ≡ true → read-table (header-text h) ≡ some h
 unfolding read-table
-table-read h f = read-again fair-numbers header-text _ (header-text h) h (header-back (h .width) (h .height) (h .updates)) refl f
+table-read h f =
+    read-again fair-numbers header-text _ (header-text h) h (header-back (h .width) (h .height) (h .updates)) refl f
 
 -- from a region's line the bit patterns of its edges come back, whichever they are of the 2^64,
 pub region-read : (e : Edges) → fair-edges e ≡ true → read-region (edges-text e) ≡ some e
@@ -84,15 +88,19 @@ region-read e f = read-again fair-edges edges-text _ (edges-text e) e (edges-bac
 -- and from a cell's line its place and its two bit patterns, whichever they are of the 2^32.
 pub cell-read : (c : Cell) → fair-cell c ≡ true → read-cell (text-of-cell c) ≡ some c
 unfolding read-cell
-cell-read c f = read-again fair-cell text-of-cell _ (text-of-cell c) c (cell-back c (both-true (single (c .u) && single (c .v)) _ f .1)) refl f
+cell-read c f =
+    read-again fair-cell text-of-cell _ (text-of-cell c) c
+    (cell-back c (both-true (single (c .u) && single (c .v)) _ f .1)) refl f
 
 -- Bytes that are read as a table's line are the line that is written of those numbers; no other bytes are read,
-pub only-table : (text : List ℕ) (h : Header) → read-table text ≡ some h → (text ≡ header-text h) × (fair-numbers h ≡ true)
+pub only-table :
+    (text : List ℕ) (h : Header) → read-table text ≡ some h → (text ≡ header-text h) × (fair-numbers h ≡ true)
 unfolding read-table
 only-table text h e = only-read fair-numbers header-text (header-of (fields text)) text h e
 
 -- nor as a region's,
-pub only-region : (text : List ℕ) (r : Edges) → read-region text ≡ some r → (text ≡ edges-text r) × (fair-edges r ≡ true)
+pub only-region :
+    (text : List ℕ) (r : Edges) → read-region text ≡ some r → (text ≡ edges-text r) × (fair-edges r ≡ true)
 unfolding read-region
 only-region text r e = only-read fair-edges edges-text (edges-of (fields text)) text r e
 

@@ -7,10 +7,11 @@ ghost use Rattle.decimal.specs.Decimal.{decimal};
 ghost use Rattle.decimal.specs.Text.{same};
 ghost use Rattle.lens.specs.Refusal.{number};
 ghost use Rattle.put_text.specs.Placed.{written, placed};
-ghost use Rattle.listing_lines.specs.Line.{hex, table-line, region-text, region-line, cell-text, cell-line, refused-line};
-ghost use Rattle.listing_lines.specs.Line.{difference-line, count-line};
+ghost use Rattle.listing_lines.specs.Line.{hex, table-line, region-text, region-line, cell-text, cell-line};
+ghost use Rattle.listing_lines.specs.Line.{refused-line, difference-line, count-line};
 ghost use Rattle.listing_lines.specs.Numeral.{pushed, left-after, number-after, numeral};
-ghost use Rattle.listing_lines.specs.Read.{read-table, read-region, read-cell, table-told, region-told, cell-told};
+ghost use Rattle.listing_lines.specs.Read.{read-table, table-told, read-region, region-told, read-cell};
+ghost use Rattle.listing_lines.specs.Read.{cell-told};
 ghost use Rattle.listing_lines.specs.Grown.{Grown};
 use lens::Refusal;
 use region::Region;
@@ -195,13 +196,13 @@ pub fn difference_line(
         ⌝ }
 {
     let mut line = [0u8; LINE];
-    let first = grow_first(&mut line, u as u64);
-    let second = grow_decimal(&mut line, first, v as u64);
-    let third = grow_single(&mut line, second, a);
-    let fourth = grow_single(&mut line, third, b);
-    let fifth = grow_single(&mut line, fourth, c);
-    let sixth = grow_single(&mut line, fifth, d);
-    let end = grow(&mut line, sixth, b"\n");
+    let column = grow_first(&mut line, u as u64);
+    let row = grow_decimal(&mut line, column, v as u64);
+    let first = grow_single(&mut line, row, a);
+    let second = grow_single(&mut line, first, b);
+    let third = grow_single(&mut line, second, c);
+    let last = grow_single(&mut line, third, d);
+    let end = grow(&mut line, last, b"\n");
     put_text::put(out, at, &line[..end])
 }
 

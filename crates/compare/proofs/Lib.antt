@@ -1,0 +1,9 @@
+pub mod Cutting
+pub mod Held
+pub mod Judge
+pub mod Comparing
+pub mod Ahead
+pub mod Telling
+pub mod Texts
+pub mod Exactly
+pub mod Laws
