@@ -1,44 +1,14 @@
--- The first byte of a kind, and the text after it. Assumes nothing.
-use mathlib.Core.Path.{_≡_, refl, sym, ap, _∙_}
-use mathlib.Core.Bool.{Bool, true, false, cond}
-use mathlib.Core.List.{List, [], _∷_}
+-- The text after the first byte of a kind. Assumes nothing.
+use mathlib.Core.Path.{_≡_, sym, ap, _∙_}
+use mathlib.Core.List.{List}
 use Prim.Native.Nat.{ℕ, suc, _+_, _-_, _≤_, _<_}
 use native.Mathlib.Numerals.{add-one}
 use native.Mathlib.Omega.{arith}
-use borrow.Author.Tests.{eq-eqb, ne-eqb}
-use lib.Dec.{eqb}
-use lib.ListN.{length, getD, take, drop, drop-of-length-le, length-drop}
-use lib.Seq.{drop-cons, take-all}
-use Rattle.camera_file.specs.Reading.{place, past}
+use lib.ListN.{length, take, drop, drop-of-length-le, length-drop}
+use lib.Seq.{take-all}
+use Rattle.decimal.specs.Text.{place, past}
+use Rattle.decimal.proofs.Parts.{place-within}
 use Rattle.camera_file.specs.Steps.{Starts}
-
-module _ (b : ℕ) (l : List ℕ) (i : ℕ) where
-  pub place-here : i < length l → getD l i 0 ≡ b → place b l ≡ i + place b (drop i l) → i ≡ place b l
-  unfolding place
-  place-here h e d =
-      let z : place b (drop i l) ≡ 0 = rw (drop-cons l i 0 h) (simp (eq-eqb (getD l i 0) b e)) in
-      omega arith
-
-  pub place-on : i < length l → (getD l i 0 ≡ b → ⊥) → place b l ≡ i + place b (drop i l) → place b l ≡ i + 1 + place b (drop (i + 1) l)
-  unfolding place
-  place-on h ne d =
-      let z : place b (drop i l) ≡ suc (place b (drop (i + 1) l)) = rw (add-one, drop-cons l i 0 h) (simp (ne-eqb (getD l i 0) b ne)) in
-      omega arith
-
-  pub place-none : length l ≤ i → i ≤ length l → place b l ≡ i + place b (drop i l) → i ≡ place b l
-  unfolding place
-  place-none h le d =
-      let z : place b (drop i l) ≡ 0 = rw (drop-of-length-le l h) refl in
-      omega arith
-
-one-within : (t : Bool) {p n : ℕ} → p ≤ n → cond t 0 (suc p) ≤ suc n
-one-within true h = omega arith
-one-within false h = omega arith
-
-pub place-within : (b : ℕ) (l : List ℕ) → place b l ≤ length l
-unfolding place
-place-within b [] = omega arith
-place-within b (x ∷ l) = one-within (eqb x b) (place-within b l)
 
 module _ (b : ℕ) (l : List ℕ) (i : ℕ) (e : i ≡ place b l) where
   pub starts-after : i < length l → Starts b l (i + 1)

@@ -8,13 +8,13 @@ use borrow.Author.Tests.{lt-ltb, le-ltb, le-leb, lt-leb}
 use lib.ListN.{length, take, drop}
 use Rattle.lens.specs.declared.Refusal.the-variants.{NotTheForm}
 use Rattle.decimal.specs.Decimal.{worth, number-in}
-use Rattle.decimal.specs.Text.{tab, newline, all, same}
+use Rattle.decimal.specs.Text.{tab, newline, all, same, place, before, past}
 use Rattle.decimal.specs.declared.Number.{Number}
 use Rattle.decimal.specs.declared.Number.the-variants.{Is, NotANumber}
 use Rattle.decimal.proofs.Numbers.{number-is, number-isnt}
 use Rattle.params_line.specs.Params.{is-params, params-of}
 use Rattle.camera_file.specs.Text.{camera-word, letter, longest, CameraFile}
-use Rattle.camera_file.specs.Reading.{place, before, past, is-name, is-high, is-wide, is-named, is-file, file-of, read}
+use Rattle.camera_file.specs.Reading.{is-name, is-high, is-wide, is-named, is-file, file-of, read}
 use Rattle.camera_file.specs.Asked.{model, asked-of, asked, asked-if, parsed}
 use Rattle.camera_file.specs.Steps.{Starts, from-params, from-height, from-width, from-name}
 use Rattle.camera_file.specs.declared.Named.{Named}

@@ -10,43 +10,15 @@ use lib.Dec.{eqb, leb, ltb}
 use lib.ListN.{length, getD, take, drop, length-take, length-drop}
 use lib.Seq.{take-append-seam, drop-append-add, split-at}
 use Rattle.decimal.specs.Decimal.{decimal, digit, worth, is-number}
-use Rattle.decimal.specs.Text.{tab, newline, all, same}
+use Rattle.decimal.specs.Text.{tab, newline, all, same, place, before, past}
 use Rattle.decimal.proofs.Bytes.{and-left, and-right, both, same-self, same-true}
+use Rattle.decimal.proofs.Parts.{lacks, free, before-is, past-is, parted}
 use Rattle.decimal.proofs.Digits.{decimal-worth, decimal-digits}
 use Rattle.decimal.proofs.Numbers.{decimal-number, number-some, number-decimal, number-range}
-use Rattle.params_line.specs.Params.{pattern, params-line, is-params, params-of}
-use Rattle.params_line.proofs.Written.{params-there, params-many, params-back, params-patterns, params-some}
+use Rattle.params_line.specs.Params.{params-word, pattern, params-line, is-params, params-of}
+use Rattle.params_line.proofs.Written.{line-there, line-many, line-back, line-patterns, line-some}
 use Rattle.camera_file.specs.Text.{camera-word, letter, longest, CameraFile, camera-line, text-of, Form}
-use Rattle.camera_file.specs.Reading.{place, before, past, is-name, is-high, is-wide, is-named, is-file, file-of}
-
--- ---- a field without the byte b, and b after it
-
-abbrev lacks : ℕ → ℕ → Bool
-lacks b x = not (eqb x b)
-
-each : (test other : ℕ → Bool) → ((x : ℕ) → test x ≡ true → other x ≡ true) → (s : List ℕ) → all test s ≡ true → all other s ≡ true
-unfolding all
-each test other f [] e = refl
-each test other f (x ∷ s) e = both (f x (and-left (test x) (all test s) e)) (each test other f s (and-right (test x) (all test s) e))
-
--- bytes of a kind that b is not of
-free : (test : ℕ → Bool) (b : ℕ) → test b ≡ false → (s : List ℕ) → all test s ≡ true → all (lacks b) s ≡ true
-free test b f = each test (lacks b) (λ x h. ap not (ne-eqb x b (λ e. true≢false (sym h ∙ ap test e ∙ f))))
-
-module _ (b : ℕ) (t : List ℕ) where
-  place-after : (s : List ℕ) → all (lacks b) s ≡ true → place b (s ++ b ∷ t) ≡ length s
-  unfolding place all
-  place-after [] e = simp (eq-eqb b b refl)
-  place-after (x ∷ s) e =
-      simp (not-true (eqb x b) (and-left (lacks b x) (all (lacks b) s) e)) (ap suc (place-after s (and-right (lacks b x) (all (lacks b) s) e)))
-
-  before-is : (s : List ℕ) → all (lacks b) s ≡ true → before b (s ++ b ∷ t) ≡ s
-  unfolding before
-  before-is s e = ap (λ (k : ℕ). take k (s ++ b ∷ t)) (place-after s e) ∙ take-append-seam s (b ∷ t)
-
-  past-is : (s : List ℕ) → all (lacks b) s ≡ true → past b (s ++ b ∷ t) ≡ t
-  unfolding past
-  past-is s e = ap (λ (k : ℕ). drop k (s ++ b ∷ t)) (ap suc (place-after s e) ∙ sym (add-one (length s))) ∙ drop-append-add s (b ∷ t) 1
+use Rattle.camera_file.specs.Reading.{is-name, is-high, is-wide, is-named, is-file, file-of}
 
 -- ---- there: what is written is read
 
@@ -119,7 +91,7 @@ module _ (file : CameraFile) (form : Form file) where
 
   good-params : is-params line ≡ true
   unfolding line
-  good-params = params-there (file .params) (form .some-params) (form .patterns) .0
+  good-params = line-there params-word refl (file .params) (form .some-params) (form .patterns) .0
 
   pub file-there : is-file (text-of file) ≡ true
   unfolding is-file is-named is-wide is-high
@@ -139,7 +111,7 @@ module _ (file : CameraFile) (form : Form file) where
 
   the-params : params-of (past newline (past tab (past tab (past tab (text-of file))))) ≡ file .params
   unfolding line
-  the-params = ap params-of to-params ∙ params-there (file .params) (form .some-params) (form .patterns) .1
+  the-params = ap params-of to-params ∙ line-there params-word refl (file .params) (form .some-params) (form .patterns) .1
 
   pub file-same : file-of (text-of file) ≡ file
   unfolding file-of
@@ -148,22 +120,6 @@ module _ (file : CameraFile) (form : Form file) where
       ∙ ap₂ (filed (file .name) (file .width)) the-rows the-params
 
 -- ---- back: what is read was written
-
-place-holds : (b : ℕ) (l : List ℕ) → place b l < length l → getD l (place b l) 0 ≡ b
-unfolding place
-place-holds b [] h = absurd (omega arith)
-place-holds b (x ∷ l) h = by-test (eqb x b) refl h (place-holds b l)
-  where
-    by-test : (t : Bool) → eqb x b ≡ t → cond t 0 (suc (place b l)) < suc (length l) → (place b l < length l → getD l (place b l) 0 ≡ b) → getD (x ∷ l) (cond t 0 (suc (place b l))) 0 ≡ b
-    by-test true e h more = eqb-true x b e
-    by-test false e h more = more (omega arith)
-
--- a text with something after its first b
-parted : (b : ℕ) (l : List ℕ) → 0 < length (past b l) → l ≡ before b l ++ b ∷ past b l
-unfolding past before
-parted b l h =
-    let within : place b l < length l = omega (arith, length-drop (suc (place b l)) l) in
-    split-at l (place b l) 0 within ∙ ap (λ (x : ℕ). take (place b l) l ++ x ∷ drop (suc (place b l)) l) (place-holds b l within)
 
 filled : (b : ℕ) (l : List ℕ) → 0 < length (before b l) → 0 < length l
 unfolding before
@@ -218,7 +174,7 @@ module _ (text : List ℕ) (e : is-file text ≡ true) where
   params-good = and-right (is-number (before newline high')) (is-params line') from-height
 
   line-filled : 0 < length line'
-  line-filled = omega (arith, params-many line' params-good)
+  line-filled = omega (arith, line-many params-word line' params-good)
 
   high-is : high' ≡ before newline high' ++ newline ∷ line'
   unfolding line'
@@ -252,7 +208,7 @@ module _ (text : List ℕ) (e : is-file text ≡ true) where
       let width = decimal (worth 0 (before tab wide')) in
       let height = decimal (worth 0 (before newline high')) in
       let params = params-line (params-of line') in
-      let a : line' ≡ params = params-back line' params-good in
+      let a : line' ≡ params = line-back params-word line' params-good in
       let b : high' ≡ height ++ newline ∷ params = high-is ∙ ap₂ (λ (s t : List ℕ). s ++ newline ∷ t) (number-decimal (before newline high') height-good) a in
       let c : wide' ≡ width ++ tab ∷ (height ++ newline ∷ params) = wide-is ∙ ap₂ (λ (s t : List ℕ). s ++ tab ∷ t) (number-decimal (before tab wide') width-good) b in
       let d : named' ≡ name ++ tab ∷ (width ++ tab ∷ (height ++ newline ∷ params)) = named-is ∙ ap (λ (t : List ℕ). name ++ tab ∷ t) c in
@@ -277,7 +233,7 @@ module _ (text : List ℕ) (e : is-file text ≡ true) where
 
   the-params-form : (1 ≤ length (file-of text .params)) × (all pattern (file-of text .params) ≡ true)
   unfolding file-of named' wide' high' line'
-  the-params-form = (params-some line' params-good, params-patterns line' params-good)
+  the-params-form = (line-some params-word line' params-good, line-patterns params-word line' params-good)
 
   pub form-back : Form (file-of text)
   form-back =

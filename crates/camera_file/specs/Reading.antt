@@ -1,29 +1,15 @@
 -- How a camera file's text is read: field by field, each up to its tab or newline. Where one of these is missing, the
 -- field after it is empty, and no field may be empty. Definitions only.
 use mathlib.Core.Bool.{Bool, cond, _&&_}
-use mathlib.Core.List.{List, [], _∷_}
+use mathlib.Core.List.{List}
 use mathlib.Core.Option.{Option, none, some}
-use Prim.Native.Nat.{ℕ, suc}
-use lib.Dec.{eqb, leb, ltb}
-use lib.ListN.{length, take, drop}
+use Prim.Native.Nat.{ℕ}
+use lib.Dec.{leb, ltb}
+use lib.ListN.{length}
 use Rattle.decimal.specs.Decimal.{worth, is-number}
-use Rattle.decimal.specs.Text.{tab, newline, all, same}
+use Rattle.decimal.specs.Text.{tab, newline, all, same, before, past}
 use Rattle.params_line.specs.Params.{is-params, params-of}
 use Rattle.camera_file.specs.Text.{camera-word, letter, longest, CameraFile}
-
--- ---- parts of a text
-
--- where the first byte b stands, and the text's length if there is none
-unfoldable pub place : ℕ → List ℕ → ℕ
-place b [] = 0
-place b (x ∷ text) = cond (eqb x b) 0 (suc (place b text))
-
--- what stands before the first b, and what after it
-unfoldable pub before : ℕ → List ℕ → List ℕ
-before b text = take (place b text) text
-
-unfoldable pub past : ℕ → List ℕ → List ℕ
-past b text = drop (suc (place b text)) text
 
 -- ---- the name
 

@@ -6,9 +6,9 @@ use Prim.Native.Nat.{ℕ, _≤_}
 use lib.ListN.{length, drop}
 use Rattle.lens.specs.declared.Refusal.the-variants.{NotTheForm}
 use Rattle.decimal.specs.Decimal.{worth}
-use Rattle.decimal.specs.Text.{tab, newline}
+use Rattle.decimal.specs.Text.{tab, newline, before, past}
 use Rattle.params_line.specs.Params.{is-params, params-of}
-use Rattle.camera_file.specs.Reading.{before, past, is-high, is-wide, is-named}
+use Rattle.camera_file.specs.Reading.{is-high, is-wide, is-named}
 use Rattle.camera_file.specs.Asked.{model, asked-of}
 use Rattle.camera_file.specs.declared.Named.{Named}
 use Rattle.camera_file.specs.declared.Parsed.{Parsed}

@@ -5,7 +5,7 @@ ghost use Rattle.decimal.specs.Text.{all};
 ghost use Rattle.params_line.specs.Params.{at, params-of};
 ghost use Rattle.camera.specs.Numbers.{first-of, most};
 ghost use Rattle.camera_file.specs.Text.{letter};
-ghost use Rattle.camera_file.specs.Reading.{place, is-name};
+ghost use Rattle.camera_file.specs.Reading.{is-name};
 ghost use Rattle.camera_file.specs.Asked.{model, camera-of, asked-of, parsed, told-file};
 ghost use Rattle.camera_file.specs.Steps.{Starts, from-params, from-height, from-width, from-name};
 use camera::Camera;
@@ -32,26 +32,12 @@ enum Named {
     Unknown,
 }
 
-// Where the first b stands, or the length.
-fn place(text: &[u8], b: u8) -> usize
-    ensures { λ r. ⌜ r ≡ place b (now (text .entry)) ⌝ }
-{
-    let mut i = 0;
-    while i < text.len() {
-        if text[i] == b {
-            return i;
-        }
-        i += 1;
-    }
-    i
-}
-
 // Where the text after the first b starts. It is the length where there is no b: what is left is then empty, and
 // refused as such.
 fn rest(text: &[u8], b: u8) -> usize
     ensures { λ r. ⌜ Starts b (now (text .entry)) r ⌝ }
 {
-    let end = place(text, b);
+    let end = decimal::place(text, b);
     if end < text.len() { end + 1 } else { end }
 }
 
@@ -156,7 +142,7 @@ fn asked(named: Named, width: usize, height: usize, line: &[u8]) -> Parsed
 fn from_params(named: Named, width: usize, height: usize, text: &[u8]) -> Parsed
     ensures { λ r. ⌜ r ≡ from-params named width height (now (text .entry)) ⌝ }
 {
-    if params_line::is_params(text) {
+    if params_line::is_line(b"params", text) {
         asked(named, width, height, text)
     } else {
         Parsed::Refused(Refusal::NotTheForm)
@@ -167,7 +153,7 @@ fn from_params(named: Named, width: usize, height: usize, text: &[u8]) -> Parsed
 fn from_height(named: Named, width: usize, text: &[u8]) -> Parsed
     ensures { λ r. ⌜ r ≡ from-height named width (now (text .entry)) ⌝ }
 {
-    let end = place(text, b'\n');
+    let end = decimal::place(text, b'\n');
     let Number::Is(height) = decimal::number_in(&text[..end]) else {
         return Parsed::Refused(Refusal::NotTheForm);
     };
@@ -179,7 +165,7 @@ fn from_height(named: Named, width: usize, text: &[u8]) -> Parsed
 fn from_width(named: Named, text: &[u8]) -> Parsed
     ensures { λ r. ⌜ r ≡ from-width named (now (text .entry)) ⌝ }
 {
-    let end = place(text, b'\t');
+    let end = decimal::place(text, b'\t');
     let Number::Is(width) = decimal::number_in(&text[..end]) else {
         return Parsed::Refused(Refusal::NotTheForm);
     };
@@ -191,7 +177,7 @@ fn from_width(named: Named, text: &[u8]) -> Parsed
 fn from_name(text: &[u8]) -> Parsed
     ensures { λ r. ⌜ r ≡ from-name (now (text .entry)) ⌝ }
 {
-    let end = place(text, b'\t');
+    let end = decimal::place(text, b'\t');
     if is_name(&text[..end]) {
         let next = rest(text, b'\t');
         from_width(model_of(&text[..end]), &text[next..])
@@ -205,7 +191,7 @@ pub fn parse(text: &[u8]) -> Parsed
     ensures { λ r. ⌜ told-file r ≡ told-file (parsed (now (text .entry))) ⌝ }
 {
     if text.len() <= LONGEST {
-        let end = place(text, b'\t');
+        let end = decimal::place(text, b'\t');
         if check::same(&text[..end], b"camera") {
             let next = rest(text, b'\t');
             return from_name(&text[next..]);

@@ -10,6 +10,7 @@ use Rattle.decimal.proofs.Digits.{decimal-worth}
 use Rattle.decimal.proofs.Numbers.{decimal-number, number-decimal, number-range, number-is}
 use Rattle.decimal.proofs.digit.Reads as digit-contract
 use Rattle.decimal.proofs.number_in.Reads as number-in-contract
+use Rattle.decimal.proofs.place.Reads as place-contract
 
 -- ---- reading and writing
 
@@ -26,9 +27,12 @@ number-written field n e =
 
 -- ---- each contract permits one answer
 
--- Any two answers to one call that the contract of `digit` permits are equal; and so for `number_in`.
+-- Any two answers to one call that the contract of `digit` permits are equal; and so for `number_in` and `place`.
 pub digit-determined : Determined digit-contract.Post
 digit-determined κ a s s' r r' p q = p ∙ sym q
 
 pub number-in-determined : Determined number-in-contract.Post
 number-in-determined κ a s s' r r' p q = p ∙ sym q
+
+pub place-determined : Determined place-contract.Post
+place-determined κ a s s' r r' p q = p ∙ sym q

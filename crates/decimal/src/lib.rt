@@ -1,14 +1,28 @@
-// A number in decimal, as our texts have it: 1 to 4 digits, the first not 0.
+// What our texts share: where a byte stands; and a number in decimal, 1 to 4 digits, the first not 0.
 ghost use mathlib.Core.Path.{_≡_};
 ghost use Prim.Native.Nat.{_≤_};
 ghost use lib.ListN.{length};
-ghost use Rattle.decimal.specs.Text.{all};
+ghost use Rattle.decimal.specs.Text.{all, place};
 ghost use Rattle.decimal.specs.Decimal.{digit, number-in, said};
 
 // What a field says.
 pub enum Number {
     Is(usize),
     NotANumber,
+}
+
+// Where the first b stands, or the length.
+pub fn place(text: &[u8], b: u8) -> usize
+    ensures { λ r. ⌜ r ≡ place b (now (text .entry)) ⌝ }
+{
+    let mut i = 0;
+    while i < text.len() {
+        if text[i] == b {
+            return i;
+        }
+        i += 1;
+    }
+    i
 }
 
 // Whether b is one of 0 to 9.

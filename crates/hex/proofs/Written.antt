@@ -2,13 +2,13 @@
 use mathlib.Core.Path.{_≡_, refl, sym, ap, ap₂, _∙_}
 use mathlib.Core.Bool.{Bool, true, false, cond}
 use mathlib.Core.List.{List, [], _∷_, _++_, append-assoc, append-nil}
-use Prim.Native.Nat.{ℕ, zero, suc, _+_, _*_, _-_, _/_, _%_, _^_, _<_}
-use native.Mathlib.Nat.{pow-suc, mod-lt, div-lt-iff-lt-mul, div-add-mod'}
+use Prim.Native.Nat.{ℕ, zero, suc, _+_, _*_, _-_, _/_, _%_, _^_, _≤_, _<_}
+use native.Mathlib.Nat.{pow-suc, mod-lt, div-lt-iff-lt-mul, div-add-mod', pow-le-pow-right}
 use native.Mathlib.Omega.{arith}
 use borrow.Author.Tests.{lt-ltb, le-ltb, ltb-true, ltb-false}
 use lib.Dec.{ltb}
 use lib.ListN.{length}
-use Rattle.io.specs.Digits.{glyph, digits}
+use Rattle.io.specs.Digits.{glyph, digits, Fewest}
 use Rattle.hex.specs.Hex.{digit, pushed, read}
 use Rattle.hex.specs.declared.Bits.{Bits}
 use Rattle.hex.specs.declared.Bits.the-variants.{Of, None}
@@ -106,3 +106,18 @@ digits-read [] j m n e =
 digits-read (b ∷ text) j m n e =
     let k : suc j + length text ≡ j + suc (length text) = omega arith in
     read-on j m n b text (ltb (digit b) 16) refl (λ m'. digits-read text (suc j) m' n) e ∙ ap (λ (k : ℕ). digits 16 k n) k
+
+-- ---- how many digits io writes is settled by the number
+
+-- where n has no more than w digits, w of them are written
+pub hex-places : (w n k : ℕ) → n < 16 ^ w → Fewest 16 w n k → k ≡ w
+hex-places w n k h f = by-size (ltb w k) refl
+  where
+    by-size : (t : Bool) → ltb w k ≡ t → k ≡ w
+    by-size true e =
+        let l : w < k = ltb-true w k e in
+        let m : w ≤ k - 1 = omega arith in
+        let g : 16 ^ (k - 1) ≤ n = f .2 l in
+        let p : 16 ^ w ≤ 16 ^ (k - 1) = pow-le-pow-right (omega arith) m in
+        absurd (omega arith)
+    by-size false e = omega (arith, ltb-false w k e, f .0)

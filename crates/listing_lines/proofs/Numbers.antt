@@ -1,28 +1,12 @@
--- The hexadecimal digits that io writes are the definitions' digits: how many they are is settled by the number. Assumes nothing.
-use mathlib.Core.Path.{_≡_, refl, ap}
-use mathlib.Core.Bool.{Bool, true, false}
-use Prim.Native.Nat.{ℕ, _-_, _^_, _≤_, _<_}
-use native.Mathlib.Nat.{pow-le-pow-right}
+-- The hexadecimal digits that io writes are the definitions' digits. Assumes nothing.
+use mathlib.Core.Path.{_≡_, ap}
+use Prim.Native.Nat.{ℕ, _^_, _≤_, _<_}
 use native.Mathlib.Omega.{arith}
-use borrow.Author.Tests.{ltb-true, ltb-false}
-use lib.Dec.{ltb}
 use lib.ListN.{length}
 use Rattle.io.specs.Digits.{digits, Fewest}
 use Rattle.decimal.proofs.Digits.{length-digits}
+use Rattle.hex.proofs.Written.{hex-places}
 use Rattle.listing_lines.specs.Line.{hex}
-
--- where n has no more than w digits, w of them are written
-hex-places : (w n k : ℕ) → n < 16 ^ w → Fewest 16 w n k → k ≡ w
-hex-places w n k h f = by-size (ltb w k) refl
-  where
-    by-size : (t : Bool) → ltb w k ≡ t → k ≡ w
-    by-size true e =
-        let l : w < k = ltb-true w k e in
-        let m : w ≤ k - 1 = omega arith in
-        let g : 16 ^ (k - 1) ≤ n = f .2 l in
-        let p : 16 ^ w ≤ 16 ^ (k - 1) = pow-le-pow-right (omega arith) m in
-        absurd (omega arith)
-    by-size false e = omega (arith, ltb-false w k e, f .0)
 
 pub hex-is : (w n k : ℕ) → n < 16 ^ w → Fewest 16 w n k → digits 16 k n ≡ hex w n
 unfolding hex

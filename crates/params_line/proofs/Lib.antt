@@ -1,3 +1,4 @@
 pub mod Params
 pub mod Written
+pub mod Putting
 pub mod Laws

@@ -1,4 +1,4 @@
--- The fields of a params line, each at its place. Assumes nothing.
+-- The fields of a line, each at its place. Assumes nothing.
 use mathlib.Core.Path.{_≡_, refl, sym, ap, ap₂, _∙_}
 use mathlib.Core.Bool.{Bool, true, false, not, _&&_, true≢false, false≢true}
 use mathlib.Core.List.{List, [], _∷_}
@@ -8,11 +8,10 @@ use native.Mathlib.Omega.{arith}
 use borrow.Author.Tests.{lt-ltb, le-ltb}
 use lib.ListN.{length, getD, take, drop, length-drop, List·getD-eq-default}
 use lib.Seq.{take-all, take-take, drop-drop}
-use Rattle.exact.specs.F64.{f64}
 use Rattle.decimal.specs.Text.{tab, newline, same}
 use Rattle.hex.specs.Hex.{after, is-bits, bits-of}
 use Rattle.hex.specs.declared.Bits.{Bits}
-use Rattle.params_line.specs.Params.{params-word, field, fielded, patterns, many, is-params, params-of, at}
+use Rattle.params_line.specs.Params.{field, fielded, patterns, many, is-line, params-of}
 
 -- what `hex::after` finds in a part of at most 17 bytes
 pub in-chunk : (chunk : List ℕ) → length chunk ≤ 17 → after (tab ∷ []) chunk ≡ field chunk
@@ -95,33 +94,33 @@ param-at line k s e h a b bits f =
     ∙ sym (pattern-at (many line) k (drop 6 line) h)
 
 -- past the last there is none
-pub param-past : (line : List ℕ) (k : ℕ) → many line ≤ k → f64 0 ≡ at (params-of line) k
-param-past line k h = ap f64 (sym (List·getD-eq-default (params-of line) 0 {n = k} (omega (arith, params-length line))))
+pub param-past : (line : List ℕ) (k : ℕ) → many line ≤ k → 0 ≡ getD (params-of line) k 0
+param-past line k h = sym (List·getD-eq-default (params-of line) 0 {n = k} (omega (arith, params-length line)))
 
 -- what is left from i on, as the code takes it
 pub whole-from : (line : List ℕ) (i : ℕ) → same (take (length line - i) (drop i line)) (newline ∷ []) ≡ same (drop i line) (newline ∷ [])
 whole-from line i = ap (λ (s : List ℕ). same s (newline ∷ [])) (take-all (length line - i) (drop i line) (omega (arith, length-drop i line)))
 
--- ---- a params line, as the code judges it
+-- ---- a line, as the code judges it
 
-pub params-none : (line : List ℕ) → many line ≡ 0 → false ≡ is-params line
-unfolding is-params
-params-none line e = simp (le-ltb 0 (many line) (omega arith))
+pub no-fields : (word line : List ℕ) → many line ≡ 0 → false ≡ is-line word line
+unfolding is-line
+no-fields word line e = simp (le-ltb 0 (many line) (omega arith))
 
 pub pos : (m : ℕ) → (m ≡ 0 → ⊥) → 0 < m
 pos zero h = absurd (h refl)
 pos (suc m) h = omega arith
 
-module _ (line : List ℕ) (n : ℕ) (e : n ≡ many line) (some : n ≡ 0 → ⊥) where
+module _ (word line : List ℕ) (n : ℕ) (e : n ≡ many line) (some : n ≡ 0 → ⊥) where
   above : 0 < many line
   above = pos (many line) (λ z. some (e ∙ z))
 
-  pub params-some : same (take 6 line) params-word ≡ true → (r : Bool) → r ≡ fielded n (take (length line - 6) (drop 6 line)) → r ≡ is-params line
-  unfolding is-params
-  params-some w r f =
+  pub that-word : same (take 6 line) word ≡ true → (r : Bool) → r ≡ fielded n (take (length line - 6) (drop 6 line)) → r ≡ is-line word line
+  unfolding is-line
+  that-word w r f =
       let whole : take (length line - 6) (drop 6 line) ≡ drop 6 line = take-all (length line - 6) (drop 6 line) (omega (arith, length-drop 6 line)) in
       simp (lt-ltb 0 (many line) above, w) (f ∙ ap₂ fielded e whole)
 
-  pub params-other : same (take 6 line) params-word ≡ false → false ≡ is-params line
-  unfolding is-params
-  params-other w = simp (lt-ltb 0 (many line) above, w)
+  pub other-word : same (take 6 line) word ≡ false → false ≡ is-line word line
+  unfolding is-line
+  other-word w = simp (lt-ltb 0 (many line) above, w)

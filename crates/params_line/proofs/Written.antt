@@ -1,4 +1,4 @@
--- Reading turns writing back: the fields of a params line. Assumes nothing.
+-- Reading turns writing back: the fields of a line. Assumes nothing.
 use mathlib.Core.Path.{_≡_, refl, sym, ap, ap₂, _∙_}
 use mathlib.Core.Bool.{Bool, true, false, cond, _&&_, false≢true}
 use mathlib.Core.List.{List, [], _∷_, _++_}
@@ -17,7 +17,7 @@ use Rattle.hex.specs.declared.Bits.{Bits}
 use Rattle.hex.specs.declared.Bits.the-variants.{Of, None}
 use Rattle.hex.proofs.Laws.{written-spelled, spelled-written, spelled-short, after-rest}
 use Rattle.hex.proofs.Written.{none-of}
-use Rattle.params_line.specs.Params.{params-word, pattern, fields, params-line, field, fielded, patterns, many, is-params, params-of}
+use Rattle.params_line.specs.Params.{pattern, fields, word-line, field, fielded, patterns, many, is-line, params-of}
 use Rattle.params_line.proofs.Params.{params-length}
 
 -- ---- a field
@@ -71,47 +71,57 @@ fields-there (p ∷ params) e =
       ap₂ (λ (x : ℕ) (s : List ℕ). x ∷ s) (ap bits-of there) (ap (patterns (length params)) rest ∙ more .1),
     )
 
-length-fields : (params : List ℕ) → length (fields params) ≡ length params * 17 + 1
+pub length-fields : (params : List ℕ) → length (fields params) ≡ length params * 17 + 1
 unfolding fields
 length-fields [] = refl
 length-fields (p ∷ params) = omega (arith, length-append (digits 16 16 p) (fields params), length-digits 16 16 p, length-fields params)
 
--- ---- the params line
+-- ---- the line
 
-module _ (params : List ℕ) where
-  many-there : many (params-line params) ≡ length params
-  unfolding params-line
-  many-there = omega (arith, length-fields params)
+module _ (word : List ℕ) (six : length word ≡ 6) (numbers : List ℕ) where
+  word-there : take 6 (word-line word numbers) ≡ word
+  unfolding word-line
+  word-there = take-at word (fields numbers) 6 six
 
-  pub params-there : 1 ≤ length params → all pattern params ≡ true → (is-params (params-line params) ≡ true) × (params-of (params-line params) ≡ params)
-  unfolding params-line is-params params-of
-  params-there some e =
-      let there = fields-there params e in (
-        both (lt-ltb 0 (many (params-line params)) (omega (arith, many-there))) (both (same-self params-word) (ap (λ (n : ℕ). fielded n (fields params)) many-there ∙ there .0)),
-        ap (λ (n : ℕ). patterns n (fields params)) many-there ∙ there .1,
+  fields-behind : drop 6 (word-line word numbers) ≡ fields numbers
+  unfolding word-line
+  fields-behind = drop-at word (fields numbers) 6 six
+
+  many-there : many (word-line word numbers) ≡ length numbers
+  unfolding word-line
+  many-there = omega (arith, length-append word (fields numbers), length-fields numbers)
+
+  pub line-there : 1 ≤ length numbers → all pattern numbers ≡ true → (is-line word (word-line word numbers) ≡ true) × (params-of (word-line word numbers) ≡ numbers)
+  unfolding is-line params-of
+  line-there some e =
+      let there = fields-there numbers e in (
+        both
+            (lt-ltb 0 (many (word-line word numbers)) (omega (arith, many-there)))
+            (both (ap (λ (s : List ℕ). same s word) word-there ∙ same-self word) (ap₂ fielded many-there fields-behind ∙ there .0)),
+        ap₂ patterns many-there fields-behind ∙ there .1,
       )
 
-module _ (line : List ℕ) (e : is-params line ≡ true) where
-  word-and-fields : (same (take 6 line) params-word && fielded (many line) (drop 6 line)) ≡ true
-  unfolding is-params
-  word-and-fields = and-right (ltb 0 (many line)) (same (take 6 line) params-word && fielded (many line) (drop 6 line)) e
+module _ (word line : List ℕ) (e : is-line word line ≡ true) where
+  word-and-fields : (same (take 6 line) word && fielded (many line) (drop 6 line)) ≡ true
+  unfolding is-line
+  word-and-fields = and-right (ltb 0 (many line)) (same (take 6 line) word && fielded (many line) (drop 6 line)) e
 
-  pub params-many : 0 < many line
-  unfolding is-params
-  params-many = ltb-true 0 (many line) (and-left (ltb 0 (many line)) (same (take 6 line) params-word && fielded (many line) (drop 6 line)) e)
+  pub line-many : 0 < many line
+  unfolding is-line
+  line-many = ltb-true 0 (many line) (and-left (ltb 0 (many line)) (same (take 6 line) word && fielded (many line) (drop 6 line)) e)
 
   back : (drop 6 line ≡ fields (params-of line)) × (all pattern (params-of line) ≡ true)
   unfolding params-of
-  back = fields-back (many line) (drop 6 line) (and-right (same (take 6 line) params-word) (fielded (many line) (drop 6 line)) word-and-fields)
+  back = fields-back (many line) (drop 6 line) (and-right (same (take 6 line) word) (fielded (many line) (drop 6 line)) word-and-fields)
 
-  pub params-back : line ≡ params-line (params-of line)
-  unfolding params-line
-  params-back =
+  pub line-back : line ≡ word-line word (params-of line)
+  unfolding word-line
+  line-back =
       sym (take-append-drop 6 line)
-      ∙ ap₂ (λ (s t : List ℕ). s ++ t) (same-true (take 6 line) params-word (and-left (same (take 6 line) params-word) (fielded (many line) (drop 6 line)) word-and-fields)) (back .0)
+      ∙ ap₂ (λ (s t : List ℕ). s ++ t) (same-true (take 6 line) word (and-left (same (take 6 line) word) (fielded (many line) (drop 6 line)) word-and-fields)) (back .0)
 
-  pub params-patterns : all pattern (params-of line) ≡ true
-  params-patterns = back .1
+  pub line-patterns : all pattern (params-of line) ≡ true
+  line-patterns = back .1
 
-  pub params-some : 1 ≤ length (params-of line)
-  params-some = omega (arith, params-length line, params-many)
+  pub line-some : 1 ≤ length (params-of line)
+  line-some = omega (arith, params-length line, line-many)

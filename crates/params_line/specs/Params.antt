@@ -1,5 +1,5 @@
--- A params line, as it is written and as it is read (docs/RULES.md, 16.1): the word, then a tab and 16 digits for each
--- parameter, then a newline and no more. Definitions only.
+-- A line of bit patterns, as it is written and as it is read (docs/RULES.md, 16.1): a word of six letters, then a tab
+-- and 16 digits for each pattern, then a newline and no more. A params line is one. Definitions only.
 use mathlib.Core.Bool.{Bool, _&&_}
 use mathlib.Core.List.{List, [], _∷_, _++_}
 use Prim.Native.Nat.{ℕ, zero, suc, _-_, _/_, _^_}
@@ -27,8 +27,11 @@ unfoldable pub fields : List ℕ → List ℕ
 fields [] = newline ∷ []
 fields (bits ∷ rest) = tab ∷ digits 16 16 bits ++ fields rest
 
-unfoldable pub params-line : List ℕ → List ℕ
-params-line params = params-word ++ fields params
+unfoldable pub word-line : List ℕ → List ℕ → List ℕ
+word-line word numbers = word ++ fields numbers
+
+abbrev pub params-line : List ℕ → List ℕ
+params-line params = word-line params-word params
 
 -- ---- read
 
@@ -49,9 +52,14 @@ patterns (suc n) rest = bits-of (field rest) ∷ patterns n (drop 17 rest)
 abbrev pub many : List ℕ → ℕ
 many line = (length line - 6) / 17
 
-unfoldable pub is-params : List ℕ → Bool
-is-params line = ltb 0 (many line) && (same (take 6 line) params-word && fielded (many line) (drop 6 line))
+-- one field or more, and the word before them
+unfoldable pub is-line : List ℕ → List ℕ → Bool
+is-line word line = ltb 0 (many line) && (same (take 6 line) word && fielded (many line) (drop 6 line))
 
+abbrev pub is-params : List ℕ → Bool
+is-params line = is-line params-word line
+
+-- its patterns, whatever the word
 unfoldable pub params-of : List ℕ → List ℕ
 params-of line = patterns (many line) (drop 6 line)
 

@@ -6,7 +6,7 @@ use lib.ListN.{length-take}
 use Rattle.decimal.specs.Text.{tab}
 use Rattle.camera_file.specs.Asked.{told-file}
 use Rattle.decimal.proofs.Bytes.{matched}
-use Rattle.camera_file.proofs.Bytes.{place-within}
+use Rattle.decimal.proofs.Parts.{place-within}
 use Rattle.camera_file.proofs.Stages.{not-file, too-long, other-word, whole}
 use borrow.Author.Needs.{needs}
 use Rattle.camera_file.proofs.parse.Statement.{statement}

@@ -1,19 +1,18 @@
 -- `params_line::at` meets its contract. Assumes nothing.
-use mathlib.Core.Path.{_∙_}
-use native.Mathlib.Omega.{arith}
+use mathlib.Core.Path.{ap, _∙_}
+use Rattle.exact.specs.F64.{f64}
 use borrow.Author.Needs.{needs}
-use denote.Ref.{now}
-use Rattle.params_line.proofs.Params.{param-past}
 use Rattle.params_line.proofs.at.Statement.{statement}
 use Rattle.params_line.proofs.at.Tie as tie
 
-returns : tie.Need-returns
-returns c = c .field-at .ensures
+bits-at-requires : tie.Need-bits-at-requires
+bits-at-requires c κs = search needs
 
-returns-2 : tie.Need-returns-2
-returns-2 c =
-    let a = c .before .before .before .before .args in
-    c .of-bits .ensures ∙ param-past (now (a .line)) (a .k) (omega (arith, c .before .before .many .ensures, c .before .if1 .left))
+of-bits-requires : tie.Need-of-bits-requires
+of-bits-requires c κs = search needs
+
+returns : tie.Need-returns
+returns c = c .of-bits .ensures ∙ ap f64 (c .before .bits-at .ensures)
 
 pub at-spec : {M : Type 1} → statement M
-at-spec = tie.close (tie.spec (λ c κs. search needs) (λ c κs. search needs) (λ c κs. search needs) returns returns-2)
+at-spec = tie.close (tie.spec bits-at-requires of-bits-requires returns)

@@ -1,6 +1,5 @@
 -- `params_line::field_at` meets its contract: the k-th field stands k times 17 bytes after the word. Assumes nothing.
 use mathlib.Core.Path.{sym, ap, refl, _∙_}
-use Rattle.exact.specs.F64.{f64}
 use Rattle.hex.specs.Hex.{bits-of}
 use Rattle.params_line.proofs.Params.{param-at}
 use borrow.Author.Needs.{needs}
@@ -34,28 +33,14 @@ after-requires c κs = search needs
 enum-known-bits : tie.Need-enum-known-bits
 enum-known-bits c = search needs
 
-of-bits-requires : tie.Need-of-bits-requires
-of-bits-requires c κs = search needs
-
 enum-told : tie.Need-enum-told
 enum-told c = search needs
 
-of-bits-requires-2 : tie.Need-of-bits-requires-2
-of-bits-requires-2 c κs = search needs
-
 returns : tie.Need-returns
-returns c =
-    c .of-bits .ensures
-    ∙ ap f64
-    (sym (ap bits-of (c .before .before .bits .given .1))
-    ∙ param-at _ _ _ _ (c .before .before .before .before .before .before .before .before .pre) refl refl _ (c .before .before .before .before .after .ensures))
+returns c = sym (ap bits-of (c .before .bits .given .1)) ∙ param-at _ _ _ _ (c .before .before .before .before .before .before .before .pre) refl refl _ (c .before .before .before .after .ensures)
 
 returns-2 : tie.Need-returns-2
-returns-2 c =
-    c .of-bits2 .ensures
-    ∙ ap f64
-    (sym (ap bits-of (c .before .enum-told .given .1))
-    ∙ param-at _ _ _ _ (c .before .before .before .before .before .before .before .pre) refl refl _ (c .before .before .before .after .ensures))
+returns-2 c = sym (ap bits-of (c .enum-told .given .1)) ∙ param-at _ _ _ _ (c .before .before .before .before .before .before .pre) refl refl _ (c .before .before .after .ensures)
 
 pub field-at-spec : {M : Type 1} → statement M
 field-at-spec =
@@ -70,8 +55,6 @@ field-at-spec =
     part-after-end
     after-requires
     enum-known-bits
-    of-bits-requires
     enum-told
-    of-bits-requires-2
     returns
     returns-2)

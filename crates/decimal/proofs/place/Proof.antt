@@ -1,13 +1,13 @@
--- `camera_file::place` meets its contract. The loop's invariant: the first b stands i bytes after the first of what is left. Assumes nothing.
+-- `decimal::place` meets its contract. The loop's invariant: the first b stands i bytes after the first of what is left. Assumes nothing.
 use mathlib.Core.Path.{_≡_}
 use Prim.Native.Nat.{_+_, _-_, _≤_}
 use native.Mathlib.Omega.{arith}
 use lib.ListN.{length, drop}
-use Rattle.camera_file.specs.Reading.{place}
-use Rattle.camera_file.proofs.Bytes.{place-here, place-on, place-none}
+use Rattle.decimal.specs.Text.{place}
+use Rattle.decimal.proofs.Parts.{place-here, place-on, place-none}
 use borrow.Author.Needs.{needs}
-use Rattle.camera_file.proofs.place.Statement.{statement}
-use Rattle.camera_file.proofs.place.Tie as tie
+use Rattle.decimal.proofs.place.Statement.{statement}
+use Rattle.decimal.proofs.place.Tie as tie
 
 abbrev Inv-loop : tie.InvT-loop
 Inv-loop text b i₀ i = (i ≤ length text) × (place b text ≡ i + place b (drop i text))
