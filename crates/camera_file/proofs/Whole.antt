@@ -1,14 +1,12 @@
 -- Reading turns writing back, for the whole text. Assumes nothing.
 use mathlib.Core.Path.{_≡_, refl, sym, ap, ap₂, _∙_}
-use mathlib.Core.Bool.{Bool, true, false, not, cond, _&&_, true≢false}
-use mathlib.Core.List.{List, [], _∷_, _++_, append-assoc}
-use Prim.Native.Nat.{ℕ, suc, _+_, _≤_, _<_}
-use native.Mathlib.Numerals.{add-one}
+use mathlib.Core.Bool.{true, _&&_}
+use mathlib.Core.List.{List, _∷_, _++_, append-assoc}
+use Prim.Native.Nat.{ℕ, _+_, _≤_, _<_}
 use native.Mathlib.Omega.{arith}
-use borrow.Author.Tests.{eq-eqb, ne-eqb, eqb-true, not-true, le-leb, leb-true, lt-ltb, ltb-true}
-use lib.Dec.{eqb, leb, ltb}
-use lib.ListN.{length, getD, take, drop, length-take, length-drop}
-use lib.Seq.{take-append-seam, drop-append-add, split-at}
+use borrow.Author.Tests.{le-leb, leb-true, lt-ltb, ltb-true}
+use lib.Dec.{leb, ltb}
+use lib.ListN.{length, length-take}
 use Rattle.decimal.specs.Decimal.{decimal, digit, worth, is-number}
 use Rattle.decimal.specs.Text.{tab, newline, all, same, place, before, past}
 use Rattle.decimal.proofs.Bytes.{and-left, and-right, both, same-self, same-true}

@@ -30,11 +30,11 @@ module _ (test : ℕ → Bool) (l : List ℕ) (i : ℕ) (h : i < length l) where
   unfolding all
   judged b e = rw (e, add-one, drop-cons l i 0) refl
 
-  pub ends : (b : Bool) → b ≡ test (getD l i 0) → not b ≡ true → all test (drop i l) ≡ all test l → false ≡ all test l
+  pub ends : {x : Bool} (b : Bool) → b ≡ test (getD l i 0) → not b ≡ true → all test (drop i l) ≡ x → false ≡ x
   ends true e n d = absurd (false≢true n)
   ends false e n d = sym (judged false e) ∙ d
 
-  pub goes-on : (b : Bool) → b ≡ test (getD l i 0) → not b ≡ false → all test (drop i l) ≡ all test l → all test (drop (i + 1) l) ≡ all test l
+  pub goes-on : {x : Bool} (b : Bool) → b ≡ test (getD l i 0) → not b ≡ false → all test (drop i l) ≡ x → all test (drop (i + 1) l) ≡ x
   goes-on true e n d = sym (judged true e) ∙ d
   goes-on false e n d = absurd (true≢false n)
 

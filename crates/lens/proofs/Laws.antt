@@ -1,12 +1,10 @@
 -- What a caller may rely on, of the definitions of specs/ and of the contracts of src/. Assumes nothing.
 use mathlib.Core.Path.{_≡_, refl, sym, ap, _∙_}
-use mathlib.Core.Bool.{cond}
 use mathlib.Core.List.{List, [], _∷_, _++_}
-use mathlib.Core.Logic.{_⊎_, inl, inr}
 use Prim.Native.Nat.{ℕ, zero, suc, _+_, _-_, _≤_, _<_}
 use native.Mathlib.Nat.{add-zero, le-of-suc-le-suc, not-suc-le-zero}
 use native.Mathlib.Omega.{arith}
-use lib.Dec.{eqb, lit≤}
+use lib.Dec.{lit≤}
 use lib.Ieee.{Float}
 use lib.ListN.{length, getD, length-append, List·getD-append, List·getD-eq-default, List·getD-map}
 use lib.Seq.{getD-append-add}
@@ -23,7 +21,7 @@ use Rattle.lens.specs.declared.Judgement.the-variants as judged
 use Rattle.lens.specs.Undistorted.{Told, told}
 use Rattle.lens.specs.declared.Pixel.{Pixel}
 use Rattle.lens.specs.declared.Refusal.{Refusal}
-use Rattle.lens.specs.declared.Refusal.the-variants.{UnknownModel, NoParameterJacobian, WrongCount, NotFinite, ZeroFocalLength, WrongSize, WrongLength, IncrementNotPositive, OutsideTable, AngleTooLarge, AnswerNotFinite, CellInfinite, ImpossibleRecord, NotTheForm, SizesDiffer, RayNotForward, SampleUnsettled, TooFar}
+use Rattle.lens.specs.declared.Refusal.the-variants.{UnknownModel, NoParameterJacobian, WrongCount, NotFinite, ZeroFocalLength, WrongSize, WrongLength, IncrementNotPositive, OutsideTable, AngleTooLarge, AnswerNotFinite, CellInfinite, ImpossibleRecord, NotTheForm, SizesDiffer, RayNotForward, NotOurs, SampleUnsettled, TooFar}
 use Rattle.lens.specs.declared.Settled.{Settled}
 use Rattle.lens.specs.declared.Undistorted.{Undistorted}
 use Rattle.lens.specs.declared.Undistorted.the-variants.{At, Refused}
@@ -40,15 +38,15 @@ use Rattle.lens.proofs.finite_pixel.Reads as finite-pixel-contract
 
 -- ---- refusals
 
--- by their numbers, from 1 to 16; behind them stand 18 and 19, and no refusal has 17
+-- by their numbers, from 1 on
 refusals : List Refusal
 refusals =
     UnknownModel ∷ NoParameterJacobian ∷ WrongCount ∷ NotFinite ∷ ZeroFocalLength ∷ WrongSize ∷ WrongLength
     ∷ IncrementNotPositive ∷ OutsideTable ∷ AngleTooLarge ∷ AnswerNotFinite ∷ CellInfinite ∷ ImpossibleRecord ∷ NotTheForm
-    ∷ SizesDiffer ∷ RayNotForward ∷ []
+    ∷ SizesDiffer ∷ RayNotForward ∷ NotOurs ∷ SampleUnsettled ∷ TooFar ∷ []
 
 abbrev numbered : ℕ → Refusal
-numbered n = cond (eqb n 19) TooFar (cond (eqb n 18) SampleUnsettled (getD refusals (n - 1) RayNotForward))
+numbered n = getD refusals (n - 1) TooFar
 
 listed : (r : Refusal) → (1 ≤ number r) × (number r ≤ 19) × (numbered (number r) ≡ r)
 unfolding refusals
@@ -68,6 +66,7 @@ listed ImpossibleRecord = (lit≤ tt, lit≤ tt, refl)
 listed NotTheForm = (lit≤ tt, lit≤ tt, refl)
 listed SizesDiffer = (lit≤ tt, lit≤ tt, refl)
 listed RayNotForward = (lit≤ tt, lit≤ tt, refl)
+listed NotOurs = (lit≤ tt, lit≤ tt, refl)
 listed SampleUnsettled = (lit≤ tt, lit≤ tt, refl)
 listed TooFar = (lit≤ tt, lit≤ tt, refl)
 
@@ -89,13 +88,13 @@ number-one-to-one a b e = sym (listed a .2) ∙ ap numbered e ∙ listed b .2
 pub number-within : (r : Refusal) → (1 ≤ number r) × (number r ≤ 19)
 number-within r = (listed r .0, listed r .1)
 
--- Each of 1 to 16, 18 and 19 is the number of some refusal.
-pub number-each : (n : ℕ) → 1 ≤ n → (n ≤ 16) ⊎ ((n ≡ 18) ⊎ (n ≡ 19)) → (r : Refusal) × (number r ≡ n)
+-- Each of 1 to 19 is the number of some refusal.
+pub number-each : (n : ℕ) → 1 ≤ n → n ≤ 19 → (r : Refusal) × (number r ≡ n)
 unfolding refusals
-number-each n low (inl high) =
-    (getD refusals (n - 1) RayNotForward, sym (List·getD-map number refusals (n - 1) RayNotForward) ∙ counted-at 1 16 (n - 1) 16 (omega arith) ∙ omega arith)
-number-each n low (inr (inl e)) = (SampleUnsettled, sym e)
-number-each n low (inr (inr e)) = (TooFar, sym e)
+number-each n low high = (
+  numbered n,
+  sym (List·getD-map number refusals (n - 1) TooFar) ∙ counted-at 1 19 (n - 1) 19 (omega arith) ∙ omega arith,
+)
 
 -- What a judgement's number says determines it.
 pub verdict-one-to-one : (a b : Judgement) → verdict a ≡ verdict b → a ≡ b

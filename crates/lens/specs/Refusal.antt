@@ -1,7 +1,7 @@
 -- The number of each refusal. Definitions only.
 use Prim.Native.Nat.{ℕ}
 use Rattle.lens.specs.declared.Refusal.{Refusal}
-use Rattle.lens.specs.declared.Refusal.the-variants.{UnknownModel, NoParameterJacobian, WrongCount, NotFinite, ZeroFocalLength, WrongSize, WrongLength, IncrementNotPositive, OutsideTable, AngleTooLarge, AnswerNotFinite, CellInfinite, ImpossibleRecord, NotTheForm, SizesDiffer, RayNotForward, SampleUnsettled, TooFar}
+use Rattle.lens.specs.declared.Refusal.the-variants.{UnknownModel, NoParameterJacobian, WrongCount, NotFinite, ZeroFocalLength, WrongSize, WrongLength, IncrementNotPositive, OutsideTable, AngleTooLarge, AnswerNotFinite, CellInfinite, ImpossibleRecord, NotTheForm, SizesDiffer, RayNotForward, NotOurs, SampleUnsettled, TooFar}
 
 abbrev pub number : Refusal → ℕ
 number UnknownModel = 1
@@ -20,5 +20,6 @@ number ImpossibleRecord = 13
 number NotTheForm = 14
 number SizesDiffer = 15
 number RayNotForward = 16
+number NotOurs = 17
 number SampleUnsettled = 18
 number TooFar = 19

@@ -92,6 +92,8 @@ pub enum Refusal {
     SizesDiffer,
     // the ray of a pixel doesn't point forwards: its point would be mirrored, or nowhere
     RayNotForward,
+    // an OpenCV camera that our parameters can't hold
+    NotOurs,
     // a strict job met a border sample that didn't settle
     SampleUnsettled,
     // too far for a cell of sixteen bits
@@ -126,6 +128,7 @@ pub fn number(refusal: Refusal) -> u8
         Refusal::NotTheForm => 14,
         Refusal::SizesDiffer => 15,
         Refusal::RayNotForward => 16,
+        Refusal::NotOurs => 17,
         Refusal::SampleUnsettled => 18,
         Refusal::TooFar => 19,
     }

@@ -24,7 +24,8 @@ pub line-written :
     → (is-line word (word-line word numbers) ≡ true) × (params-of (word-line word numbers) ≡ numbers)
 line-written = line-there
 
--- A text that is read as a line of a word is what is written of its patterns, of which there is one or more, each of an f64.
+-- A text that is read as a line of a word is what is written of its patterns, of which there is one or more, each of an
+-- f64.
 pub line-read :
     (word line : List ℕ) → is-line word line ≡ true
     → (line ≡ word-line word (params-of line)) × (1 ≤ length (params-of line)) × (all pattern (params-of line) ≡ true)

@@ -2,7 +2,7 @@
 use mathlib.Core.Path.{_≡_, refl, sym, ap, ap₂, _∙_}
 use mathlib.Core.Bool.{Bool, true, false, not}
 use mathlib.Core.List.{List, [], _∷_, _++_}
-use Prim.Native.Nat.{ℕ, suc, _+_, _*_, _^_, _≤_, _<_}
+use Prim.Native.Nat.{ℕ, _+_, _*_, _^_, _≤_, _<_}
 use native.Mathlib.Numerals.{add-one}
 use native.Mathlib.Omega.{arith}
 use borrow.Author.Tests.{le-leb, lt-leb, leb-true, leb-false, not-true, not-false}
@@ -108,14 +108,14 @@ same-test a b c d f g = by-value (leb a b) refl
     by-value true e = e ∙ sym (le-leb c d (f (leb-true a b e)))
     by-value false e = e ∙ sym (lt-leb c d (g (leb-false a b e)))
 
-module _ (out : List ℕ) (at : ℕ) (word numbers : List ℕ) (t : Bool) (e : t ≡ leb (at + (length word + (length numbers * 17 + 1))) (length out)) where
-  line-long : length (word-line word numbers) ≡ length word + (length numbers * 17 + 1)
-  unfolding word-line
-  line-long = length-append word (fields numbers) ∙ ap (λ (n : ℕ). length word + n) (length-fields numbers)
+pub line-long : (word numbers : List ℕ) → length (word-line word numbers) ≡ length word + (length numbers * 17 + 1)
+unfolding word-line
+line-long word numbers = length-append word (fields numbers) ∙ ap (λ (n : ℕ). length word + n) (length-fields numbers)
 
+module _ (out : List ℕ) (at : ℕ) (word numbers : List ℕ) (t : Bool) (e : t ≡ leb (at + (length word + (length numbers * 17 + 1))) (length out)) where
   pub line-left : not t ≡ true → written out at ≡ placed (written out at) (word-line word numbers)
   line-left f =
-      not-placed out at (word-line word numbers) (omega (arith, line-long, leb-false (at + (length word + (length numbers * 17 + 1))) (length out) (sym e ∙ not-true t f)))
+      not-placed out at (word-line word numbers) (omega (arith, line-long word numbers, leb-false (at + (length word + (length numbers * 17 + 1))) (length out) (sym e ∙ not-true t f)))
 
   module _ (f : not t ≡ false) where
     whole-fits : at + (length word + (length numbers * 17 + 1)) ≤ length out

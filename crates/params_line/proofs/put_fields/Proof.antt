@@ -1,6 +1,5 @@
 -- `params_line::put_fields` meets its contract. The loop's invariant: what is left, put from here on, makes the whole. Assumes nothing.
 use Prim.Native.Nat.{_-_}
-use native.Mathlib.Omega.{arith}
 use lib.ListN.{length}
 use borrow.Author.Needs.{needs}
 use Rattle.params_line.proofs.Putting.{Going, none-put, one-put, all-put}

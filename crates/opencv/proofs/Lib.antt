@@ -1,0 +1,6 @@
+pub mod Judging
+pub mod Answers
+pub mod Short
+pub mod Reading
+pub mod Round
+pub mod Laws
