@@ -206,7 +206,8 @@ uint8_t lens_dx_distort_params(uint8_t model, const uint8_t *params, size_t para
 #define LENS_JOB_WIDTH 136     /* uint32_t */
 #define LENS_JOB_HEIGHT 140    /* uint32_t */
 #define LENS_JOB_DONE 144      /* uint64_t: units done */
-#define LENS_JOB_EDGES 152     /* the box of the points so far, in a region's form; zeros until the first sample */
+#define LENS_JOB_EDGES 152     /* the box of the points so far, in a region's form; zeros until the first sample. A zero
+                                  among them may have the other sign than lens_undistort gives */
 #define LENS_JOB_REGION 184    /* the table's region; zeros until the border is done */
 #define LENS_JOB_UNSETTLED 216 /* uint32_t: how many of the samples done have not settled */
 #define LENS_JOB_FIRST 220     /* uint32_t: the position of the first of these, counted from 1; 0 for none */

@@ -178,7 +178,7 @@ def fresh(camera, w, h, strict=False):
 
 def found(camera, pixel):
     """What a sample finds at its pixel: the model's answer, and for a bc camera whose k4, k5 and k6 are zeros that of the
-    short engine, which differs in signs of zeros alone (RULES 12.2)."""
+    short engine, which differs in signs of zeros alone (RULES 12.10)."""
     model, params = camera
     if not no_quotient(model, params):
         return answer(model, UNDISTORT, params, *pixel)

@@ -322,9 +322,17 @@ def part(text):
     return len(text).to_bytes(4, "little") + text
 
 
-# One pair for the program itself: updates, an edge of the region, the first cell and the last.
-MOVED = (0xC0000001, 0xBFC00000), *PAIRS[1:5], (0x40800000, 0x40200010)
-PAIR = OLD, written(3, 2, 41, (*EDGES[:3], EDGES[3] ^ 1), MOVED)
+# The example of RULES 16.6: updates, an edge of the region, the first cell and the last.
+BY_HAND = written(3, 2, 41, (*EDGES[:3], EDGES[3] ^ 1), [(0xC0000001, 0xBFC00000), *PAIRS[1:5], (0x40800000, 0x40200010)])
+
+# One pair for the program itself, 40 by 40: updates, an edge of the region, and every cell but each seventh. Both files and what is
+# told of them are several times as long as what the program holds.
+CELLS = [(0x3F800000 + n, 0xC0000000 + 3 * n) for n in range(1600)]
+MOVED = [(a, b ^ 1) if n % 2 else (a ^ 0x80000000, b) for n, (a, b) in enumerate(CELLS)]
+PAIR = (
+    written(40, 40, 0, EDGES, CELLS),
+    written(40, 40, 41, (*EDGES[:3], EDGES[3] ^ 1), [old if n % 7 == 0 else new for n, (old, new) in enumerate(zip(CELLS, MOVED))]),
+)
 
 
 def files():
@@ -358,11 +366,12 @@ def written_again(text):
 
 def self_test():
     assert OLD == printed(EXAMPLE)
-    assert compared(*PAIR).replace(b"\t", b" ").decode().splitlines() == [
+    assert compared(OLD, BY_HAND).replace(b"\t", b" ").decode().splitlines() == [
         "table 3 2 0", "table 3 2 41",
         "region c000000000000000 bff8000000000000 4010000000000000 4004000000000000",
         "region c000000000000000 bff8000000000000 4010000000000000 4004000000000001",
         "0 0 c0000000 bfc00000 c0000001 bfc00000", "2 1 40800000 40200000 40800000 40200010", "count 2"]  # fmt: skip
+    assert compared(*PAIR).endswith(b"\ncount\t1371\n") and all(len(text) > 8 * 4096 for text in (*PAIR, compared(*PAIR)))
     texts = {text for _, old, new, _ in cases() for text in (old, new)}
     for text in texts:
         assert (read(text) is not None) == written_again(text), text[:200]

@@ -207,7 +207,8 @@ def refusals():
     for n in range(1, 16):
         if n not in TAKEN:
             yield 17, f"{n} coefficients", pair(M, coefficients(n))
-    yield 17, "223 coefficients, the most that fit", pair(M, [ZERO] * 223)
+    yield 17, "231 coefficients, the most that fit", pair(M, [ZERO] * 231)
+    yield 14, "232 coefficients, more than fit", pair(M, [ZERO] * 232)
     for n in (12, 14):
         for place in range(8, n):
             for pattern in (LEAST, ONE, NAN, MINUS_INF):

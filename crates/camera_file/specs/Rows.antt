@@ -12,7 +12,7 @@ use Rattle.camera_file.specs.Asked.{model}
 use Rattle.camera_file.specs.declared.Named.{Named}
 use Rattle.camera_file.specs.declared.Named.the-variants.{Known, Unknown}
 
--- 1: the name is none of the four
+-- 1: the name is no model's
 abbrev pub is-unknown : Named → Bool
 is-unknown (Known m) = false
 is-unknown Unknown = true

@@ -55,7 +55,7 @@ all-counted count (s ∷ old) (t ∷ new) = all-counted (counted count (told s t
 all-counted count [] new = count
 all-counted count (s ∷ old) [] = count
 
--- all that the program prints: both texts are judged, and if they are taken, compared
+-- what judging and comparing line by line gives: both texts are judged, and if they are taken, compared
 unfoldable pub by-lines : List ℕ → List ℕ → List ℕ
 by-lines old new =
     let s = cut longest old in

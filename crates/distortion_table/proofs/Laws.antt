@@ -12,6 +12,7 @@ use Rattle.lens.specs.declared.Judgement.the-variants.{Taken}
 use Rattle.lens.proofs.Laws.{number-one-to-one}
 use Rattle.camera.specs.Camera.{limit}
 use Rattle.camera.specs.declared.Camera.{Camera}
+use Rattle.engine.specs.Engine.{short-for}
 use Rattle.camera.proofs.Laws.{updates-limit-judged}
 use Rattle.border.specs.Border.{samples, all-units, border-at, samples-twice}
 use Rattle.turns.specs.Turns.{Said, refused, running, Turn, turn, total}
@@ -93,6 +94,15 @@ module _ {X : Type 0} (t : Turns X) (camera : Camera) (width height : ℕ) (stri
         same-strict = k .strict;
         built = tables.built-full (t .kind) camera width height strict table _ (held-state last) (made-in-turns allowances last calls);
       }
+
+  -- For any other camera than a bc whose k4, k5 and k6 are zeros not even a zero's sign differs.
+  pub built-exactly :
+      short-for camera ≡ false
+      → (allowances : List ℕ) (last : Held X) (calls : Build (Held X) (t .Called) allowances start last)
+      → Built plan table (allowed (held-plan (t .kind)) held-state allowances start last calls) (held-state last)
+  built-exactly e allowances last calls =
+      subst (λ (p : Plan X). Built p table (allowed (held-plan (t .kind)) held-state allowances start last calls) (held-state last))
+      (tables.own-plan (t .kind) camera width height strict e) (made-in-turns allowances last calls)
 
   module _ (allowances : List ℕ) (last : Held X) (calls : Build (Held X) (t .Called) allowances start last) where
     abbrev whole : BuiltAlike plan table (allowed (held-plan (t .kind)) held-state allowances start last calls) (held-state last)

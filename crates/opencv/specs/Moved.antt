@@ -82,7 +82,7 @@ their-coeffs n = n .k1 ∷ n .k2 ∷ n .p1 ∷ n .p2 ∷ n .k3 ∷ n .k4 ∷ n .
 
 -- ---- the refusals: rows in the order they are tried
 
--- 17 for all but these: a matrix of nine, with zeros for the skew and the lower entries, and 1 last
+-- 17 for all but these: zeros for the skew and the lower entries of the matrix, and 1 last
 unfoldable pub fixed : List ℕ → Bool
 fixed m =
     zero-bits (getD m 1 0) && (zero-bits (getD m 3 0) && (zero-bits (getD m 6 0) && (zero-bits (getD m 7 0)
@@ -92,7 +92,7 @@ fixed m =
 unfoldable pub counted : ℕ → Bool
 counted n = eqb n 4 || (eqb n 5 || (eqb n 8 || (eqb n 12 || eqb n 14)))
 
--- of which those past the eighth are zeros
+-- a matrix of nine, and coefficients of which those past the eighth are zeros
 unfoldable pub plain : List ℕ → List ℕ → Bool
 plain m c = (eqb (length m) 9 && fixed m) && (counted (length c) && all zero-bits (drop 8 c))
 

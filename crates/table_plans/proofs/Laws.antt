@@ -1,6 +1,6 @@
 -- What a caller may rely on, of the plans of our tables. Assumes nothing.
-use mathlib.Core.Path.{_≡_, refl}
-use mathlib.Core.Bool.{Bool, true}
+use mathlib.Core.Path.{_≡_, refl, ap}
+use mathlib.Core.Bool.{Bool, true, false}
 use mathlib.Core.List.{List}
 use Prim.Native.Nat.{ℕ, _+_, _*_, _≤_}
 use native.Mathlib.Nat.{le-trans, le-refl, mul-le-mul, min-le-right}
@@ -10,6 +10,7 @@ use Rattle.region.specs.declared.Region.{Region}
 use Rattle.region.proofs.Size.{is-sized}
 use Rattle.camera.specs.Camera.{limit}
 use Rattle.camera.specs.declared.Camera.{Camera}
+use Rattle.engine.specs.Engine.{short-for}
 use Rattle.border.specs.Border.{samples}
 use Rattle.plans.specs.Built.{doable, says-at, Built}
 use Rattle.plans.specs.Calls.{possible, admitted, judged}
@@ -18,7 +19,7 @@ use Rattle.plans.specs.Thinned.{SameTable}
 use Rattle.plans.proofs.Laws.{built-limit}
 use Rattle.alike_plans.specs.AlikePlans.{BuiltAlike}
 use Rattle.alike_plans.proofs.Laws.{table-same, says-same}
-use Rattle.table_plans.specs.Tables.{full, picked, Kind, full-table, table-of, table-before}
+use Rattle.table_plans.specs.Tables.{full, engine-by, picked, sweep-with, table-by, Kind, full-table, table-of, table-before}
 use Rattle.table_plans.proofs.Corners.{once-as-twice}
 use Rattle.table_plans.proofs.Picked.{points-alike, cells-same}
 use Rattle.table_plans.proofs.Sound.{full-sure, Fit, kind-sound}
@@ -55,6 +56,13 @@ module _ {X : Type 0} (kind : Kind X) (camera : Camera) (width height : ℕ) (st
   -- updates and the tallies; the sign of a zero may differ in an edge that the record keeps, and nowhere else.
   pub built-full : (table : List X) (A : ℕ) (s : State X) → Built made table A s → BuiltAlike said table A s
   built-full = table-same said (picked camera .undistort) (made .cell) (points-alike camera) cells-so
+
+  -- For any other camera than a bc whose k4, k5 and k6 are zeros the two plans are one.
+  pub own-plan : short-for camera ≡ false → made ≡ said
+  own-plan e =
+      ap
+      (λ (mark : Bool). table-by (sweep-with (engine-by mark camera) camera width height strict) (engine-by mark camera) (kind .holds))
+      e
 
   -- Both can do as many units, and are refused with the same number there: a turn says the same.
   pub says-full : (from allowance n : ℕ) → n ≤ doable said → says-at made from allowance n ≡ says-at said from allowance n
