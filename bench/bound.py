@@ -21,12 +21,15 @@ A model's part. The camera is an enum, and a function that asks for its model do
 is that of the numbers. For a model only its entry is followed in the functions of MODEL_TABLES; what each entry leads to is looked at, so that
 another table in its place is noticed. Elsewhere all ways are followed: the figure is then too high and never too low.
 
+The short engine. Only bc comes to it (engine::short_for, proved), and a point that it can't do is done again by the full one: what bc
+takes at most is one behind the other. Bounds(archive, "full") and Bounds(archive, "short") have bc by one engine alone.
+
 The stack. What a function pushes and reserves at its deepest, the 8 bytes of its return address, the red zone below the stack pointer
 as far as it is touched, and at each call what the function called takes at most. An alignment counts as the most it can skip. What the
 caller of a C function passes on the stack isn't in it.
 
-memcpy and memset are the functions from outside, called by the turns and by the derivatives. Their own instructions and stack are not
-in the figures; how often they can be called is said."""
+memcpy and memset are the functions from outside, called by the turns, by each cell and by the derivatives. Their own instructions and
+stack are not in the figures; how often they can be called is said."""
 import re, sys
 from dataclasses import dataclass
 from functools import lru_cache
@@ -69,19 +72,21 @@ class Limit:
 LOOPS = [
     Limit("camera::undistort_judged", [r"cmp \$0x15,", r"divsd"], passes=20, first=True,
           why="kannala_brandt::newton, LIMIT = 20 (specs: newton, limit); the updates are counted from 1, and 21 ends it"),
-    Limit(["camera::undistort_judged"], [r"cmp \$0x32,", r"divpd|divsd"], many=True, passes=50,
+    Limit(["brown_conrady::undistort", "camera::undistort_judged"], [r"cmp \$0x32,", r"divpd|divsd"], many=True, passes=50,
           why="brown_conrady::newton and thin_prism::newton, LIMIT = 50 (specs: newton, limit); a pass that ends it early makes no update"),
+    Limit("distortion_table::up_to_cells", [r"cmp \$0x32,", r"divpd|divsd"], passes=50,
+          why="short_brown_conrady::newton, brown_conrady's LIMIT = 50 (specs: newton, limit); a pass that ends it early makes no update"),
     Limit(["camera::finite_parameters"], [r"cmp \$0xb,"], lacks=["call"], many=True, passes=12,
           why="lens::all_finite of bc's twelve, and of the same in bc12; the places are counted from 0, and 11 is the last"),
-    Limit(["camera_bytes::read", "camera_bytes::known"], [r"cmp \$0x10,"], lacks=["call"], many=True, passes=16,
+    Limit("camera_bytes::read", [r"cmp \$0x10,"], lacks=["call"], passes=16,
           why="camera_bytes::numbers: as many as any model has, MOST = 16; 16 ends it"),
     Limit(["lens_dx_distort_params"], [r"cmp \$0x21,", r"movsd"], lacks=["call"], many=True, passes=16,
           why="lens::two_rows: 32 numbers, two a pass, the place counted from 1; 33 ends it"),
-    Limit("distortion_table::up_to_cells", [r"call camera::undistort_judged"], unit="sample", by="camera::undistort_judged",
-          why="sweep::units: one call for each sample that is begun"),
-    Limit("lens_turn", [r"call camera::distort_judged"], unit="cell", by="camera::distort_judged",
-          why="distortion_table's fill: one call for each cell that is begun and whose point is finite; another ends the turn"),
-    Limit("lens_turn16", [r"call camera::distort_judged"], unit="cell", by="camera::distort_judged",
+    Limit("distortion_table::up_to_cells", [r"call camera::undistort_judged"], unit="sample",
+          why="sweep::units: a pass for each sample that is begun"),
+    Limit("lens_turn", [r"call engine::distort"], unit="cell", by="engine::distort",
+          why="distortion_table's fill: one call for each cell that is begun"),
+    Limit("lens_turn16", [r"call engine::distort"], unit="cell", by="engine::distort",
           why="the same, of sixteen bits"),
     Limit("lens_observe", [r"call camera::undistort_judged"], unit="observation",
           why="observation_bytes: a pass for each record, tested behind the pass, which is skipped for a list of none"),
@@ -89,7 +94,7 @@ LOOPS = [
 
 # little_endian's `last` has a loop that the compiler makes two of, four bytes a pass and one. Fewer than eight bytes are left there. Every C
 # function but lens_lookup has tested all lengths before it reads a number.
-PARTS = ["region_bytes::box_at", "camera_bytes::read", "camera_bytes::known", "lens_observe"]
+PARTS = ["region_bytes::box_at", "camera_bytes::read", "lens_observe"]
 TESTED = ["lens_distort", "lens_undistort", "lens_dx_distort_x", "lens_dx_distort_params", "lens_job_new", "lens_turn", "lens_turn16", "lens_observe"]
 LOOPS += [
     Limit(PARTS, [r"shl \$0x10,", "movzbl"], many=True, passes=1, never=TESTED,
@@ -104,6 +109,12 @@ LOOPS += [
 MODEL_TABLES = ["camera::distort_judged", "camera::undistort_judged", "lens_dx_distort_x", "lens_dx_distort_params"]
 BY_CALLS = [(False, False), (True, False), (True, True), (False, False), (False, False)]
 
+# Where the engines are told apart, and the one block of it that every path through each has: the short one's last test, of x - x, to which
+# only bc comes; what does its point again; and the call of the full one.
+ENGINES = {"engine::distort": (r"subsd (%xmm\d+),\1$", r"divsd ", r"call camera::distort_judged"),
+           "distortion_table::up_to_cells": (r"subsd (%xmm\d+),\1$", r"call brown_conrady::undistort", r"call camera::undistort_judged")}
+BC = MODELS.index("bc")
+
 # The functions that C has, in the header's order, and whether a model is handed in.
 FUNCTIONS = {"lens_distort": True, "lens_undistort": True, "lens_dx_distort_x": True, "lens_dx_distort_params": True,
              "lens_job_new": True, "lens_turn": True, "lens_turn16": True, "lens_lookup": False, "lens_observe": True, "lens_root": False,
@@ -117,10 +128,11 @@ def every_loop(loops):
 
 
 class Bounds:
-    def __init__(self, archive):
+    def __init__(self, archive, engine=None):
         self.functions = read(archive)
         self.name_loops()
         self.check_calls()
+        self.shut = self.find_engines(engine)
         self.check_models()
 
     # ---- what is checked before anything is reckoned
@@ -169,6 +181,21 @@ class Bounds:
             if name not in self.functions:
                 fail(f"the archive has no {name}")
 
+    def find_engines(self, engine):
+        """The blocks that a model doesn't come to, of each function where engines are told apart: bc's, and the others'."""
+        shut = {}
+        for name, patterns in ENGINES.items():
+            found = []
+            for pattern in patterns:
+                blocks = self.functions[name].blocks.items() if name in self.functions else []
+                fits = [at for at, block in blocks if any(re.search(pattern, re.sub(r"\s+", " ", line.text())) for line in block.lines)]
+                if len(fits) != 1:
+                    fail(f"ENGINES: {len(fits)} blocks of {name} have an instruction like {pattern!r}")
+                found += fits
+            short, again, full = found
+            shut[name] = {"full": [short], "short": [again, full]}.get(engine, []), [short]
+        return shut
+
     def check_models(self):
         for name in MODEL_TABLES:
             tables = [b for b in self.functions[name].blocks.values() if b.table] if name in self.functions else []
@@ -191,6 +218,8 @@ class Bounds:
         block = function.blocks[at]
         if model is not None and block.table and function.name in MODEL_TABLES:
             return [block.after[model]]
+        if model is not None and function.name in self.shut:
+            return [way for way in block.after if way not in self.shut[function.name][model != BC]]
         return block.after
 
     # ---- the longest path
@@ -330,10 +359,10 @@ class Bounds:
 
     @lru_cache(maxsize=None)
     def copies(self, name, model=None):
-        """How often a function calls one from outside at most."""
+        """How often a function calls one from outside at most, beside its units, and how often each unit does."""
         def what(line, called):
-            return 0 if not called else 1 if called in OUTSIDE else self.copies(called, model)
-        return self.reckon(name, model, None, what)[0]
+            return 0 if not called else 1 if called in OUTSIDE else self.copies(called, model)[0]
+        return self.reckon(name, model, None, what)
 
     # ---- the stack
 
@@ -434,8 +463,9 @@ def print_all(bounds):
         print(f"  {name}: {own[0] if len(set(own)) == 1 else own}")
         for unit in each[0][1]:
             print(f"    each {unit}: {[one[1][unit] for one in each]}")
-        if any(bounds.copies(name, model) for model in range(len(MODELS))):
-            print(f"    calls of memcpy and memset at most: {[bounds.copies(name, model) for model in range(len(MODELS))]}")
+        own, units = zip(*(bounds.copies(name, model) for model in range(len(MODELS))))
+        if any(own) or any(map(any, (one.values() for one in units))):
+            print(f"    calls of memcpy and memset at most: {list(own)}, {units[0]}")
     print("stack at most")
     for name in FUNCTIONS:
         most, along = bounds.stack(name)

@@ -1,6 +1,8 @@
 // What a unit and a turn cost through C, for bench/run to count.
 //   cases MODEL KIND: writes records, one a line in hexadecimal, whose unit but one is of that kind, `sample` or `cell`, and the next one
-//     too. A sample of a model that searches is one of the most updates that there can be
+//     too. A sample of a model that searches is one of the most updates that there can be. `short_sample` and `short_cell` are these of bc
+//     cameras whose k4, k5 and k6 are zeros, `full_sample` and `full_cell` those of the others; `again` writes fresh records of such a bc
+//     camera whose first sample is refused with 11, since nothing is finite from the first update on, in either engine
 //   count ALLOWANCE N FILE CASE AHEAD: N turns of that allowance, each from the record on that line after so many units ahead
 //   count16: the same by lens_turn16
 #[path = "../oracle/compare/cases.rs"]
@@ -110,11 +112,39 @@ fn wanted(model: usize, cell: bool, last: bool, params: &rust_text::Params, r: &
     found
 }
 
-fn write_cases(model: usize, cell: bool) {
+/// Whether a camera is of the part of bc's that a kind names, if it names one.
+fn meant(kind: &str, params: &rust_text::Params) -> bool {
+    let zeros = params[9..12].iter().all(|&k| k == 0.0);
+    match kind.split_once('_') {
+        Some((part, _)) => zeros == (part == "short"),
+        None => true,
+    }
+}
+
+fn write_again() {
+    let mut r = Random(20261115);
+    for _ in 0..CASES {
+        let mut params = valid_camera(&mut r, 3, SIDE as f64, SIDE as f64);
+        params[9..12].fill(0.0);
+        params[4] = f64::MAX;
+        let mut head = blank();
+        let bytes: Vec<u8> = params[..rust_text::COUNTS[3]].iter().flat_map(|x| x.to_le_bytes()).collect();
+        let started = unsafe { lens_job_new(3, bytes.as_ptr(), bytes.len(), SIDE as u32, SIDE as u32, 0, head.job.as_mut_ptr(), head.job.len()) };
+        assert_eq!(started, 0);
+        print(&head.job);
+        assert_eq!(head.turn(1), 11);
+    }
+}
+
+fn write_cases(model: usize, kind: &str) {
+    let cell = kind.ends_with("cell");
     let mut r = Random(20261115);
     let mut found = 0;
     while found < CASES {
         let mut params = valid_camera(&mut r, model, SIDE as f64, SIDE as f64);
+        if !meant(kind, &params) {
+            continue;
+        }
         if !cell {
             // For long searches the coefficients are stretched, as no settled lens has them.
             let stretch = r.between(1.0, 20.0);
@@ -146,7 +176,8 @@ fn main() {
     let args: Vec<String> = std::env::args().skip(1).collect();
     let number = |i: usize| args[i].parse::<usize>().expect("a count");
     match args[0].as_str() {
-        "cases" => write_cases(place(&MODELS, &args[1]), args[2] == "cell"),
+        "cases" if args[2] == "again" => write_again(),
+        "cases" => write_cases(place(&MODELS, &args[1]), &args[2]),
         "count" | "count16" => {
             let file = std::fs::read_to_string(&args[3]).expect("the cases");
             let turn = if args[0] == "count" { Head::turn } else { Head::turn16 };

@@ -12,12 +12,18 @@ TITLE = "\n## The worst unit of each model\n\n"
 WORST = """In x86-64 instructions, through `lens_turn`, and the cells of sixteen bits through `lens_turn16`. Counted on the same machine, DATE.
 
 - *Met*: a turn of two units less a turn of one, the most of 16 records. (What a turn of none takes more behind the last sample than before it is taken off that sample.) Samples are ones that take the most updates that there can be, of stretched lenses, four of them the last sample, which closes the region; cells are of lenses that somebody might have. A turn's own is there a turn of none: reading, judging and writing the record, and the loop that counts.
-- *At most*: the longest path through the archive's instructions, each loop as often as it can be passed (bench/bound.py; the loops stand below). No input need take that path. A turn of s samples and c cells takes at most a turn's own + s · a border sample + c · a cell, whatever the record and the camera are. What memcpy itself takes, of which a turn makes at most six calls with at most 256 bytes each, is in what is met and not in what is at most.
+- *At most*: the longest path through the archive's instructions, each loop as often as it can be passed (bench/bound.py; the loops stand below). No input need take that path. A turn of s samples and c cells takes at most a turn's own + s · a border sample + c · a cell, whatever the record and the camera are. What memcpy itself takes, of which a turn makes at most four calls with at most 256 bytes each, and each cell one more with 136, is in what is met and not in what is at most: so a cell that is met can take more than the most.
 
 docs/HEAD.md budgets with what is *at most*.
 
 | | updates | border sample, met | at most | cell, met | at most | a turn's own, met | at most |
 |---|---|---|---|---|---|---|---|
+"""
+BY_CAMERA = """
+A bc camera whose k4, k5 and k6 are zeros has the short engine, without the quotient. A point where a number on the way isn't finite is done again by the full engine, so bc's *at most* above is one behind the other. By the camera:
+
+| bc | border sample, met | at most | cell, met | at most |
+|---|---|---|---|---|
 """
 SIXTEEN = """
 Of `lens_turn16`, whose samples are the same code:
@@ -41,6 +47,7 @@ The stack is in bytes, over all paths, with the 8 of the return address and with
 | | MODELS | calls of memcpy and memset | stack, met | stack, at most |
 |LINES---|---|---|---|
 """.replace("MODELS", " | ".join(MODELS)).replace("LINES", "---|" * len(MODELS))
+BC = MODELS.index("bc")
 # Counted through C and not in the bounds: the caller's loop, and a memcpy of at most 256 bytes.
 CALLER, COPY = 40, 40
 faults = []
@@ -70,16 +77,13 @@ def units(model, kind, own, price, count="count"):
     one, two, before, after = turn(1, 0), turn(2, 0), turn(0, 1), turn(0, 2)
     # What a turn of none takes changes with the last sample, which is not that unit's.
     unit = max(b - a - (d - c) for a, b, c, d in zip(one, two, before, after))
-    words = f"a {kind}" if count == "count" else f"a {kind} of sixteen bits"
-    hold(f"{model}: {words}", unit, price)
+    words = "a " + kind.replace("_", " ") + ("" if count == "count" else " of sixteen bits")
+    copies, each_unit = bounds.copies("lens_turn", MODELS.index(model))
+    copy = COPY * each_unit.get(kind.split("_")[-1], 0)
+    hold(f"{model}: {words}", unit, price + copy)
     for n, counted in enumerate((before + after, one, two)):
-        hold(f"{model}: a turn of {n}, the last {words}", max(counted), own + n * price + copied(model))
+        hold(f"{model}: a turn of {n}, the last {words}", max(counted), own + COPY * copies + n * (price + copy))
     return unit, max(before + after)
-
-
-def copied(model):
-    """What the calls of memcpy take, which are not in a turn's own."""
-    return COPY * bounds.copies("lens_turn", MODELS.index(model))
 
 
 def worst(bounds, model):
@@ -87,6 +91,26 @@ def worst(bounds, model):
     (sample, around), (cell, also) = (units(model, kind, own, prices[kind]) for kind in ("sample", "cell"))
     return (f"| {model} | {TABLE[model].limit or 'none'} | {sample:.0f} | {prices['sample']} | {cell:.0f} | {prices['cell']} "
             f"| {max(around, also):.0f} | {own} |\n")
+
+
+def engine(archive, words, kind):
+    """bc's units by one engine alone."""
+    bounds = Bounds(archive, kind)
+    own, prices = bounds.instructions("lens_turn", BC)
+    (sample, _), (cell, _) = (units("bc", f"{kind}_{unit}", own, prices[unit]) for unit in ("sample", "cell"))
+    return f"| {words} | {sample:.0f} | {prices['sample']} | {cell:.0f} | {prices['cell']} |\n"
+
+
+def again(bounds):
+    """A sample that both engines search to the last update. It is refused, so there is no turn of two."""
+    own, prices = bounds.instructions("lens_turn", BC)
+    name, jobs = f"{folder}/bc_again.jobs", made("count_turn", "cases", "bc", "again")
+    with open(name, "w") as out:
+        out.write("\n".join(jobs))
+    none, one = ([each(50, "count_turn", "count", n, None, name, i, 0) for i in range(len(jobs))] for n in (0, 1))
+    hold("bc: a turn of a sample that is done again", max(one), own + prices["sample"] + COPY * bounds.copies("lens_turn", BC)[0])
+    met = max(b - a for a, b in zip(none, one))
+    return f"| zeros, done again by the full engine | {met:.0f}, refused with 11 | {prices['sample']} | | {prices['cell']} |\n"
 
 
 def worst_sixteen(bounds, model):
@@ -113,8 +137,9 @@ def functions(bounds):
         cells = cells if by_model else [cells[0], *[""] * (len(MODELS) - 1)]
         most = bounds.stack(name)[0]
         hold(f"{name}: stack", int(stack[name]), most)
-        copies = max(bounds.copies(name, model) for model in range(len(MODELS)))
-        yield f"| `{name}` | {' | '.join(cells)} | {copies or 'none'} | {stack[name]} | {most} |\n"
+        copies, by_unit = max((bounds.copies(name, model) for model in range(len(MODELS))), key=lambda one: one[0])
+        copies = f"{copies or 'none'}" + "".join(f" and {n} a {unit}" for unit, n in by_unit.items() if n)
+        yield f"| `{name}` | {' | '.join(cells)} | {copies} | {stack[name]} | {most} |\n"
 
 
 def through_c(bounds, text):
@@ -124,7 +149,7 @@ def through_c(bounds, text):
         sys.exit(f"{page} has no calls through C: run bench/run whole")
     for model, operation, counted in found:
         at, name = MODELS.index(model), f"lens_{operation}"
-        allowed = CALLER + COPY * bounds.copies(name, at)
+        allowed = CALLER + COPY * bounds.copies(name, at)[0]
         hold(f"{name} of {model}, with its caller", int(counted), bounds.instructions(name, at)[0] + allowed)
 
 
@@ -132,9 +157,12 @@ with open(page) as before:
     text = before.read().split(TITLE)[0]
 if f"Counted on {machine()}," not in text:
     sys.exit(f"{page} was not counted on this machine ({machine()}): run bench/run whole, so that it has one")
-bounds = Bounds(os.environ["BOUND_ARCHIVE"])
+archive = os.environ["BOUND_ARCHIVE"]
+bounds = Bounds(archive)
 through_c(bounds, text)
 text += TITLE + WORST.replace("DATE", datetime.date.today().isoformat()) + "".join(worst(bounds, model) for model in MODELS)
+text += BY_CAMERA + engine(archive, "k4, k5 and k6 aren't all zeros", "full")
+text += engine(archive, "zeros, done by the short engine alone", "short") + again(bounds)
 text += SIXTEEN + "".join(worst_sixteen(bounds, model) for model in MODELS)
 text += LEFT + "".join(left(bounds)) + EACH + "".join(functions(bounds))
 if faults:

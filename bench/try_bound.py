@@ -133,17 +133,33 @@ def lens(path, tables):
     bound.MODEL_TABLES[:] = tables
     cut = [Bounds(path).instructions("lens_turn", model) for model in range(len(bound.MODELS))]
     bound.MODEL_TABLES.clear()
-    whole = Bounds(path).instructions("lens_turn", 0)
+    whole = Bounds(path).instructions("lens_turn")
     least = all(own <= whole[0] and all(price <= whole[1][unit] for unit, price in prices.items()) for own, prices in cut)
     told(f"without a word on models lens_turn takes {whole}, and no model more", least)
+    bound.MODEL_TABLES[:] = tables
+    engines(path, bound.MODELS.index("bc"))
 
 
-kept = dict(bound.FUNCTIONS), list(bound.MODEL_TABLES), list(bound.LOOPS), dict(bound.UNITS)
-bound.FUNCTIONS.clear(), bound.MODEL_TABLES.clear(), bound.UNITS.clear()
+def engines(path, bc):
+    """bc by one engine alone and by both, and the others, to which the engines are one."""
+    both, full, short = ([Bounds(path, one).instructions("lens_turn", model)[1] for model in range(len(bound.MODELS))]
+                         for one in (None, "full", "short"))
+    apart = all(both[m] == full[m] for m in range(len(bound.MODELS)) if m != bc)
+    told(f"a sample of bc by both engines, the full and the short one {[one[bc]['sample'] for one in (both, full, short)]}, and of no other",
+         apart and short[bc]["sample"] < full[bc]["sample"] < both[bc]["sample"] <= short[bc]["sample"] + full[bc]["sample"])
+    kept = dict(bound.ENGINES)
+    bound.ENGINES["engine::distort"] = ("subsd ", "divsd ", "bsf ")
+    found = refusal(lambda: Bounds(path))
+    told(found, "ENGINES: 0 blocks" in found)
+    bound.ENGINES.update(kept)
+
+
+kept = dict(bound.FUNCTIONS), list(bound.MODEL_TABLES), list(bound.LOOPS), dict(bound.UNITS), dict(bound.ENGINES)
+bound.FUNCTIONS.clear(), bound.MODEL_TABLES.clear(), bound.UNITS.clear(), bound.ENGINES.clear()
 with tempfile.TemporaryDirectory() as folder:
     small(folder)
     units(folder)
-bound.FUNCTIONS.update(kept[0]), bound.UNITS.update(kept[3])
+bound.FUNCTIONS.update(kept[0]), bound.UNITS.update(kept[3]), bound.ENGINES.update(kept[4])
 bound.LOOPS[:] = kept[2]
 if len(sys.argv) == 2:
     lens(sys.argv[1], kept[1])
