@@ -1,5 +1,5 @@
--- The record of a table that is being built, as bytes, and read back out of any bytes. Where each part stands is told in
--- specs/Places. Definitions only.
+-- The record of a table that is being built, as bytes, and read back out of any bytes. Where each part stands is told
+-- in specs/Places. Definitions only.
 use mathlib.Core.Bool.{Bool, cond}
 use mathlib.Core.List.{List, [], _++_}
 use Prim.Native.Nat.{ℕ}
@@ -18,7 +18,9 @@ use Rattle.job.specs.declared.Job.{Job}
 use Rattle.job.specs.declared.Started.{Started}
 use Rattle.job.specs.declared.Started.the-variants as begun
 use Rattle.given.specs.Given.{Given, answered}
-use Rattle.job_bytes.specs.Places.{updates-place, params-place, width-place, height-place, done-place, edges-place, region-place, unsettled-place, first-place, mark-place, record-length}
+use Rattle.job_bytes.specs.Places.{updates-place, params-place, width-place, height-place, done-place}
+use Rattle.job_bytes.specs.Places.{edges-place, region-place, unsettled-place, first-place, mark-place}
+use Rattle.job_bytes.specs.Places.{record-length}
 use Rattle.job_bytes.specs.Check.{check-of}
 use Rattle.job_bytes.specs.declared.Found.{Found}
 use Rattle.job_bytes.specs.declared.Found.the-variants.{Of, Refused}

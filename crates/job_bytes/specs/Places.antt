@@ -1,4 +1,5 @@
--- Where each part of a record stands: one behind the other, with room for the parameters of any model. Definitions only.
+-- Where each part of a record stands: one behind the other, with room for the parameters of any model. Definitions
+-- only.
 use Prim.Native.Nat.{ℕ, _+_, _*_, _/_}
 use Rattle.camera.specs.Numbers.{most}
 

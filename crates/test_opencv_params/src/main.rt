@@ -1,6 +1,6 @@
-// Moves one text after the other: cameras of ours and of OpenCV's, every refusal at its edge, every text cut short at each
-// byte, and random cameras there and back. The gate runs this on the file stdin, and holds what it writes to the file
-// stdout; tools/make_opencv_inputs.py makes both.
+// Moves one text after the other: cameras of ours and of OpenCV's, every refusal at its edge, every text cut short at
+// each byte, and random cameras there and back. The gate runs this on the file stdin, and holds what it writes to the
+// file stdout; tools/make_opencv_inputs.py makes both.
 //
 // A case is two parts: the line to write above its answer, and the text. A part is two bytes that tell its length, the
 // lower first, and so many bytes.

@@ -26,7 +26,8 @@ use Rattle.brown_conrady.proofs.Laws.{derived}
 use Rattle.brown_conrady.proofs.Steps.{most-updates}
 use Rattle.thin_prism.specs.Formula as formula
 use Rattle.thin_prism.specs.Formula.{at, parameters}
-use Rattle.thin_prism.specs.ThinPrism.{NoPrism, distortion, distort, prism-slopes-at, dx-distort-x, dx-distort-params, f-xy, step-from, undistort}
+use Rattle.thin_prism.specs.ThinPrism.{NoPrism, distortion, distort, prism-slopes-at, dx-distort-x}
+use Rattle.thin_prism.specs.ThinPrism.{dx-distort-params, f-xy, step-from, undistort}
 use Rattle.thin_prism.specs.declared.ThinPrismParams.{ThinPrismParams}
 use Rattle.thin_prism.proofs.Zero.{distort-zero, undistort-zero, dx-distort-x-zero}
 use Rattle.thin_prism.proofs.distort.Reads as distort-contract
@@ -38,13 +39,14 @@ use Rattle.thin_prism.proofs.dx_distort_params.Reads as dx-distort-para
 pub determined :
     Determined distort-contract.Post × Determined undistort-contract.Post
     × Determined dx-distort-x-contract.Post × Determined dx-distort-params-contract.Post
-determined = (λ κ a s s' r r' p q. p ∙ sym q, λ κ a s s' r r' p q. p ∙ sym q, λ κ a s s' r r' p q. p ∙ sym q, λ κ a s s' r r' p q. p ∙ sym q)
+determined = (λ κ a s s' r r' p q. p ∙ sym q, λ κ a s s' r r' p q. p ∙ sym q, λ κ a s s' r r' p q. p ∙ sym q,
+    λ κ a s s' r r' p q. p ∙ sym q)
 
 -- ---- without a prism
 
--- With s1 to s4 at zero, of either sign, the sign of a zero aside: every point has bc's pixel, also where that isn't finite; every pixel
--- whose point bc finds, its first coordinate a number, has bc's point, updates and flag; and where fx and fy are numbers every point has
--- bc's derivative.
+-- With s1 to s4 at zero, of either sign, the sign of a zero aside: every point has bc's pixel, also where that isn't
+-- finite; every pixel whose point bc finds, its first coordinate a number, has bc's point, updates and flag; and where
+-- fx and fy are numbers every point has bc's derivative.
 pub prism-zero :
     (params : ThinPrismParams) → NoPrism params
     → ((point : Point) → AlikePixels (bc.distort (params .bc) point) (distort params point))
@@ -58,7 +60,8 @@ prism-zero params zs = (distort-zero params zs, undistort-zero params zs, dx-dis
 
 module _ (params : ThinPrismParams) (point : Point) where
   -- The pixel is the reading of the terms u and v.
-  pub distort-rounded : distort params point ≡ record { 0 = rounded (at params point) formula.u; 1 = rounded (at params point) formula.v }
+  pub distort-rounded : distort params point
+      ≡ record { 0 = rounded (at params point) formula.u; 1 = rounded (at params point) formula.v }
   unfolding distortion bc.distortion rounded ofInt ofBits
   distort-rounded = refl
 
@@ -88,21 +91,27 @@ unfolding denominators
 one-denominator = (refl, refl)
 
 module _ {ρ : ℕ → Fraction} (numbers : Numbers ρ) (defined : ¬ (exact ρ cdist2 ≈ whole 0)) where
-  -- Wherever cdist2 isn't zero, each entry of dx_distort_params is the formal derivative of its row's coordinate of the pixel by its
-  -- column's parameter: all sixteen columns of both rows,
-  pub params-derived : Alike ρ (gradient parameters formula.u) formula.u-params × Alike ρ (gradient parameters formula.v) formula.v-params
+  -- Wherever cdist2 isn't zero, each entry of dx_distort_params is the formal derivative of its row's coordinate of the
+  -- pixel by its column's parameter: all sixteen columns of both rows,
+  pub params-derived : Alike ρ (gradient parameters formula.u) formula.u-params
+      × Alike ρ (gradient parameters formula.v) formula.v-params
   unfolding gradient derivative
-  params-derived = (derived numbers defined parameters formula.u formula.u-params tt, derived numbers defined parameters formula.v formula.v-params tt)
+  params-derived = (derived numbers defined parameters formula.u formula.u-params tt,
+      derived numbers defined parameters formula.v formula.v-params tt)
 
   -- and so is each of dx_distort_x by x or y,
-  pub point-derived : Alike ρ (gradient coordinates formula.u) formula.u-point × Alike ρ (gradient coordinates formula.v) formula.v-point
+  pub point-derived : Alike ρ (gradient coordinates formula.u) formula.u-point
+      × Alike ρ (gradient coordinates formula.v) formula.v-point
   unfolding gradient derivative
-  point-derived = (derived numbers defined coordinates formula.u formula.u-point tt, derived numbers defined coordinates formula.v formula.v-point tt)
+  point-derived = (derived numbers defined coordinates formula.u formula.u-point tt,
+      derived numbers defined coordinates formula.v formula.v-point tt)
 
   -- and each of the matrix of a Newton step, of the distorted point by x or y.
-  pub step-derived : Alike ρ (gradient coordinates formula.xd) formula.xd-point × Alike ρ (gradient coordinates formula.yd) formula.yd-point
+  pub step-derived : Alike ρ (gradient coordinates formula.xd) formula.xd-point
+      × Alike ρ (gradient coordinates formula.yd) formula.yd-point
   unfolding gradient derivative
-  step-derived = (derived numbers defined coordinates formula.xd formula.xd-point tt, derived numbers defined coordinates formula.yd formula.yd-point tt)
+  step-derived = (derived numbers defined coordinates formula.xd formula.xd-point tt,
+      derived numbers defined coordinates formula.yd formula.yd-point tt)
 
 -- ---- how many updates
 
@@ -124,10 +133,10 @@ prism s1 s2 s3 s4 = record {
   s4 = s4;
 }
 
--- With s1 = 1, s2 = 2, s3 = 3 and s4 = 4 the camera 1 1 0 0 sends (1, 1), where r2 = 2 and r4 = 4, to (1 + 2 + 8, 1 + 6 + 16); its
--- derivative there has 1 + 2 (1 + 8) = 19 and 18 above 2 (3 + 16) = 38 and 39. With a prism of zeros it sends the pixel (3, 4) back to
--- (3, 4), with 0 updates and the flag yes. The derivative by the parameters at (1, 2) has r2 = 5 and r4 = 25 in the prism's columns, and
--- bc's before them.
+-- With s1 = 1, s2 = 2, s3 = 3 and s4 = 4 the camera 1 1 0 0 sends (1, 1), where r2 = 2 and r4 = 4, to (1 + 2 + 8, 1 + 6
+-- + 16); its derivative there has 1 + 2 (1 + 8) = 19 and 18 above 2 (3 + 16) = 38 and 39. With a prism of zeros it
+-- sends the pixel (3, 4) back to (3, 4), with 0 updates and the flag yes. The derivative by the parameters at (1, 2)
+-- has r2 = 5 and r4 = 25 in the prism's columns, and bc's before them.
 pub by-hand :
     (distort (prism (int 1) (int 2) (int 3) (int 4)) (xy (int 1) (int 1)) ≡ uv (int 11) (int 23))
     × (dx-distort-x (prism (int 1) (int 2) (int 3) (int 4)) (xy (int 1) (int 1))
@@ -135,9 +144,11 @@ pub by-hand :
     × (undistort (prism (int 0) (int 0) (int 0) (int 0)) (uv (int 3) (int 4)) ≡ direct (xy (int 3) (int 4)))
     × (dx-distort-params (prism (int 0) (int 0) (int 0) (int 0)) (xy (int 1) (int 2))
     ≡ twoRows
-    (int 1 ∷ int 0 ∷ int 1 ∷ int 0 ∷ int 5 ∷ int 25 ∷ int 4 ∷ int 7 ∷ int 125 ∷ minus (int 5) ∷ minus (int 25) ∷ minus (int 125)
+    (int 1 ∷ int 0 ∷ int 1 ∷ int 0 ∷ int 5 ∷ int 25 ∷ int 4 ∷ int 7 ∷ int 125 ∷ minus (int 5) ∷ minus (int 25) ∷
+    minus (int 125)
     ∷ int 5 ∷ int 25 ∷ int 0 ∷ int 0 ∷ [])
-    (int 0 ∷ int 2 ∷ int 0 ∷ int 1 ∷ int 10 ∷ int 50 ∷ int 13 ∷ int 4 ∷ int 250 ∷ minus (int 10) ∷ minus (int 50) ∷ minus (int 250)
+    (int 0 ∷ int 2 ∷ int 0 ∷ int 1 ∷ int 10 ∷ int 50 ∷ int 13 ∷ int 4 ∷ int 250 ∷ minus (int 10) ∷ minus (int 50) ∷
+    minus (int 250)
     ∷ int 0 ∷ int 0 ∷ int 5 ∷ int 25 ∷ []))
 unfolding passes pass-by step-from prism-slopes-at slopes-at shared-at distortion bc.distortion dx-distort-params rounded root le add sub mul div neg ofBits ofInt
 by-hand = (refl, refl, refl, refl)
