@@ -2,8 +2,10 @@
 use mathlib.Core.Path.{sym, subst}
 use mathlib.Core.Bool.{Bool, true, false, cond}
 use Prim.Native.Nat.{_≤_}
+use lib.Dec.{T}
 use lib.Ieee.Scale.{finite}
 use Rattle.exact.specs.F64.{_⊕_}
+use Rattle.exact.proofs.Operations.{sum-finite}
 use Rattle.lens.specs.Fits.{Fit}
 use Rattle.lens.specs.Passes.{passes}
 use Rattle.lens.specs.declared.Pixel.{Pixel}
@@ -27,18 +29,21 @@ module _ (params : BrownConradyParams) (pixel : Pixel) where
   abbrev at : Tracked
   at = newton params distorted
 
-  -- what holds of where the search ends, and of the full answer
+  abbrev tested : Bool
+  tested = finite (f-xy params distorted (at .search .xy) .0 ⊕ f-xy params distorted (at .search .xy) .1 ⊕ at .last)
+
+  -- what holds of where the search ends, if that is what the test asks for, and of the full answer
   by-search :
-      (P : Settled → Type 0) → P (record { point = at .search .xy; updates = at .search .updates; flag = full.small (f-xy params distorted (at .search .xy)) }) → P (full.undistort params pixel)
+      (P : Settled → Type 0) → (T tested → P (record { point = at .search .xy; updates = at .search .updates; flag = full.small (f-xy params distorted (at .search .xy)) })) → P (full.undistort params pixel)
       → P (undistort params pixel)
-  by-search P p q = go (finite (f-xy params distorted (at .search .xy) .0 ⊕ f-xy params distorted (at .search .xy) .1 ⊕ at .det)) _ p
+  by-search P p q = go tested _ p
     where
-      go : (b : Bool) (s : Settled) → P s → P (cond b s (full.undistort params pixel))
-      go true s p = p
+      go : (b : Bool) (s : Settled) → (T b → P s) → P (cond b s (full.undistort params pixel))
+      go true s p = p tt
       go false s p = q
 
-  found : (Q : Search → Type 0) → Q (passes (full.pass-by (by-step params distorted)) full.ended full.limit (full.start distorted)) → Q (at .search)
-  found Q q = subst Q (sym (search-is params distorted full.limit (start distorted))) q
+  found : (Q : Search → Type 0) → Q (passes (full.pass-by (by-step params distorted)) full.ended full.limit (full.start distorted)) → T tested → Q (at .search)
+  found Q q t = subst Q (sym (search-is params distorted full.limit (start distorted) (sum-finite _ _ t .1))) q
 
   -- The point that undistort finds is of two f64s,
   pub undistort-fits : Fit (undistort params pixel .point .0) × Fit (undistort params pixel .point .1)

@@ -1,9 +1,9 @@
 -- Where k4, k5 and k6 are zeros and the short numbers are finite, the full ones are alike: what only the full engine works out are zeros, ones and copies. So the two searches go the same way. Assumes nothing.
 use mathlib.Core.Path.{_≡_, refl, sym, ap, _∙_, subst}
-use mathlib.Core.Bool.{Bool, true, false, cond, _&&_, false≢true}
+use mathlib.Core.Bool.{Bool, true, false, cond, _&&_, true≢false, false≢true}
 use Prim.Native.Nat.{ℕ, zero, suc}
 use lib.Dec.{T}
-use lib.Ieee.{Float, binary64, div, ofBits, ofInt, fits}
+use lib.Ieee.{Float, nan, inf, fin, binary64, div, ofBits, ofInt, fits, isNan}
 use lib.Ieee.Fits.{add-fits, mul-fits}
 use lib.Ieee.Scale.{finite}
 use Rattle.exact.specs.Alike.{_≐_, same}
@@ -25,7 +25,7 @@ use Rattle.brown_conrady.specs.declared.Search.{Search}
 use Rattle.brown_conrady.proofs.Alike.{AlikeOffsets, AlikeSearches, Both, both-apart, solve-kept, small-kept, small-finite, came-from, newton-both}
 use Rattle.lens.specs.Alike.{AlikePoints}
 use Rattle.short_brown_conrady.specs.Polynomial as short
-use Rattle.short_brown_conrady.specs.ShortBrownConrady.{no-quotient, distortion, slopes-at, f-xy, step-from, by-step, pass, start, ended, newton}
+use Rattle.short_brown_conrady.specs.ShortBrownConrady.{no-quotient, distortion, slopes-at, f-xy, step-from, by-step, squared-norm, pass, start, ended, newton}
 use Rattle.short_brown_conrady.specs.declared.Tracked.{Tracked}
 use Rattle.short_brown_conrady.proofs.Terms.{kept}
 
@@ -236,35 +236,89 @@ step-alike params zs distorted p q h both =
 abbrev pub Reached : Tracked → Type 0
 Reached at = Both (at .search .xy .0) (at .search .xy .1)
 
+no-nan : (x : Float) → T (finite x) → isNan x ≡ false
+unfolding isNan
+no-nan nan t = absurd t
+no-nan (inf s) t = refl
+no-nan (fin s m e) t = refl
+
 module _ (params : BrownConradyParams) (distorted : Point) where
-  -- what a pass reaches is finite only where it set out from what is, with a finite step
-  pub behind : (at : Tracked) → Reached (pass params distorted at) → Reached at × Both (by-step params distorted (at .search .xy) .0) (by-step params distorted (at .search .xy) .1)
+  abbrev pub norm-at : Tracked → Float
+  norm-at at = squared-norm (by-step params distorted (at .search .xy))
+
+  abbrev by-full : Search → Search
+  by-full = full.pass-by (by-step params distorted)
+
+  -- a pass by a NaN ends the search where it is, and any other is brown_conrady's, by these steps
+  pub nan-stays : (at : Tracked) → isNan (norm-at at) ≡ true → pass params distorted at .search ≡ record { xy = at .search .xy; updates = at .search .updates; ended = true }
   unfolding pass
-  behind at h = came-from Both both-apart small-finite (by-step params distorted) (at .search) h
+  nan-stays at e = rw e refl
 
-  -- it is brown_conrady's search, by these steps
-  pub search-is : (n : ℕ) (at : Tracked) → passes (pass params distorted) ended n at .search ≡ passes (full.pass-by (by-step params distorted)) full.ended n (at .search)
-  unfolding passes pass
-  search-is zero from = refl
-  search-is (suc n) from = go (full.ended (full.pass-by (by-step params distorted) (from .search))) _ _ _ _ refl (search-is n (pass params distorted from))
+  pub is-pass : (at : Tracked) → isNan (norm-at at) ≡ false → pass params distorted at .search ≡ full.pass-by (by-step params distorted) (at .search)
+  unfolding pass
+  is-pass at e = rw e refl
+
+  -- what a pass reaches is finite only where it set out from what is
+  pub behind : (at : Tracked) → Reached (pass params distorted at) → Reached at
+  behind at h = go (isNan (norm-at at)) refl
     where
-      go : (b : Bool) (s t : Tracked) (u v : Search) → s .search ≡ u → t .search ≡ v → cond b s t .search ≡ cond b u v
-      go true s t u v p q = p
-      go false s t u v p q = q
+      go : (b : Bool) → isNan (norm-at at) ≡ b → Reached at
+      go true e = subst (λ (s : Search). Both (s .xy .0) (s .xy .1)) (nan-stays at e) h
+      go false e = came-from Both both-apart small-finite (by-step params distorted) (at .search) (subst (λ (s : Search). Both (s .xy .0) (s .xy .1)) (is-pass at e) h) .0
 
--- where what Newton leaves is finite, so is the point where it ended
+  numbered : (at : Tracked) → T (finite (pass params distorted at .last)) → isNan (norm-at at) ≡ false
+  unfolding pass
+  numbered at t = no-nan (norm-at at) (sum-finite _ _ t .1)
+
+  -- where its last number is finite, the search is brown_conrady's: no step was a NaN
+  pub search-is :
+      (n : ℕ) (at : Tracked) → T (finite (passes (pass params distorted) ended n at .last))
+      → passes (pass params distorted) ended n at .search ≡ passes (full.pass-by (by-step params distorted)) full.ended n (at .search)
+  unfolding passes
+  search-is zero from t = refl
+  search-is (suc n) from t = go (isNan (norm-at from)) refl (search-is n (pass params distorted from))
+    where
+      next : Tracked
+      next = pass params distorted from
+
+      rest : Tracked
+      rest = passes (pass params distorted) ended n next
+
+      here : (b : Bool) → b ≡ true → T (finite (cond b next rest .last)) → T (finite (next .last))
+      here true e t = t
+      here false e t = absurd (false≢true e)
+
+      further :
+          (b c : Bool) → b ≡ c → {u v : Search} → next .search ≡ u → (T (finite (rest .last)) → rest .search ≡ v)
+          → T (finite (cond b next rest .last)) → cond b next rest .search ≡ cond c u v
+      further true true e p q t = p
+      further true false e p q t = absurd (true≢false e)
+      further false true e p q t = absurd (false≢true e)
+      further false false e p q t = q t
+
+      go :
+          (b : Bool) → isNan (norm-at from) ≡ b → (T (finite (rest .last)) → rest .search ≡ passes by-full full.ended n (next .search))
+          → cond (ended next) next rest .search ≡ cond (full.ended (by-full (from .search))) (by-full (from .search)) (passes by-full full.ended n (by-full (from .search)))
+      go true e k = absurd (true≢false (sym e ∙ numbered from (here (ended next) (ap full.ended (nan-stays from e)) t)))
+      go false e k =
+          let p = is-pass from e in
+          further (ended next) (full.ended (by-full (from .search))) (ap full.ended p) p (λ t. k t ∙ ap (passes by-full full.ended n) p) t
+
+-- where what Newton leaves is finite, and its last number, so is the point where it ended
 pub record Ended (params : BrownConradyParams) (distorted : Point) : Type 0 where
   pub reached : Reached (newton params distorted)
   pub ends : AlikeSearches (newton params distorted .search) (full.newton params distorted)
   pub flag : full.small (f-xy params distorted (newton params distorted .search .xy)) ≡ full.flag params distorted (full.newton params distorted .xy)
 
-pub newton-ended : (params : BrownConradyParams) → Zeros params → (distorted : Point) → T (finite (f-xy params distorted (newton params distorted .search .xy) .0)) → Ended params distorted
-newton-ended params zs distorted t =
+pub newton-ended :
+    (params : BrownConradyParams) → Zeros params → (distorted : Point) → T (finite (f-xy params distorted (newton params distorted .search .xy) .0)) → T (finite (newton params distorted .last))
+    → Ended params distorted
+newton-ended params zs distorted t l =
     let p = newton params distorted .search .xy in
     let sent = difference-finite _ _ t .0 in
     let both = sum-finite _ _ (powers params p sent .r2) in
     let r : Reached (newton params distorted) = (product-finite _ _ (both .0) .0, product-finite _ _ (both .1) .0) in
-    let is = search-is params distorted full.limit (start distorted) in
+    let is = search-is params distorted full.limit (start distorted) l in
     let s =
     subst (λ (s : Search). AlikeSearches s (full.newton params distorted)) (sym is)
     (newton-both (by-step params distorted) (full.step-from params distorted) (step-alike params zs distorted) distorted (subst (λ (s : Search). Both (s .xy .0) (s .xy .1)) is r)) in

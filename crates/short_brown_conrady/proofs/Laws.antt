@@ -85,7 +85,7 @@ module _ (params : BrownConradyParams) (z : no-quotient params ≡ true) where
 
   -- Undistort gives the full one's point, the sign of a zero aside, with its updates and its flag.
   pub undistort-short-is-full : (pixel : Pixel) → AlikeSettled (undistort params pixel) (full.undistort params pixel)
-  undistort-short-is-full pixel = go (finite (f .0 ⊕ f .1 ⊕ last .det)) refl
+  undistort-short-is-full pixel = go (finite (f .0 ⊕ f .1 ⊕ last .last)) refl
     where
       distorted : Point
       distorted = distorted-of params pixel
@@ -97,11 +97,12 @@ module _ (params : BrownConradyParams) (z : no-quotient params ≡ true) where
       f = f-xy params distorted (last .search .xy)
 
       go :
-          (b : Bool) → finite (f .0 ⊕ f .1 ⊕ last .det) ≡ b
+          (b : Bool) → finite (f .0 ⊕ f .1 ⊕ last .last) ≡ b
           → AlikeSettled (cond b (record { point = last .search .xy; updates = last .search .updates; flag = full.small f }) (full.undistort params pixel)) (full.undistort params pixel)
       go false e = record { point = record { x = ≐-refl; y = ≐-refl }; updates = refl; flag = refl }
       go true e =
-          let n = newton-ended params (zeros-of params z) distorted (sum-finite _ _ (sum-finite _ _ (subst T (sym e) tt) .0) .0) in
+          let tested = sum-finite _ _ (subst T (sym e) tt) in
+          let n = newton-ended params (zeros-of params z) distorted (sum-finite _ _ (tested .0) .0) (tested .1) in
           record { point = n .ends .xy; updates = n .ends .updates; flag = n .flag }
 
   -- Dx_distort_x gives the full one's numbers, the sign of a zero aside. That fx and fy are f64s is so of every camera's.

@@ -1,11 +1,11 @@
 -- What the tests see: where they pass, every number of the short path is finite. So one that isn't, wherever it turns up, sends the point to the full engine. Assumes nothing.
-use mathlib.Core.Path.{_≡_, refl, sym, _∙_, subst}
+use mathlib.Core.Path.{_≡_, refl, sym, ap, _∙_, subst}
 use mathlib.Core.Logic.{_⊎_, inl, inr}
 use mathlib.Core.Bool.{Bool, true, false, cond, true≢false, false≢true}
 use mathlib.Core.List.{[], _∷_, _++_}
 use Prim.Native.Nat.{ℕ, zero, suc}
 use lib.Dec.{T}
-use lib.Ieee.{Float, nan, inf, fin, div, le, add, mul, ofBits, ofInt}
+use lib.Ieee.{Float, nan, inf, fin, div, le, add, mul, ofBits, ofInt, isNan}
 use lib.Ieee.Fits.{and-i}
 use lib.Ieee.Scale.{finite}
 use Rattle.exact.specs.Alike.{both-zero}
@@ -24,14 +24,15 @@ use Rattle.brown_conrady.specs.BrownConrady as full
 use Rattle.brown_conrady.specs.Formula.{at}
 use Rattle.brown_conrady.specs.declared.BrownConradyParams.{BrownConradyParams}
 use Rattle.brown_conrady.specs.declared.Offset.{Offset}
-use Rattle.brown_conrady.proofs.Alike.{Both, small-kept}
+use Rattle.brown_conrady.specs.declared.Search.{Search}
+use Rattle.brown_conrady.proofs.Alike.{Both, both-apart, small-kept, small-finite, came-from}
 use Rattle.brown_conrady.proofs.NoRoot.{last-bits, no-root}
 use Rattle.brown_conrady.proofs.Steps.{from-next}
 use Rattle.short_brown_conrady.specs.Path.{all-numbers, distort-numbers, dx-distort-x-numbers, step-at, by-x, by-y, step-numbers, search-numbers, undistort-numbers}
 use Rattle.short_brown_conrady.specs.Polynomial.{xd0, yd0, u, v, ux, uy, vx, vy, u-point, v-point}
 use Rattle.short_brown_conrady.specs.ShortBrownConrady.{distortion, distort, slopes-at, dx-distort-x, f-xy, step-from, by-step, pass, start, ended, newton, distorted-of, undistort}
 use Rattle.short_brown_conrady.specs.declared.Tracked.{Tracked}
-use Rattle.short_brown_conrady.proofs.Full.{Powers, powers, Reached, behind}
+use Rattle.short_brown_conrady.proofs.Full.{Powers, powers, Reached, norm-at, nan-stays, is-pass, behind}
 use Rattle.short_brown_conrady.proofs.Terms.{joined, all-throughout}
 
 -- ---- a step that is finite and not small: its determinant is finite too, since an infinite one would have made the step a zero
@@ -118,33 +119,49 @@ module _ (params : BrownConradyParams) (distorted : Point) where
   abbrev is-small : Tracked → Bool
   is-small at = full.small (by-step params distorted (at .search .xy))
 
-  ends-so : (at : Tracked) → is-small at ≡ true → ended (next at) ≡ true
+  ends-so : (at : Tracked) → isNan (norm-at params distorted at) ≡ false → is-small at ≡ true → ended (next at) ≡ true
   unfolding pass full.pass-by
-  ends-so at e = rw e refl
+  ends-so at n e = rw (n, e) refl
 
-  det-so : (at : Tracked) → next at .det ≡ step-from params distorted (at .search .xy) .det
+  -- the step and its determinant, of a pass that ends the search and of one that doesn't
+  abbrev Sound : Tracked → Type 0
+  Sound at = Both (by-step params distorted (at .search .xy) .0) (by-step params distorted (at .search .xy) .1) × T (finite (step-from params distorted (at .search .xy) .det))
+
+  at-end : (at : Tracked) → T (finite (next at .last)) → Sound at
   unfolding pass
-  det-so at = refl
+  at-end at t =
+      let two = sum-finite _ _ t in
+      let squares = sum-finite _ _ (two .1) in
+      ((product-finite _ _ (squares .0) .0, product-finite _ _ (squares .1) .0), two .0)
 
-  pub search-finite : (n : ℕ) (at : Tracked) → Reached (passes next ended n at) → T (finite (passes next ended n at .det)) → T (all-finite (search-numbers params distorted n at))
+  on-way : (at : Tracked) → ended (next at) ≡ false → Reached (next at) → Sound at
+  on-way at e r = go (isNan (norm-at params distorted at)) refl
+    where
+      large : (b : Bool) → is-small at ≡ b → isNan (norm-at params distorted at) ≡ false → is-small at ≡ false
+      large true h n = absurd (true≢false (sym (ends-so at n h) ∙ e))
+      large false h n = h
+
+      go : (b : Bool) → isNan (norm-at params distorted at) ≡ b → Sound at
+      go true n = absurd (true≢false (sym (ap full.ended (nan-stays params distorted at n)) ∙ e))
+      go false n =
+          let s = came-from Both both-apart small-finite (by-step params distorted) (at .search) (subst (λ (s : Search). Both (s .xy .0) (s .xy .1)) (is-pass params distorted at n) r) .1 in
+          (s, det-finite params distorted (at .search .xy) (s .0) (s .1) (large (is-small at) refl n))
+
+  pub search-finite : (n : ℕ) (at : Tracked) → Reached (passes next ended n at) → T (finite (passes next ended n at .last)) → T (all-finite (search-numbers params distorted n at))
   unfolding passes search-numbers
   search-finite zero at r d = unfold all-finite in tt
   search-finite (suc n) at r d =
-      let b = behind params distorted at (from-next next ended Reached (λ s r. behind params distorted s r .0) n at (ended (next at)) r) in
+      let s = sound (ended (next at)) refl r d in
       joined (step-numbers params distorted (at .search .xy)) (cond (ended (next at)) [] (search-numbers params distorted n (next at)))
-      (step-finite params distorted (at .search .xy) (b .1 .0) (b .1 .1) (det (is-small at) refl (b .1))) (rest (ended (next at)) (search-finite n (next at)) r d)
+      (step-finite params distorted (at .search .xy) (s .0 .0) (s .0 .1) (s .1)) (rest (ended (next at)) (search-finite n (next at)) r d)
     where
-      here : (b : Bool) → b ≡ true → T (finite (cond b (next at) (passes next ended n (next at)) .det)) → T (finite (next at .det))
-      here true e d = d
-      here false e d = absurd (false≢true e)
-
-      det : (b : Bool) → is-small at ≡ b → Both (by-step params distorted (at .search .xy) .0) (by-step params distorted (at .search .xy) .1) → T (finite (step-from params distorted (at .search .xy) .det))
-      det true e f = subst (λ (x : Float). T (finite x)) (det-so at) (here (ended (next at)) (ends-so at e) d)
-      det false e f = det-finite params distorted (at .search .xy) (f .0) (f .1) e
+      sound : (b : Bool) → ended (next at) ≡ b → Reached (cond b (next at) (passes next ended n (next at))) → T (finite (cond b (next at) (passes next ended n (next at)) .last)) → Sound at
+      sound true e r d = at-end at d
+      sound false e r d = on-way at e (from-next next ended Reached (behind params distorted) n at false r)
 
       rest :
-          (b : Bool) → (Reached (passes next ended n (next at)) → T (finite (passes next ended n (next at) .det)) → T (all-finite (search-numbers params distorted n (next at))))
-          → Reached (cond b (next at) (passes next ended n (next at))) → T (finite (cond b (next at) (passes next ended n (next at)) .det)) → T (all-finite (cond b [] (search-numbers params distorted n (next at))))
+          (b : Bool) → (Reached (passes next ended n (next at)) → T (finite (passes next ended n (next at) .last)) → T (all-finite (search-numbers params distorted n (next at))))
+          → Reached (cond b (next at) (passes next ended n (next at))) → T (finite (cond b (next at) (passes next ended n (next at)) .last)) → T (all-finite (cond b [] (search-numbers params distorted n (next at))))
       rest true k r d = unfold all-finite in tt
       rest false k r d = k r d
 
@@ -201,7 +218,7 @@ module _ (params : BrownConradyParams) where
   ended-at xy x y = all-throughout (at params xy) (xd0 ∷ yd0 ∷ []) (tt, x, (tt, y, tt))
 
   pub undistort-either : (pixel : Pixel) → T (all-finite (undistort-numbers params pixel)) ⊎ (undistort params pixel ≡ full.undistort params pixel)
-  undistort-either pixel = either (finite (f .0 ⊕ f .1 ⊕ last .det)) _ (full.undistort params pixel) λ t. go (sum-finite _ _ t)
+  undistort-either pixel = either (finite (f .0 ⊕ f .1 ⊕ last .last)) _ (full.undistort params pixel) λ t. go (sum-finite _ _ t)
     where
       distorted : Point
       distorted = distorted-of params pixel
@@ -215,7 +232,7 @@ module _ (params : BrownConradyParams) where
       reached : Powers (last .search .xy) → Reached last
       reached w = let q = sum-finite _ _ (w .r2) in (product-finite _ _ (q .0) .0, product-finite _ _ (q .1) .0)
 
-      go : T (finite (f .0 ⊕ f .1)) × T (finite (last .det)) → T (all-finite (undistort-numbers params pixel))
+      go : T (finite (f .0 ⊕ f .1)) × T (finite (last .last)) → T (all-finite (undistort-numbers params pixel))
       go both =
           let fs = sum-finite (f .0) (f .1) (both .0) in
           let x = difference-finite _ _ (fs .0) .0 in

@@ -1,13 +1,15 @@
 -- The operations of the short engine: brown_conrady's, with the polynomials (Polynomial) in the place of its quotients,
 -- and the test that hands a point over to brown_conrady, which is called full here. Definitions only.
-use mathlib.Core.Bool.{Bool, cond, _&&_}
+use mathlib.Core.Bool.{Bool, true, cond, not, _&&_}
 use mathlib.Core.List.{[], _∷_}
+use lib.Ieee.{Float, isNan}
 use lib.Ieee.Scale.{finite}
 use Rattle.exact.specs.F64.{_⊕_, _⊖_, _⊗_, isZero}
 use Rattle.formula.specs.Term.{rounded}
 use Rattle.lens.specs.Constants.{ones}
 use Rattle.lens.specs.Jacobian.{twoRows}
 use Rattle.lens.specs.Passes.{passes}
+use Rattle.lens.specs.Radius.{squared-radius}
 use Rattle.lens.specs.declared.Jacobian.{Jacobian}
 use Rattle.lens.specs.declared.Pixel.{Pixel}
 use Rattle.lens.specs.declared.Point.{Point}
@@ -77,15 +79,27 @@ step-from params distorted xy =
 abbrev pub by-step : BrownConradyParams → Point → Point → Offset
 by-step params distorted xy = step-from params distorted xy .by
 
--- brown_conrady's pass by these steps, and the determinant of this one
+abbrev pub squared-norm : Offset → Float
+squared-norm by = squared-radius (by .0) (by .1)
+
+-- whether a step is taken: it is no NaN, and it isn't small
+abbrev pub taken : Offset → Bool
+taken by = not (isNan (squared-norm by)) && not (full.small by)
+
+-- brown_conrady's pass by these steps, which a NaN ends too; and the determinant of this one with the step's norm
 unfoldable pub pass : BrownConradyParams → Point → Tracked → Tracked
-pass params distorted at = record {
-  search = full.pass-by (by-step params distorted) (at .search);
-  det = step-from params distorted (at .search .xy) .det;
-}
+pass params distorted at =
+    let step = step-from params distorted (at .search .xy) in
+    record {
+      search =
+          cond (isNan (squared-norm (step .by)))
+          (record { xy = at .search .xy; updates = at .search .updates; ended = true })
+          (full.pass-by (by-step params distorted) (at .search));
+      last = step .det ⊕ squared-norm (step .by);
+    }
 
 abbrev pub start : Point → Tracked
-start distorted = record { search = full.start distorted; det = ones }
+start distorted = record { search = full.start distorted; last = ones }
 
 abbrev pub ended : Tracked → Bool
 ended at = full.ended (at .search)
@@ -97,12 +111,12 @@ newton params distorted = passes (pass params distorted) ended full.limit (start
 abbrev pub distorted-of : BrownConradyParams → Pixel → Point
 distorted-of params pixel = affine.undistort (full.affine-params params) pixel .point
 
--- what Newton leaves and the last determinant are tested: a number of the search that isn't finite makes one of them so
+-- what Newton leaves and its last pass are tested: a number of the search that isn't finite makes one of them so
 abbrev pub undistort : BrownConradyParams → Pixel → Settled
 undistort params pixel =
     let distorted = distorted-of params pixel in
     let at = newton params distorted in
     let f = f-xy params distorted (at .search .xy) in
-    cond (finite (f .0 ⊕ f .1 ⊕ at .det))
+    cond (finite (f .0 ⊕ f .1 ⊕ at .last))
     (record { point = at .search .xy; updates = at .search .updates; flag = full.small f })
     (full.undistort params pixel)

@@ -9,7 +9,7 @@ ghost use mathlib.Core.Path.{_≡_};
 ghost use Prim.Native.Nat.{_<_};
 ghost use lib.Ieee.Scale.{finite};
 ghost use Rattle.brown_conrady.specs.BrownConrady.{limit};
-ghost use Rattle.short_brown_conrady.specs.ShortBrownConrady.{no-quotient, distortion, distort, slopes-at, dx-distort-x, f-xy, step-from, pass, newton, undistort};
+ghost use Rattle.short_brown_conrady.specs.ShortBrownConrady.{no-quotient, distortion, distort, slopes-at, dx-distort-x, f-xy, step-from, taken, pass, newton, undistort};
 use brown_conrady::BrownConradyParams;
 use brown_conrady::Offset;
 use brown_conrady::Search;
@@ -153,36 +153,49 @@ fn step_from(params: BrownConradyParams, distorted: Point, xy: Point) -> Step
     }
 }
 
-// Newton's search, and the determinant of its last pass.
+// Newton's search, and what is tested of its last pass: the determinant and the step's squared norm, added.
 struct Tracked {
     search: Search,
-    det: f64,
+    last: f64,
 }
 
-// One pass, as brown_conrady's: the step is tested before it is taken, and a small one ends Newton where it is.
+// Whether a step is taken: a small one isn't, as in brown_conrady, and neither is a NaN, from which only NaN comes.
+// An infinite one is, and makes the next a NaN.
+fn taken(by: Offset) -> bool
+    ensures { λ r. ⌜ r ≡ taken by ⌝ }
+{
+    let norm = lens::squared_radius(by.0, by.1);
+    if norm == norm {
+        return !brown_conrady::small(by);
+    }
+    false
+}
+
+// One pass, as brown_conrady's: the step is tested first, and one that isn't taken ends Newton where it is.
 fn pass(params: BrownConradyParams, distorted: Point, at: Tracked) -> Tracked
     requires { ⌜ at .search .updates < limit ⌝ }
     ensures { λ r. ⌜ r ≡ pass params distorted at ⌝ }
 {
     let xy = at.search.xy;
     let step = step_from(params, distorted, xy);
-    if brown_conrady::small(step.by) {
+    let last = step.det + lens::squared_radius(step.by.0, step.by.1);
+    if taken(step.by) {
         return Tracked {
             search: Search {
-                xy,
-                updates: at.search.updates,
-                ended: true,
+                xy: Point(xy.0 - step.by.0, xy.1 - step.by.1),
+                updates: at.search.updates + 1,
+                ended: false,
             },
-            det: step.det,
+            last,
         };
     }
     Tracked {
         search: Search {
-            xy: Point(xy.0 - step.by.0, xy.1 - step.by.1),
-            updates: at.search.updates + 1,
-            ended: false,
+            xy,
+            updates: at.search.updates,
+            ended: true,
         },
-        det: step.det,
+        last,
     }
 }
 
@@ -196,7 +209,7 @@ fn newton(params: BrownConradyParams, distorted: Point) -> Tracked
             updates: 0,
             ended: false,
         },
-        det: 1.0,
+        last: 1.0,
     };
     while at.search.updates < brown_conrady::LIMIT {
         at = pass(params, distorted, at);
@@ -207,9 +220,9 @@ fn newton(params: BrownConradyParams, distorted: Point) -> Tracked
     at
 }
 
-// The point of a pixel. A step that isn't finite leads to a point that isn't, and what isn't finite makes the step so,
-// with one exception: an infinite determinant divides to a zero step, which ends Newton. So the test is of what Newton
-// leaves, and of the last determinant.
+// The point of a pixel. A NaN ends Newton, an infinite step leads to a point that isn't finite, and what isn't finite
+// makes the step so, with one exception: an infinite determinant divides to a zero step, which ends Newton too. So the
+// test is of what Newton leaves, and of the last pass.
 pub fn undistort(params: BrownConradyParams, pixel: Pixel) -> Settled
     ensures { λ r. ⌜ r ≡ undistort params pixel ⌝ }
 {
@@ -218,7 +231,7 @@ pub fn undistort(params: BrownConradyParams, pixel: Pixel) -> Settled
     let at = newton(params, distorted);
     let xy = at.search.xy;
     let f = f_xy(params, distorted, xy);
-    if is_finite(f.0 + f.1 + at.det) {
+    if is_finite(f.0 + f.1 + at.last) {
         return Settled {
             point: xy,
             updates: at.search.updates,

@@ -1,16 +1,19 @@
 -- `short_brown_conrady::newton` meets its contract. The loop's invariant: the passes that are left from here lead where all of them lead from the start. The measure is how many are left. Assumes nothing.
 use mathlib.Core.Path.{_≡_, refl, sym, ap, _∙_}
-use mathlib.Core.Bool.{false}
+use mathlib.Core.Bool.{Bool, true, false, true≢false}
 use Prim.Native.Nat.{ℕ, suc, _-_}
 use native.Mathlib.Omega.{arith}
+use lib.Ieee.{isNan}
 use Rattle.lens.specs.Passes.{passes}
 use Rattle.lens.specs.declared.Point.{Point}
 use Rattle.lens.proofs.Passes.{ends-there, goes-on, none-left}
 use Rattle.short_brown_conrady.specs.ShortBrownConrady.{by-step, pass, ended, newton}
 use Rattle.brown_conrady.specs.BrownConrady.{limit}
 use Rattle.brown_conrady.specs.declared.BrownConradyParams.{BrownConradyParams}
+use Rattle.brown_conrady.specs.declared.Search.{Search}
 use Rattle.brown_conrady.proofs.Steps.{updated}
 use Rattle.short_brown_conrady.specs.declared.Tracked.{Tracked}
+use Rattle.short_brown_conrady.proofs.Full.{norm-at, nan-stays, is-pass}
 use Rattle.short_brown_conrady.proofs.newton.Statement.{statement}
 use Rattle.short_brown_conrady.proofs.newton.Tie as tie
 
@@ -24,8 +27,13 @@ abbrev μ-loop : tie.MeasureT-loop
 μ-loop params distorted at₀ at = limit - updates at
 
 updated-so : (params : BrownConradyParams) (distorted : Point) (at : Tracked) → ended (pass params distorted at) ≡ false → updates (pass params distorted at) ≡ suc (updates at)
-unfolding pass
-updated-so params distorted at = updated (by-step params distorted) (at .search)
+updated-so params distorted at h = go (isNan (norm-at params distorted at)) refl
+  where
+    go : (b : Bool) → isNan (norm-at params distorted at) ≡ b → updates (pass params distorted at) ≡ suc (updates at)
+    go true e = absurd (true≢false (sym (ap (λ (s : Search). s .ended) (nan-stays params distorted at e)) ∙ h))
+    go false e =
+        let p = is-pass params distorted at e in
+        ap (λ (s : Search). s .updates) p ∙ updated (by-step params distorted) (at .search) (ap (λ (s : Search). s .ended) (sym p) ∙ h)
 
 loop-holds : tie.Need-loop-holds Inv-loop μ-loop
 loop-holds c = refl

@@ -47,9 +47,9 @@ abbrev tested : BrownConradyParams → Pixel → Bool
 tested params pixel =
     let at = newton params (distorted-of params pixel) in
     let f = f-xy params (distorted-of params pixel) (at .search .xy) in
-    finite (f .0 ⊕ f .1 ⊕ at .det)
+    finite (f .0 ⊕ f .1 ⊕ at .last)
 
-module _ (params : BrownConradyParams) (pixel : Pixel) {a : AffineParams} {u : Settled} {at : Tracked} {f : Offset} {b : Bool} (p : a ≡ full.affine-params params) (q : u ≡ affine.undistort a pixel) (r : at ≡ newton params (u .point)) (s : f ≡ f-xy params (u .point) (at .search .xy)) (e : b ≡ finite (f .0 ⊕ f .1 ⊕ at .det)) where
+module _ (params : BrownConradyParams) (pixel : Pixel) {a : AffineParams} {u : Settled} {at : Tracked} {f : Offset} {b : Bool} (p : a ≡ full.affine-params params) (q : u ≡ affine.undistort a pixel) (r : at ≡ newton params (u .point)) (s : f ≡ f-xy params (u .point) (at .search .xy)) (e : b ≡ finite (f .0 ⊕ f .1 ⊕ at .last)) where
   test : {t : Bool} → b ≡ t → tested params pixel ≡ t
   test t = rw (s, r, q, p) at (sym e ∙ t)
 
