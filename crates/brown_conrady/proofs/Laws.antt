@@ -35,6 +35,7 @@ use Rattle.brown_conrady.proofs.parts_at.Reads as parts-at-contract
 use Rattle.brown_conrady.proofs.distortion.Reads as distortion-contract
 use Rattle.brown_conrady.proofs.slopes_at.Reads as slopes-at-contract
 use Rattle.brown_conrady.proofs.small.Reads as small-contract
+use Rattle.brown_conrady.proofs.past.Reads as past-contract
 use Rattle.brown_conrady.proofs.solve.Reads as solve-contract
 use Rattle.brown_conrady.proofs.distort.Reads as distort-contract
 use Rattle.brown_conrady.proofs.undistort.Reads as undistort-contract
@@ -48,11 +49,13 @@ pub determined :
 determined =
     (λ κ a s s' r r' p q. p ∙ sym q, λ κ a s s' r r' p q. p ∙ sym q, λ κ a s s' r r' p q. p ∙ sym q, λ κ a s s' r r' p q. p ∙ sym q)
 
--- and for each of the parts that bc12 shares.
+-- and for each of the parts that bc12 and the short engine share.
 pub parts-determined :
     Determined affine-params-contract.Post × Determined parts-at-contract.Post × Determined distortion-contract.Post
-    × Determined slopes-at-contract.Post × Determined small-contract.Post × Determined solve-contract.Post
+    × Determined slopes-at-contract.Post × Determined small-contract.Post × Determined past-contract.Post
+    × Determined solve-contract.Post
 parts-determined = (
+  λ κ a s s' r r' p q. p ∙ sym q,
   λ κ a s s' r r' p q. p ∙ sym q,
   λ κ a s s' r r' p q. p ∙ sym q,
   λ κ a s s' r r' p q. p ∙ sym q,

@@ -1,9 +1,9 @@
 -- The operations of brown_conrady.rs by its local names: each product, sum, difference and quotient rounds once, in
 -- the Rust's order. Numbers in comments are lines of that file. Definitions only.
-use mathlib.Core.Bool.{Bool, true, false, cond}
+use mathlib.Core.Bool.{Bool, true, false, cond, not, _&&_}
 use mathlib.Core.List.{[], _∷_}
 use Prim.Native.Nat.{ℕ, _+_}
-use lib.Ieee.{Float, le}
+use lib.Ieee.{Float, le, isNan}
 use Rattle.exact.specs.F64.{minus, _⊕_, _⊖_, _⊗_, _⊘_}
 use Rattle.root.specs.Root.{root}
 use Rattle.lens.specs.Constants.{ones, eps, int}
@@ -138,6 +138,10 @@ f-xy params distorted xy = record {
 -- 205 to 209, 219 to 223: the norm is at most EPS
 abbrev pub small : Offset → Bool
 small offset = le (root (squared-radius (offset .0) (offset .1))) eps
+
+-- it is past EPS: no NaN, and not small. Here a step that isn't small is taken, NaN or not; the short engine asks this
+abbrev pub past : Offset → Bool
+past offset = not (isNan (squared-radius (offset .0) (offset .1))) && not (small offset)
 
 -- 200 to 203: the inverse of the matrix a b above c d, which is d -b above -c a with each entry scaled by z; then its
 -- rows times f

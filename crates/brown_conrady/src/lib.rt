@@ -4,7 +4,7 @@
 // distort.
 ghost use mathlib.Core.Path.{_≡_};
 ghost use Prim.Native.Nat.{_<_};
-ghost use Rattle.brown_conrady.specs.BrownConrady.{affine-params, distortion, distort, shared-at, slopes-at, dx-distort-x, f-xy, small, solve, step-from, limit, pass, newton, undistort};
+ghost use Rattle.brown_conrady.specs.BrownConrady.{affine-params, distortion, distort, shared-at, slopes-at, dx-distort-x, f-xy, small, past, solve, step-from, limit, pass, newton, undistort};
 ghost use Rattle.brown_conrady.specs.Formula.{parts-at, dx-distort-params};
 use affine::AffineParams;
 use lens::Jacobian;
@@ -228,6 +228,13 @@ pub fn small(offset: Offset) -> bool
     ensures { λ r. ⌜ r ≡ small offset ⌝ }
 {
     lens::squared_radius(offset.0, offset.1) <= EPS_SQUARED
+}
+
+// Whether it is past EPS, which a NaN isn't either.
+pub fn past(offset: Offset) -> bool
+    ensures { λ r. ⌜ r ≡ past offset ⌝ }
+{
+    EPS_SQUARED < lens::squared_radius(offset.0, offset.1)
 }
 
 // The inverse of the matrix a b above c d, times f.

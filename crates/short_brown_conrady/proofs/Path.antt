@@ -2,15 +2,15 @@
 use mathlib.Core.Path.{_≡_, refl, sym, ap, _∙_, subst}
 use mathlib.Core.Logic.{_⊎_, inl, inr}
 use mathlib.Core.Bool.{Bool, true, false, cond, true≢false, false≢true}
-use mathlib.Core.List.{[], _∷_, _++_}
+use mathlib.Core.List.{List, [], _∷_, _++_}
 use Prim.Native.Nat.{ℕ, zero, suc}
 use lib.Dec.{T}
 use lib.Ieee.{Float, nan, inf, fin, div, le, add, mul, ofBits, ofInt, isNan}
 use lib.Ieee.Fits.{and-i}
 use lib.Ieee.Scale.{finite}
 use Rattle.exact.specs.Alike.{both-zero}
-use Rattle.exact.specs.F64.{f64, _⊕_, _⊗_, _⊘_, isZero}
-use Rattle.exact.proofs.Operations.{sum-finite, neg-finite, minus-finite, difference-finite, product-finite}
+use Rattle.exact.specs.F64.{f64, _⊕_, _⊖_, _⊗_, _⊘_, isZero}
+use Rattle.exact.proofs.Operations.{sum-finite, neg-finite, minus-finite, difference-finite, product-finite, quotient-finite}
 use Rattle.exact.proofs.Zeros.{zero-plus-zero, zero-times, times-zero}
 use Rattle.formula.specs.Term.{rounded, denominators}
 use Rattle.lens.specs.Constants.{ones}
@@ -167,6 +167,14 @@ module _ (params : BrownConradyParams) (distorted : Point) where
 
 -- ---- each operation: its numbers are finite, or the answer is the full engine's
 
+none : T (all-finite [])
+unfolding all-finite
+none = tt
+
+more : (x : Float) (xs : List Float) → T (finite x) → T (all-finite xs) → T (all-finite (x ∷ xs))
+unfolding all-finite
+more x xs p q = and-i (finite x) (all-finite xs) p q
+
 either : {A P : Type 0} (b : Bool) (x y : A) → (T b → P) → P ⊎ (cond b x y ≡ y)
 either true x y k = inl (k tt)
 either false x y k = inr refl
@@ -217,6 +225,12 @@ module _ (params : BrownConradyParams) where
   unfolding distortion denominators all-finite
   ended-at xy x y = all-throughout (at params xy) (xd0 ∷ yd0 ∷ []) (tt, x, (tt, y, tt))
 
+  -- where it starts, and what the lens misses by where it ends
+  around :
+      (pixel : Pixel) (f : Offset) → let d = distorted-of params pixel in T (finite (d .0)) → T (finite (d .1)) → T (finite (f .0)) → T (finite (f .1))
+      → T (all-finite ((pixel .0 ⊖ params .cx) ∷ (pixel .1 ⊖ params .cy) ∷ d .0 ∷ d .1 ∷ f .0 ∷ f .1 ∷ []))
+  around pixel f d0 d1 x y = more _ _ (quotient-finite _ _ d0 .0) (more _ _ (quotient-finite _ _ d1 .0) (more _ _ d0 (more _ _ d1 (more _ _ x (more _ _ y none)))))
+
   pub undistort-either : (pixel : Pixel) → T (all-finite (undistort-numbers params pixel)) ⊎ (undistort params pixel ≡ full.undistort params pixel)
   undistort-either pixel = either (finite (f .0 ⊕ f .1 ⊕ last .last)) _ (full.undistort params pixel) λ t. go (sum-finite _ _ t)
     where
@@ -236,6 +250,7 @@ module _ (params : BrownConradyParams) where
       go both =
           let fs = sum-finite (f .0) (f .1) (both .0) in
           let x = difference-finite _ _ (fs .0) .0 in
-          joined (search-numbers params distorted full.limit (start distorted)) (all-numbers (at params (last .search .xy)) (xd0 ∷ yd0 ∷ []))
+          joined _ _ (around pixel f (difference-finite _ _ (fs .0) .1) (difference-finite _ _ (fs .1) .1) (fs .0) (fs .1))
+          (joined (search-numbers params distorted full.limit (start distorted)) (all-numbers (at params (last .search .xy)) (xd0 ∷ yd0 ∷ []))
           (search-finite params distorted full.limit (start distorted) (reached (powers params (last .search .xy) x)) (both .1))
-          (ended-at (last .search .xy) x (difference-finite _ _ (fs .1) .0))
+          (ended-at (last .search .xy) x (difference-finite _ _ (fs .1) .0)))

@@ -3,7 +3,7 @@
 use mathlib.Core.Bool.{cond}
 use mathlib.Core.List.{List, [], _∷_, _++_}
 use Prim.Native.Nat.{ℕ, zero, suc}
-use lib.Ieee.{Float}
+use lib.Ieee.{Float, binary64, sub}
 use lib.ListN.{getD}
 use Rattle.formula.specs.Term.{Term, variable, numeral, minus, _⊕_, _⊖_, _⊗_, _⊘_, rounded}
 use Rattle.lens.specs.Constants.{zeros}
@@ -68,9 +68,13 @@ search-numbers params distorted (suc left) at =
     let to = pass params distorted at in
     step-numbers params distorted (at .search .xy) ++ cond (ended to) [] (search-numbers params distorted left to)
 
--- of the search for a pixel, and of what the lens makes of the point where it ends
+-- of the search for a pixel: where it starts, its passes, and where it ends what the lens makes of that and misses by
 abbrev pub undistort-numbers : BrownConradyParams → Pixel → List Float
 undistort-numbers params pixel =
     let distorted = distorted-of params pixel in
-    search-numbers params distorted limit (start distorted)
-    ++ all-numbers (at params (newton params distorted .search .xy)) (xd0 ∷ yd0 ∷ [])
+    let xy = newton params distorted .search .xy in
+    let f = f-xy params distorted xy in
+    (sub binary64 (pixel .0) (params .cx) ∷ sub binary64 (pixel .1) (params .cy) ∷ distorted .0 ∷ distorted .1
+    ∷ f .0 ∷ f .1 ∷ [])
+    ++ search-numbers params distorted limit (start distorted)
+    ++ all-numbers (at params xy) (xd0 ∷ yd0 ∷ [])

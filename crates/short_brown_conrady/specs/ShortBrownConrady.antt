@@ -1,6 +1,6 @@
 -- The operations of the short engine: brown_conrady's, with the polynomials (Polynomial) in the place of its quotients,
 -- and the test that hands a point over to brown_conrady, which is called full here. Definitions only.
-use mathlib.Core.Bool.{Bool, true, cond, not, _&&_}
+use mathlib.Core.Bool.{Bool, true, cond, _&&_}
 use mathlib.Core.List.{[], _∷_}
 use lib.Ieee.{Float, isNan}
 use lib.Ieee.Scale.{finite}
@@ -81,10 +81,6 @@ by-step params distorted xy = step-from params distorted xy .by
 
 abbrev pub squared-norm : Offset → Float
 squared-norm by = squared-radius (by .0) (by .1)
-
--- whether a step is taken: it is no NaN, and it isn't small
-abbrev pub taken : Offset → Bool
-taken by = not (isNan (squared-norm by)) && not (full.small by)
 
 -- brown_conrady's pass by these steps, which a NaN ends too; and the determinant of this one with the step's norm
 unfoldable pub pass : BrownConradyParams → Point → Tracked → Tracked

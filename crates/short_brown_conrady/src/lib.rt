@@ -9,7 +9,7 @@ ghost use mathlib.Core.Path.{_≡_};
 ghost use Prim.Native.Nat.{_<_};
 ghost use lib.Ieee.Scale.{finite};
 ghost use Rattle.brown_conrady.specs.BrownConrady.{limit};
-ghost use Rattle.short_brown_conrady.specs.ShortBrownConrady.{no-quotient, distortion, distort, slopes-at, dx-distort-x, f-xy, step-from, taken, pass, newton, undistort};
+ghost use Rattle.short_brown_conrady.specs.ShortBrownConrady.{no-quotient, distortion, distort, slopes-at, dx-distort-x, f-xy, step-from, pass, newton, undistort};
 use brown_conrady::BrownConradyParams;
 use brown_conrady::Offset;
 use brown_conrady::Search;
@@ -159,19 +159,8 @@ struct Tracked {
     last: f64,
 }
 
-// Whether a step is taken: a small one isn't, as in brown_conrady, and neither is a NaN, from which only NaN comes.
-// An infinite one is, and makes the next a NaN.
-fn taken(by: Offset) -> bool
-    ensures { λ r. ⌜ r ≡ taken by ⌝ }
-{
-    let norm = lens::squared_radius(by.0, by.1);
-    if norm == norm {
-        return !brown_conrady::small(by);
-    }
-    false
-}
-
-// One pass, as brown_conrady's: the step is tested first, and one that isn't taken ends Newton where it is.
+// One pass, as brown_conrady's: the step is tested before it is taken, and a small one ends Newton where it is. Here a
+// NaN does so too, from which only NaN would come. An infinite step makes the next a NaN.
 fn pass(params: BrownConradyParams, distorted: Point, at: Tracked) -> Tracked
     requires { ⌜ at .search .updates < limit ⌝ }
     ensures { λ r. ⌜ r ≡ pass params distorted at ⌝ }
@@ -179,7 +168,7 @@ fn pass(params: BrownConradyParams, distorted: Point, at: Tracked) -> Tracked
     let xy = at.search.xy;
     let step = step_from(params, distorted, xy);
     let last = step.det + lens::squared_radius(step.by.0, step.by.1);
-    if taken(step.by) {
+    if brown_conrady::past(step.by) {
         return Tracked {
             search: Search {
                 xy: Point(xy.0 - step.by.0, xy.1 - step.by.1),

@@ -6,10 +6,10 @@ use borrow.Author.Needs.{needs}
 use lib.Ieee.{Float, isNan}
 use Rattle.exact.specs.F64.{_⊕_, _⊖_}
 use Rattle.lens.specs.declared.Point.{Point}
-use Rattle.brown_conrady.specs.BrownConrady.{small, pass-by}
+use Rattle.brown_conrady.specs.BrownConrady.{small, past, pass-by}
 use Rattle.brown_conrady.specs.declared.BrownConradyParams.{BrownConradyParams}
 use Rattle.brown_conrady.specs.declared.Search.{Search}
-use Rattle.short_brown_conrady.specs.ShortBrownConrady.{step-from, squared-norm, taken, pass}
+use Rattle.short_brown_conrady.specs.ShortBrownConrady.{step-from, squared-norm, pass}
 use Rattle.short_brown_conrady.specs.declared.Step.{Step}
 use Rattle.short_brown_conrady.specs.declared.Tracked.{Tracked}
 use Rattle.short_brown_conrady.proofs.pass.Statement.{statement}
@@ -31,17 +31,17 @@ module _ (params : BrownConradyParams) (distorted : Point) (at : Tracked) {step 
   abbrev made : Step → Float → Bool → Tracked
   made step norm b = record { search = cond b (moved step) stayed; last = step .det ⊕ norm }
 
-  by-definition : let s = step-from params distorted (at .search .xy) in made s (squared-norm (s .by)) (taken (s .by)) ≡ pass params distorted at
+  by-definition : let s = step-from params distorted (at .search .xy) in made s (squared-norm (s .by)) (past (s .by)) ≡ pass params distorted at
   unfolding pass pass-by
   by-definition =
       let s = step-from params distorted (at .search .xy) in
       ap (λ (x : Search). record { search = x; last = s .det ⊕ squared-norm (s .by) }) (either-stays (isNan (squared-norm (s .by))) (small (s .by)) stayed (moved s))
 
   -- by what the test says
-  tested : {norm : Float} → norm ≡ squared-norm (step .by) → {b : Bool} → b ≡ taken (step .by) → {t : Bool} → b ≡ t → made step norm t ≡ pass params distorted at
+  tested : {norm : Float} → norm ≡ squared-norm (step .by) → {b : Bool} → b ≡ past (step .by) → {t : Bool} → b ≡ t → made step norm t ≡ pass params distorted at
   tested {norm} n f e =
-      ap (made step norm) (sym e ∙ f) ∙ ap (λ (x : Float). made step x (taken (step .by))) n
-      ∙ ap (λ (s : Step). made s (squared-norm (s .by)) (taken (s .by))) is
+      ap (made step norm) (sym e ∙ f) ∙ ap (λ (x : Float). made step x (past (step .by))) n
+      ∙ ap (λ (s : Step). made s (squared-norm (s .by)) (past (s .by))) is
       ∙ by-definition
 
 returns : tie.Need-returns
@@ -49,13 +49,13 @@ returns c =
     let i = c .before .before .before .before .before in
     let n = i .before .before .before in
     let a = n .before .before .before .args in
-    tested (a .params) (a .distorted) (a .at) (n .before .step-from .ensures) (n .squared-radius .ensures) (i .before .taken .ensures) (i .if1 .taken)
+    tested (a .params) (a .distorted) (a .at) (n .before .step-from .ensures) (n .squared-radius .ensures) (i .before .past .ensures) (i .if1 .taken)
 
 returns-2 : tie.Need-returns-2
 returns-2 c =
     let n = c .before .before .before in
     let a = n .before .before .before .args in
-    tested (a .params) (a .distorted) (a .at) (n .before .step-from .ensures) (n .squared-radius .ensures) (c .before .taken .ensures) (c .if1 .left)
+    tested (a .params) (a .distorted) (a .at) (n .before .step-from .ensures) (n .squared-radius .ensures) (c .before .past .ensures) (c .if1 .left)
 
 pub pass-spec : {M : Type 1} → statement M
 pass-spec = tie.close (tie.spec (λ c κs. search needs) (λ c κs. search needs) (λ c κs. search needs) (λ c. search needs) returns returns-2)
