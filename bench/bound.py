@@ -28,7 +28,7 @@ The stack. What a function pushes and reserves at its deepest, the 8 bytes of it
 as far as it is touched, and at each call what the function called takes at most. An alignment counts as the most it can skip. What the
 caller of a C function passes on the stack isn't in it.
 
-memcpy and memset are the functions from outside, called by the turns, by each cell and by the derivatives. Their own instructions and
+memcpy and memset are the functions from outside, called by the turns and by the derivatives. Their own instructions and
 stack are not in the figures; how often they can be called is said."""
 import re, sys
 from dataclasses import dataclass
@@ -104,14 +104,15 @@ LOOPS += [
 ]
 
 # Functions with one jump table, which is over the model. What tells its entries apart: affine, bc and bc12 call neither root nor arctangent
-# nor tangent, eucm the root alone, kb both; and bc takes longer than affine, bc12 longer than bc. To take a function out of this is always
-# sound.
-MODEL_TABLES = ["camera::distort_judged", "camera::undistort_judged", "lens_dx_distort_x", "lens_dx_distort_params"]
+# nor tangent, eucm the root alone, kb both; and bc takes longer than affine, bc12 longer than bc, but where bc has two engines: there it is
+# told by the short one's test (ENGINES). To take a function out of this is always sound.
+MODEL_TABLES = ["engine::distort", "lens_distort", "camera::undistort_judged", "lens_dx_distort_x", "lens_dx_distort_params"]
 BY_CALLS = [(False, False), (True, False), (True, True), (False, False), (False, False)]
 
 # Where the engines are told apart, and the one block of it that every path through each has: the short one's last test, of x - x, to which
-# only bc comes; what does its point again; and the call of the full one.
-ENGINES = {"engine::distort": (r"subsd (%xmm\d+),\1$", r"divsd ", r"call camera::distort_judged"),
+# only bc comes; what does its point again; and the full one's own. In a function with a jump table over the model they are sought among bc's
+# blocks, what does the point again behind the short one's, and the full one's not.
+ENGINES = {"engine::distort": (r"subsd (%xmm\d+),\1$", r"divsd ", r"divsd "),
            "distortion_table::up_to_cells": (r"subsd (%xmm\d+),\1$", r"call brown_conrady::undistort", r"call camera::undistort_judged")}
 BC = MODELS.index("bc")
 
@@ -185,14 +186,20 @@ class Bounds:
         """The blocks that a model doesn't come to, of each function where engines are told apart: bc's, and the others'."""
         shut = {}
         for name, patterns in ENGINES.items():
-            found = []
-            for pattern in patterns:
-                blocks = self.functions[name].blocks.items() if name in self.functions else []
-                fits = [at for at, block in blocks if any(re.search(pattern, re.sub(r"\s+", " ", line.text())) for line in block.lines)]
+            function = self.functions.get(name)
+            blocks = function.blocks if function else {}
+
+            def one(pattern, among):
+                fits = [at for at in among if any(re.search(pattern, re.sub(r"\s+", " ", line.text())) for line in blocks[at].lines)]
                 if len(fits) != 1:
                     fail(f"ENGINES: {len(fits)} blocks of {name} have an instruction like {pattern!r}")
-                found += fits
-            short, again, full = found
+                return fits[0]
+
+            tables = [block for block in blocks.values() if block.table and len(block.after) == len(MODELS)]
+            own = order(tables[0].after[BC], lambda at: blocks[at].after) if tables else list(blocks)
+            short = one(patterns[0], own)
+            behind = order(short, lambda at: blocks[at].after) if tables else own
+            again, full = one(patterns[1], behind), one(patterns[2], [at for at in own if not tables or at not in behind])
             shut[name] = {"full": [short], "short": [again, full]}.get(engine, []), [short]
         return shut
 
@@ -203,7 +210,7 @@ class Bounds:
                 fail(f"MODEL_TABLES: {name} hasn't one jump table of {len(MODELS)} entries any more; take it out")
             takes = [self.instructions(name, model)[0] for model in range(len(MODELS))]
             calls = [self.called_from(self.functions[name], way) for way in tables[0].after]
-            if calls != BY_CALLS or not takes[0] < takes[3] < takes[4]:
+            if calls != BY_CALLS or not takes[0] < min(takes[3:]) or not (name in ENGINES or takes[3] < takes[4]):
                 fail(f"MODEL_TABLES: the entries of {name}'s jump table don't look like {', '.join(MODELS)}: {takes}")
 
     def called_from(self, function, at):

@@ -9,7 +9,6 @@ from models import MODELS, TABLE
 MILLISECONDS = 3
 RATES = [50, 100, 400]  # millions of instructions a second
 WIDTH, HEIGHT = 640, 480
-COPY = 40  # a cell's memcpy, which isn't in its bound: more than was met of one
 UPDATES = [str(model.limit or "none") for model in TABLE.values()]
 
 
@@ -33,7 +32,7 @@ def sixteen(bounds):
     rows = []
     for model in range(len(MODELS)):
         own, prices = bounds.instructions("lens_turn16", model)
-        fit = [n((rate * 1000 * MILLISECONDS - own) // (prices["cell"] + COPY)) for rate in RATES]
+        fit = [n((rate * 1000 * MILLISECONDS - own) // prices["cell"]) for rate in RATES]
         rows.append([MODELS[model], n(prices["cell"]), n(own), *fit])
     print(f"\nOf `lens_turn16`, and how many of its cells fit {MILLISECONDS} ms at so many million instructions a second:\n")
     print(lines(["", "cell, at most", "a turn's own, at most", *map(str, RATES)], rows))
@@ -56,14 +55,14 @@ def main(archive, page):
           f"one: only a camera whose k4, k5 and k6 are zeros can have it. One that the short engine does alone takes at most {n(short)}, and "
           f"one of a camera whose three aren't all zeros {n(full)}; docs/COST.md has what was met of each.")
     print("\nA turn of s samples and c cells takes at most\n\n    a turn's own + s × a border sample + c × a cell\n\n"
-          "instructions, and what memcpy takes, which is in what was met: for at most four calls in a turn, with at most 256 bytes each, and for one in each cell, with 136. So the units that fit a frame are\n\n    units = (free time × rate - a turn's own) / a unit\n\n"
+          "instructions, and what memcpy takes, which is in what was met: for at most four calls in a turn, with at most 256 bytes each. So the units that fit a frame are\n\n    units = (free time × rate - a turn's own) / a unit\n\n"
           "rounded down, where the rate is how many of these instructions the processor does in a unit of time, and a unit is a border "
           "sample until the border is done and a cell from then on (`LENS_TURN_DONE` of the answer is then `LENS_SAMPLES` or more). For a "
-          f"turn that may do both, take the dearer. In {MILLISECONDS} ms, samples / cells, a cell's memcpy taken for {COPY} instructions here and below:\n")
+          f"turn that may do both, take the dearer. In {MILLISECONDS} ms, samples / cells:\n")
 
     def fits(model, kind, rate):
         own, prices = most[model]
-        return (rate * 1000 * MILLISECONDS - own) // (prices[kind] + COPY * (kind == "cell"))
+        return (rate * 1000 * MILLISECONDS - own) // prices[kind]
 
     both = [[" / ".join(n(fits(m, kind, rate)) for kind in ("sample", "cell")) for m in range(len(MODELS))] for rate in RATES]
     print(lines(["millions of instructions a second", *MODELS], [[str(rate), *row] for rate, row in zip(RATES, both)]))
@@ -71,7 +70,7 @@ def main(archive, page):
     samples, cells, rows = 2 * WIDTH + 2 * HEIGHT, WIDTH * HEIGHT, []
     for model, (own, prices) in enumerate(most):
         border, rest = (math.ceil(count / fits(model, kind, 100)) for count, kind in ((samples, "sample"), (cells, "cell")))
-        total = samples * prices["sample"] + cells * (prices["cell"] + COPY) + (border + rest) * own
+        total = samples * prices["sample"] + cells * prices["cell"] + (border + rest) * own
         rows.append([MODELS[model], n(total), f"{n(border + rest)}, of which {n(border)} for the border"])
     print(f"\nA whole table of {WIDTH} by {HEIGHT} cells has {n(samples)} samples and {n(cells)} cells. At most, a turn in each frame:\n")
     print(lines(["", "instructions", f"frames of {MILLISECONDS} ms at 100 million a second"], rows))

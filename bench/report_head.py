@@ -12,7 +12,7 @@ TITLE = "\n## The worst unit of each model\n\n"
 WORST = """In x86-64 instructions, through `lens_turn`, and the cells of sixteen bits through `lens_turn16`. Counted on the same machine, DATE.
 
 - *Met*: a turn of two units less a turn of one, the most of 16 records. (What a turn of none takes more behind the last sample than before it is taken off that sample.) Samples are ones that take the most updates that there can be, of stretched lenses, four of them the last sample, which closes the region; cells are of lenses that somebody might have. A turn's own is there a turn of none: reading, judging and writing the record, and the loop that counts.
-- *At most*: the longest path through the archive's instructions, each loop as often as it can be passed (bench/bound.py; the loops stand below). No input need take that path. A turn of s samples and c cells takes at most a turn's own + s · a border sample + c · a cell, whatever the record and the camera are. What memcpy itself takes, of which a turn makes at most four calls with at most 256 bytes each, and each cell one more with 136, is in what is met and not in what is at most: so a cell that is met can take more than the most.
+- *At most*: the longest path through the archive's instructions, each loop as often as it can be passed (bench/bound.py; the loops stand below). No input need take that path. A turn of s samples and c cells takes at most a turn's own + s · a border sample + c · a cell, whatever the record and the camera are. What memcpy itself takes, of which a turn makes at most four calls with at most 256 bytes each, is in what is met and not in what is at most.
 
 docs/HEAD.md budgets with what is *at most*.
 
@@ -102,7 +102,8 @@ def engine(archive, words, kind):
 
 
 def again(bounds):
-    """A sample that both engines search to the last update. It is refused, so there is no turn of two."""
+    """A sample whose search the short engine ends at a NaN, and the full one goes on with to the last update. It is refused, so there is
+    no turn of two."""
     own, prices = bounds.instructions("lens_turn", BC)
     name, jobs = f"{folder}/bc_again.jobs", made("count_turn", "cases", "bc", "again")
     with open(name, "w") as out:

@@ -480,10 +480,11 @@ def short_jacobian(coefficients, a, b):
 
 
 def short_search(params, u, v):
-    """Where Newton ends, the updates, what the lens misses by there, and the determinant of the last pass."""
+    """Where Newton ends, the updates, what the lens misses by there, and of the last pass the determinant and the square of its
+    step's norm, added. A step that is NaN ends it too."""
     coefficients = params[4:9]
     u, v = affine_undistort(params[:4], u, v)
-    x, y, updates, determinant = u, v, 0, 1.0
+    x, y, updates, last = u, v, 0, 1.0
     while updates < 50:
         fu, fv = short_distortion(coefficients, x, y)
         fu, fv = fu - u, fv - v
@@ -492,16 +493,18 @@ def short_search(params, u, v):
         s = div(1.0, determinant)
         step_x = d * s * fu + -b * s * fv
         step_y = -c * s * fu + a * s * fv
-        if norm(step_x, step_y) <= EPS:
+        square = step_x * step_x + step_y * step_y
+        last = determinant + square
+        if norm(step_x, step_y) <= EPS or math.isnan(square):
             break
         x, y, updates = x - step_x, y - step_y, updates + 1
     fu, fv = short_distortion(coefficients, x, y)
-    return x, y, updates, fu - u, fv - v, determinant
+    return x, y, updates, fu - u, fv - v, last
 
 
 def short_undistort(params, u, v):
-    x, y, updates, fu, fv, determinant = short_search(params, u, v)
-    if not math.isfinite(fu + fv + determinant):
+    x, y, updates, fu, fv, last = short_search(params, u, v)
+    if not math.isfinite(fu + fv + last):
         return bc_undistort(params, u, v)
     return x, y, updates, norm(fu, fv) <= EPS
 

@@ -636,8 +636,8 @@ def zero_signs(question, job):
     edges = None
     for n, pixel in enumerate(samples(w, h)[: job.done + 1]):
         number, given = answer(model, UNDISTORT, params, *pixel)
-        *_, fu, fv, determinant = short_search(params, *pixel)
-        if not math.isfinite(fu + fv + determinant):
+        *_, fu, fv, last = short_search(params, *pixel)
+        if not math.isfinite(fu + fv + last):
             yield "samples done again by the full engine, " + ("refused" if number else "answered")
         if n < min(job.done, border(w, h)):
             edges = given[:2] * 2 if n == 0 else extended(edges, *given[:2])
