@@ -109,11 +109,11 @@ LOOPS += [
 MODEL_TABLES = ["engine::distort", "lens_distort", "camera::undistort_judged", "lens_dx_distort_x", "lens_dx_distort_params"]
 BY_CALLS = [(False, False), (True, False), (True, True), (False, False), (False, False)]
 
-# Where the engines are told apart, and the one block of it that every path through each has: the short one's last test, of x - x, to which
-# only bc comes; what does its point again; and the full one's own. In a function with a jump table over the model they are sought among bc's
-# blocks, what does the point again behind the short one's, and the full one's not.
+# Where the engines are told apart, and the one block of it that every path through each has: of the short one, to which only bc comes, its
+# last test, of x - x, or None: where its search begins; what does its point again; and the full one's own. In a function with a jump table over
+# the model they are sought among the blocks that bc alone comes to, what does the point again behind the short one's, and the full one's not.
 ENGINES = {"engine::distort": (r"subsd (%xmm\d+),\1$", r"divsd ", r"divsd "),
-           "distortion_table::up_to_cells": (r"subsd (%xmm\d+),\1$", r"call brown_conrady::undistort", r"call camera::undistort_judged")}
+           "distortion_table::up_to_cells": (None, r"call brown_conrady::undistort", r"call camera::undistort_judged")}
 BC = MODELS.index("bc")
 
 # The functions that C has, in the header's order, and whether a model is handed in.
@@ -182,24 +182,38 @@ class Bounds:
             if name not in self.functions:
                 fail(f"the archive has no {name}")
 
+    def engine_blocks(self, name, patterns):
+        """The short engine's block, what does its point again, and the full one's."""
+        function = self.functions.get(name)
+        blocks = function.blocks if function else {}
+
+        def one(pattern, among):
+            fits = [at for at in among if any(re.search(pattern, re.sub(r"\s+", " ", line.text())) for line in blocks[at].lines)]
+            if len(fits) != 1:
+                fail(f"ENGINES: {len(fits)} blocks of {name} have an instruction like {pattern!r}")
+            return fits[0]
+
+        def reached(at):
+            return order(at, lambda way: blocks[way].after)
+
+        def search():
+            heads = [loop.head for loop in every_loop(function.loops) if loop.entry.passes] if function else []
+            return heads[0] if len(heads) == 1 else fail(f"ENGINES: {len(heads)} searches of {name}")
+
+        table = next((block.after for block in blocks.values() if block.table and len(block.after) == len(MODELS)), None)
+        if not table:
+            return one(patterns[0], blocks) if patterns[0] else search(), one(patterns[1], blocks), one(patterns[2], blocks)
+        others = {at for model, way in enumerate(table) if model != BC for at in reached(way)}
+        own = [at for at in reached(table[BC]) if at not in others]
+        short = one(patterns[0], own)
+        behind = reached(short)
+        return short, one(patterns[1], [at for at in own if at in behind]), one(patterns[2], [at for at in own if at not in behind])
+
     def find_engines(self, engine):
         """The blocks that a model doesn't come to, of each function where engines are told apart: bc's, and the others'."""
         shut = {}
         for name, patterns in ENGINES.items():
-            function = self.functions.get(name)
-            blocks = function.blocks if function else {}
-
-            def one(pattern, among):
-                fits = [at for at in among if any(re.search(pattern, re.sub(r"\s+", " ", line.text())) for line in blocks[at].lines)]
-                if len(fits) != 1:
-                    fail(f"ENGINES: {len(fits)} blocks of {name} have an instruction like {pattern!r}")
-                return fits[0]
-
-            tables = [block for block in blocks.values() if block.table and len(block.after) == len(MODELS)]
-            own = order(tables[0].after[BC], lambda at: blocks[at].after) if tables else list(blocks)
-            short = one(patterns[0], own)
-            behind = order(short, lambda at: blocks[at].after) if tables else own
-            again, full = one(patterns[1], behind), one(patterns[2], [at for at in own if not tables or at not in behind])
+            short, again, full = self.engine_blocks(name, patterns)
             shut[name] = {"full": [short], "short": [again, full]}.get(engine, []), [short]
         return shut
 
