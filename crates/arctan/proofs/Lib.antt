@@ -3,6 +3,7 @@ pub mod Rise
 pub mod Bent
 pub mod Table
 pub mod Bounds
+pub mod Wide
 pub mod Whole
 pub mod Rounds
 pub mod Counts

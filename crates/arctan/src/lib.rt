@@ -4,8 +4,9 @@
 // numbers are brought there by a quotient, and the angle by a quarter or a half of pi.
 
 ghost use mathlib.Core.Path.{_≡_};
-ghost use Prim.Native.Nat.{_*_, _^_, _≤_};
+ghost use Prim.Native.Nat.{_*_, _/_, _%_, _^_, _≤_};
 ghost use lib.Dec.{T};
+ghost use lib.ListN.{drop};
 ghost use lib.Ieee.{le};
 ghost use Rattle.exact.specs.F64.{f64};
 ghost use Rattle.arctan.specs.Series.{Arctangent};
@@ -48,33 +49,72 @@ const QUARTER: u64 = 905502432259640355;
 
 const HALF: u64 = 1811004864519280710;
 
-// a * b, counted in 2^-60, from the halves of both. What the two low halves give is left out: it is
-// below one.
-fn product(a: u64, b: u64) -> u64
-    requires { ⌜ (a ≤ 2 ^ 60) × (b ≤ 2 ^ 60) ⌝ }
-    ensures { λ r. ⌜ r ≡ product a b ⌝ }
+// The upper half of a * b, which has 128 bits, from the halves of both. The compiler knows this shape and that of low,
+// and makes one multiplication of both.
+fn high(a: u64, b: u64) -> u64
+    ensures { λ r. ⌜ r ≡ a * b / 2 ^ 64 ⌝ }
 {
-    let a1 = a >> 30;
-    let a0 = a % 0x4000_0000;
-    let b1 = b >> 30;
-    let b0 = b % 0x4000_0000;
-    a1 * b1 + ((a1 * b0 + a0 * b1) >> 30)
+    let a1 = a >> 32;
+    let a0 = a % 0x1_0000_0000;
+    let b1 = b >> 32;
+    let b0 = b % 0x1_0000_0000;
+    let left = a1 * b0;
+    let right = a0 * b1;
+    let middle = ((a0 * b0) >> 32) + left % 0x1_0000_0000 + right % 0x1_0000_0000;
+    a1 * b1 + (left >> 32) + (right >> 32) + (middle >> 32)
 }
 
-// c0 - y * (c1 - y * (c2 - ..)) over the reciprocals, from the last one on. The table is named once:
-// named in the loop it would be laid out anew in each turn.
-fn nested(y: u64) -> u64
-    requires { ⌜ y ≤ 2 ^ 59 ⌝ }
-    ensures { λ r. ⌜ r ≡ nested y reciprocals ⌝ }
+// The lower half.
+fn low(a: u64, b: u64) -> u64
+    requires { ⌜ (a ≤ 2 ^ 63) × (b ≤ 2 ^ 60) ⌝ }
+    ensures { λ r. ⌜ r ≡ a * b % 2 ^ 64 ⌝ }
+{
+    let a1 = a >> 32;
+    let a0 = a % 0x1_0000_0000;
+    let b1 = b >> 32;
+    let b0 = b % 0x1_0000_0000;
+    let middle = (a1 * b0 + a0 * b1) % 0x1_0000_0000;
+    std::num::wrapping_add_u64(middle * 0x1_0000_0000, a0 * b0)
+}
+
+// a * b, counted in 2^-60, where what the two low halves of 30 bits give is left out: it is below one. That corner is
+// counted in 2^-124, as the whole product is. Where the product's lower half is below it, the upper has one too many.
+fn product(a: u64, b: u64) -> u64
+    requires { ⌜ (a ≤ 2 ^ 59) × (b ≤ 2 ^ 60) ⌝ }
+    ensures { λ r. ⌜ r ≡ product a b ⌝ }
+{
+    let corner = (a * 4 % 0x1_0000_0000) * (b * 4 % 0x1_0000_0000);
+    let mut borrow: u64 = 0;
+    if low(a * 16, b) < corner {
+        borrow = 1;
+    }
+    high(a * 16, b) - borrow
+}
+
+// c0 - y * (c1 - y * (c2 - ..)) over the reciprocals from the one at `to` on; h is the same from the one at `from` on.
+// The table is named once: named in the loop it would be laid out anew in each turn.
+fn levels(y: u64, from: usize, to: usize, h: u64) -> u64
+    requires { ⌜ (y ≤ 2 ^ 59) × (to ≤ from) × (from ≤ 24) × (h ≡ nested y (drop from reciprocals)) ⌝ }
+    ensures { λ r. ⌜ r ≡ nested y (drop to reciprocals) ⌝ }
 {
     let table = RECIPROCALS;
-    let mut h: u64 = 0;
-    let mut k: usize = 24;
-    while 0 < k {
+    let mut h = h;
+    let mut k = from;
+    while to < k {
         k -= 1;
         h = table[k] - product(y, h);
     }
     h
+}
+
+// The same over all of them, from the last one on. The compiler lays out a loop of twelve turns, so that no table is
+// left in the code; one of twenty-four is too long for it.
+fn nested(y: u64) -> u64
+    requires { ⌜ y ≤ 2 ^ 59 ⌝ }
+    ensures { λ r. ⌜ r ≡ nested y reciprocals ⌝ }
+{
+    let h = levels(y, 24, 12, 0);
+    levels(y, 12, 0, h)
 }
 
 // The series of s: s - s^3/3 + s^5/5 - ..

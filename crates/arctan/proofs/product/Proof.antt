@@ -1,38 +1,41 @@
--- `arctan::product` meets its contract: a half is at most 2 ^ 30, so a product of two halves is at most 2 ^ 60. Assumes nothing.
-use mathlib.Core.Path.{refl}
-use Prim.Native.Nat.{ℕ, _*_, _/_, _%_, _^_, _≤_}
-use native.Mathlib.Nat.{mul-le-mul}
+-- `arctan::product` meets its contract: the upper half of the whole product is its answer, or one more where the low halves reach over (proofs/Wide.antt). Assumes nothing.
+use mathlib.Core.Path.{_≡_}
+use mathlib.Core.Logic.{⊎-elim}
+use Prim.Native.Nat.{_+_}
 use native.Mathlib.Omega.{arith}
+use borrow.Author.Needs.{needs}
 use Rattle.arctan.specs.Whole.{product}
+use Rattle.arctan.proofs.Wide.{corner, carried, kept}
 use Rattle.arctan.proofs.product.Statement.{statement}
 use Rattle.arctan.proofs.product.Tie as tie
 
-fits : {x y : ℕ} → x ≤ 2 ^ 30 → y ≤ 2 ^ 30 → x * y ≤ 2 ^ 60
-fits p q = mul-le-mul p q
+mul-corner-3 : tie.Need-mul-corner-3
+mul-corner-3 c = omega (arith, corner (c .args .a) (c .args .b))
 
-small : {a b : ℕ} → (a ≤ 2 ^ 60) × (b ≤ 2 ^ 60)
-    → (a / 2 ^ 30 * (b / 2 ^ 30) ≤ 2 ^ 60) × (a / 2 ^ 30 * (b % 2 ^ 30) ≤ 2 ^ 60) × (a % 2 ^ 30 * (b / 2 ^ 30) ≤ 2 ^ 60)
-small h = (fits (omega arith) (omega arith), fits (omega arith) (omega arith), fits (omega arith) (omega arith))
+-- the upper half is the answer and what is borrowed
+answers : (c : tie.After-high) → c .high .result ≡ product (c .before .before .before .args .a) (c .before .before .before .args .b) + c .before .if1 .borrow
+answers c =
+    let d = c .before .before in
+    let a = d .before .args in
+    ⊎-elim (λ w. omega (arith, w .1, carried (a .a) (a .b) (d .low .ensures) (c .high .ensures) (w .0 .taken)))
+    (λ w. omega (arith, w .1, kept (a .a) (a .b) (d .low .ensures) (c .high .ensures) (w .0 .left))) (c .before .if1 .came)
 
-mul-result : tie.Need-mul-result
-mul-result c = omega (arith, small (c .pre))
-
-mul-result-2 : tie.Need-mul-result-2
-mul-result-2 c = omega (arith, small (c .pre))
-
-mul-result-3 : tie.Need-mul-result-3
-mul-result-3 c = omega (arith, small (c .pre))
-
-add-result : tie.Need-add-result
-add-result c = omega (arith, small (c .pre))
-
-add-result-2 : tie.Need-add-result-2
-add-result-2 c = omega (arith, small (c .pre))
+sub-result : tie.Need-sub-result
+sub-result c = omega (arith, answers (c .before))
 
 returns : tie.Need-returns
-unfolding product
-returns c = refl
+returns c = omega (arith, answers (c .before))
 
 pub product-spec : {M : Type 1} → statement M
 product-spec =
-    tie.close (tie.spec mul-result mul-result-2 mul-result-3 add-result add-result-2 returns)
+    tie.close
+    (tie.spec
+    (λ c. search needs)
+    (λ c. search needs)
+    mul-corner-3
+    (λ c. search needs)
+    (λ c κs. search needs)
+    (λ c. search needs)
+    (λ c κs. search needs)
+    sub-result
+    returns)

@@ -1,4 +1,4 @@
--- `arctan::stretched` meets its contract: w * w is at most 2 ^ 60, and a product at most its second factor (proofs/Bounds.antt). Assumes nothing.
+-- `arctan::stretched` meets its contract: w * w is at most 2 ^ 59, and a product at most its second factor (proofs/Bounds.antt). Assumes nothing.
 use mathlib.Core.Path.{_≡_, ap, _∙_}
 use Prim.Native.Nat.{ℕ, _+_, _^_, _≤_}
 use native.Mathlib.Nat.{le-trans}
@@ -10,7 +10,7 @@ use Rattle.arctan.proofs.Bounds.{product-left, product-right}
 use Rattle.arctan.proofs.stretched.Statement.{statement}
 use Rattle.arctan.proofs.stretched.Tie as tie
 
-square : (w : ℕ) → w ≤ 2 ^ 59 → product w w ≤ 2 ^ 60
+square : (w : ℕ) → w ≤ 2 ^ 59 → product w w ≤ 2 ^ 59
 square w h = omega (arith, product-left w w (omega arith))
 
 product-requires : tie.Need-product-requires
@@ -26,7 +26,7 @@ twice c = c .product2 .ensures ∙ ap (λ (y : ℕ). product y (c .before .befor
 few : (c : tie.After-product2) → c .product2 .result ≤ 2 ^ 60
 few c =
     let s = c .before .before in
-    rw (twice c) (le-trans (product-right (product (s .args .w) (s .args .w)) (s .args .e) (square (s .args .w) (s .pre .0))) (s .pre .1))
+    rw (twice c) (le-trans (product-right (product (s .args .w) (s .args .w)) (s .args .e) (omega (arith, square (s .args .w) (s .pre .0)))) (s .pre .1))
 
 add-result : tie.Need-add-result
 add-result c = omega (arith, few c)
