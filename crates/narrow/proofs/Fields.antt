@@ -1,4 +1,4 @@
--- The nearest f32 of an f64, by the fields of the f64's pattern `b`: the sign, the exponent's field and the digits. Each range of the field gives the fraction that is rounded. Assumes nothing.
+-- The nearest f32 of an f64, by the fields of the f64's pattern `b`: the sign, the exponent's field and the digits. And what is rounded to it, by any fraction of the f64's size. Assumes nothing.
 use mathlib.Core.Path.{_≡_, refl, sym, ap, _∙_}
 use mathlib.Core.Bool.{Bool}
 use Prim.Native.Nat.{ℕ, _+_, _-_, _*_, _/_, _%_, _^_, _≤_, _<_}
@@ -10,7 +10,7 @@ use lib.Ieee.{Float, nan, inf, fin, binary32, binary64, up, down, top, round, of
 use lib.Ieee.Fits.{down-pos}
 use lib.Ieee.Exact.{HasValue}
 use lib.Ieee.Scale.{round-same}
-use Rattle.exact.proofs.Pattern.{low-value, mid-value}
+use Rattle.exact.proofs.Pattern.{mid-value}
 use Rattle.narrow.specs.Narrow.{narrowed}
 
 -- ---- a finite f64 by any fraction of its size
@@ -23,7 +23,7 @@ of-value (fin t m x) s a c n d C D h e =
     ∙ round-same binary32 s (m * up x) (down x) a c (down-pos x) C (h .1)
     ∙ round-same binary32 s a c n d C D e
 
-scaled : (d i k j l m : ℕ) → i + (j + l) ≡ k + m → d * 2 ^ i * (2 ^ j * 2 ^ l) ≡ d * 2 ^ k * 2 ^ m
+pub scaled : (d i k j l m : ℕ) → i + (j + l) ≡ k + m → d * 2 ^ i * (2 ^ j * 2 ^ l) ≡ d * 2 ^ k * 2 ^ m
 scaled d i k j l m e =
     mul-assoc d (2 ^ i) (2 ^ j * 2 ^ l)
     ∙ ap (λ (x : ℕ). d * x) (ap (λ (x : ℕ). 2 ^ i * x) (sym (pow-add 2 j l)) ∙ sym (pow-add 2 i (j + l)) ∙ ap (λ (x : ℕ). 2 ^ x) e ∙ pow-add 2 k m)
@@ -46,24 +46,9 @@ normal b lo hi =
     (pow-pos 1074) (mul-pos (pow-pos 149) (pow-pos 29)) (mid-value binary64 b (omega arith) hi)
     (scaled (digits b) (field b - 1) (field b - 897) 149 29 1074 (omega arith))
 
--- the f32 is subnormal, or 0
-pub small : (b : ℕ) → 0 < field b → field b < 897 → narrowed (ofBits binary64 b) ≡ round binary32 (negative b) (digits b * 2 ^ 0) (2 ^ 149 * 2 ^ (926 - field b))
-small b lo hi =
-    of-value (ofBits binary64 b) (negative b) (digits b * 2 ^ (field b - 1)) (2 ^ 1074) (digits b * 2 ^ 0) (2 ^ 149 * 2 ^ (926 - field b))
-    (pow-pos 1074) (mul-pos (pow-pos 149) (pow-pos (926 - field b))) (mid-value binary64 b lo (omega arith))
-    (scaled (digits b) (field b - 1) 0 149 (926 - field b) 1074 (omega arith))
-
--- the f64 is subnormal itself, or 0: it has no leading digit
-pub least : (b : ℕ) → field b ≡ 0 → narrowed (ofBits binary64 b) ≡ round binary32 (negative b) (b % 2 ^ 52 * 2 ^ 0) (2 ^ 149 * 2 ^ 925)
-least b e =
-    of-value (ofBits binary64 b) (negative b) (b % 2 ^ 52 * 2 ^ 0) (2 ^ 1074) (b % 2 ^ 52 * 2 ^ 0) (2 ^ 149 * 2 ^ 925)
-    (pow-pos 1074) (mul-pos (pow-pos 149) (pow-pos 925)) (low-value binary64 b e)
-    (scaled (b % 2 ^ 52) 0 0 149 925 1074 refl)
-
 -- the f64 is an infinity
-pub infinite : (b : ℕ) → field b ≡ 2047 → b % 2 ^ 52 ≡ 0 → narrowed (ofBits binary64 b) ≡ inf (negative b)
-unfolding narrowed
-infinite b e z = ap narrowed (fields b ∙ ap (λ (x : ℕ). ofFields binary64 (negative b) x (b % 2 ^ 52)) e ∙ ap (λ (t : ℕ). ofFields binary64 (negative b) 2047 t) z ∙ top-field (negative b))
+pub at-infinity : (b : ℕ) → field b ≡ 2047 → b % 2 ^ 52 ≡ 0 → ofBits binary64 b ≡ inf (negative b)
+at-infinity b e z = fields b ∙ ap (λ (x : ℕ). ofFields binary64 (negative b) x (b % 2 ^ 52)) e ∙ ap (λ (t : ℕ). ofFields binary64 (negative b) 2047 t) z ∙ top-field (negative b)
   where
     fields : (b : ℕ) → ofBits binary64 b ≡ ofFields binary64 (negative b) (field b) (b % 2 ^ 52)
     fields b = unfold ofBits in refl

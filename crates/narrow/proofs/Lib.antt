@@ -1,7 +1,11 @@
-pub mod Even
 pub mod Units
-pub mod Packed
 pub mod Fields
-pub mod Ranges
 pub mod Sign
+pub mod Sums
+pub mod Products
+pub mod Squares
 pub mod Laws
+pub mod Additions
+pub mod Small
+pub mod Past
+pub mod Ways

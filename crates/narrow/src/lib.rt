@@ -1,67 +1,43 @@
-// The f32 nearest to an f64, from bit pattern to bit pattern and in whole numbers alone. Of an f64's
-// pattern the highest bit is the sign, the next 11 are the exponent's field, and the last 52 are the
-// digits below the leading one. Of an f32's they are 1, 8 and 23.
+// The f32 nearest to an f64, by f64 operations that round where an f32 ends. The last of them gives a number that an
+// f32 holds, so that the cast loses nothing.
 ghost use mathlib.Core.Path.{_≡_};
-ghost use Prim.Native.Nat.{_%_, _^_, _≤_, _<_};
-ghost use lib.Ieee.Nearest.{closest};
 ghost use Rattle.narrow.specs.Narrow.{narrowed};
-ghost use Rattle.narrow.specs.Pattern.{Patterned};
 
-// What the sign weighs in an f64's pattern.
-const SIGN: u64 = 0x8000_0000_0000_0000;
+// 2^-251: the square of a number that is larger than every subnormal f32, and less than 2^-125 in size.
+const LEAST_SQUARE: f64 = 2.7635739376302223e-76;
 
-// The leading digit of an f64, which its pattern leaves out.
-const LEADING: u64 = 0x10_0000_0000_0000;
+// The square of 2^128 - 2^103, from where on an f64 rounds past the largest f32. The f64 before it has another square.
+const LARGE_SQUARE: f64 = 1.1579208233556995e+77;
 
-// One more in the exponent's field of an f32's pattern.
-const STEP: u64 = 0x80_0000;
+// 2^29: an f64 has 29 digits more than an f32.
+const SCALE: f64 = 536870912.0;
 
-// The pattern of the infinity among the f32s: every number's is smaller, every NaN's larger.
-const INFINITY: u64 = 0x7f80_0000;
+// 2^925: the smallest f32 over the smallest f64. And its inverse.
+const UP: f64 = 2.83625966735417e+278;
 
-// The f32 nearest to x, and of two that are as near the even one. A NaN stays a NaN and an infinity
-// an infinity. What rounds past the largest f32 gives the infinity of its sign.
+const DOWN: f64 = 3.5257702653609953e-279;
+
+// The f32 nearest to x, and of two that are as near the even one. A NaN stays a NaN and an infinity an infinity. What
+// rounds past the largest f32 gives the infinity of its sign. The square tells sizes apart with no sign to ask for, and
+// a NaN's passes no test.
 pub fn narrow(x: f64) -> f32
     ensures { λ r. ⌜ r ≡ narrowed x ⌝ }
 {
+    let square = x * x;
+    if square >= LEAST_SQUARE {
+        if square >= LARGE_SQUARE {
+            // an f64 doesn't hold this either
+            return (x * UP) as f32;
+        }
+        // The leading digit of x, 29 places up. Beside it the sum has room for 24 digits of x: the addition does the
+        // rounding, and what it leaves off is gone when the power is taken away again.
+        let power = f64::from_bits(f64::to_bits(x * SCALE) >> 52 << 52);
+        return (x + power - power) as f32;
+    }
     if x != x {
         return 0.0 / 0.0;
     }
-    let bits = f64::to_bits(x);
-    let sign = bits >> 63;
-    f32::from_bits(((sign << 31) + unsigned(bits)) as u32)
-}
-
-// The pattern of the nearest f32, its sign aside, for the f64 with the pattern `bits`, which is no
-// NaN's. A sum that carries out of the digits adds one to the field, as it should.
-fn unsigned(bits: u64) -> u64
-    requires { ⌜ bits % 2 ^ 63 ≤ 0x7ff0_0000_0000_0000 ⌝ }
-    ensures { λ r. ⌜ Patterned bits r ⌝ }
-{
-    let field = bits % SIGN >> 52;
-    let digits = LEADING + bits % LEADING;
-    // less than half of the smallest f32, 2^-149
-    if field < 873 {
-        return 0;
-    }
-    // below the smallest normal f32, 2^-126: a digit fewer for each power of two
-    if field < 897 {
-        return to_even(digits, 926 - field);
-    }
-    // 24 of the 53 digits
-    let pattern = (field - 897) * STEP + to_even(digits, 29);
-    if pattern < INFINITY {
-        pattern
-    } else {
-        INFINITY
-    }
-}
-
-// n / 2 ^ shift to the nearest whole number, a tie to the even one. With a half less one added, and
-// one more where the whole part is odd, cutting off the rest does it.
-fn to_even(n: u64, shift: u64) -> u64
-    requires { ⌜ (n < 2 ^ 53) × (0 < shift) × (shift < 64) ⌝ }
-    ensures { λ r. ⌜ r ≡ closest n (2 ^ shift) ⌝ }
-{
-    (n + ((1 << (shift - 1)) - 1) + (n >> shift) % 2) >> shift
+    // Among the smallest f64s, where the smallest f32s have their places among the f32s, the same digits are kept. A
+    // zero has x's sign.
+    (x * DOWN * UP) as f32
 }
