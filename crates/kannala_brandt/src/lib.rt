@@ -290,7 +290,8 @@ fn alpha_of(radius_sq: f64, radius: f64, theta: f64) -> f64
     }
 }
 
-// The two rows of the derivative by the parameters.
+// The two rows of the derivative by the parameters. Stored one by one, as bc's are: the loop of `lens::two_rows` over
+// all places costs more.
 fn rows(
     params: KannalaBrandtParams,
     alpha_x: f64,
@@ -302,28 +303,23 @@ fn rows(
 {
     let x = params.fx * alpha_x;
     let y = params.fy * alpha_y;
-    lens::two_rows(
-        &[
-            alpha_x * scaling_by_theta,
-            0.0,
-            1.0,
-            0.0,
-            x * t.theta2,
-            x * t.theta4,
-            x * t.theta6,
-            x * t.theta8,
-        ],
-        &[
-            0.0,
-            alpha_y * scaling_by_theta,
-            0.0,
-            1.0,
-            y * t.theta2,
-            y * t.theta4,
-            y * t.theta6,
-            y * t.theta8,
-        ],
-    )
+    let mut entries = [0.0; lens::ENTRIES];
+    entries[0] = alpha_x * scaling_by_theta;
+    entries[2] = 1.0;
+    entries[4] = x * t.theta2;
+    entries[5] = x * t.theta4;
+    entries[6] = x * t.theta6;
+    entries[7] = x * t.theta8;
+    entries[9] = alpha_y * scaling_by_theta;
+    entries[11] = 1.0;
+    entries[12] = y * t.theta2;
+    entries[13] = y * t.theta4;
+    entries[14] = y * t.theta6;
+    entries[15] = y * t.theta8;
+    Jacobian {
+        entries,
+        columns: 8,
+    }
 }
 
 // The derivative of distort by fx, fy, cx, cy and k0 to k3.
