@@ -1,17 +1,18 @@
 -- What is read, each at its place, and why nothing is. Assumes nothing.
 use mathlib.Core.Path.{_≡_, refl, ap₂, _∙_}
 use mathlib.Core.List.{List}
-use Prim.Native.Nat.{ℕ, _-_, _≤_, _<_}
+use Prim.Native.Nat.{ℕ, _+_, _-_, _≤_, _<_}
 use native.Mathlib.Omega.{arith}
 use borrow.Author.Tests.{le-leb, lt-leb, eq-eqb, ne-eqb}
 use lib.Dec.{eqb}
 use lib.ListN.{length, take, drop, length-drop}
 use lib.Seq.{take-all}
+use lib.Ieee.{Float}
 use Rattle.lens.specs.declared.Refusal.the-variants.{UnknownModel, WrongLength}
 use Rattle.region.specs.declared.Region.{Region}
 use Rattle.camera.specs.Numbers.{last}
 use Rattle.camera.specs.declared.Camera.{Camera}
-use Rattle.little_endian.specs.Bytes.{half, word}
+use Rattle.little_endian.specs.Bytes.{half, word, float}
 use Rattle.region_bytes.specs.Box.{box-at}
 use Rattle.camera_bytes.specs.Reading.{camera-of}
 use Rattle.job.specs.declared.Job.{Job}
@@ -23,6 +24,12 @@ module _ (bs : List ℕ) where
   -- the bytes from the parameters on, as the code takes them
   rest : take (length bs - params-place) (drop params-place bs) ≡ drop params-place bs
   rest = take-all (length bs - params-place) (drop params-place bs) (omega (arith, length-drop params-place bs))
+
+  -- a box, of its four numbers
+  pub boxed :
+      (at : ℕ) (left top right bottom : Float) → left ≡ float bs at → top ≡ float bs (at + 8) → right ≡ float bs (at + 16) → bottom ≡ float bs (at + 24)
+      → _≡_ {A = Region} record { left = left; top = top; right = right; bottom = bottom } (box-at bs at)
+  boxed at left top right bottom l t r b = rw (l, t, r, b) refl
 
   pub placed :
       (model : ℕ) (camera : Camera) (width height marked done updates unsettled first : ℕ) (edges region : Region) →

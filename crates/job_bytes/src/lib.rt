@@ -19,6 +19,7 @@ use job::Job;
 use job::Started;
 use lens::Refusal;
 use plans::Progress;
+use region::Region;
 
 // Where the parts of a record stand, behind the model at 0 (specs/Places). include/lens.h tells the numbers.
 const UPDATES: usize = 4;
@@ -55,7 +56,8 @@ pub enum Found {
     Refused(Refusal),
 }
 
-// What stands at each place, of a model that there is.
+// What stands at each place, of a model that there is. The boxes are read number by number, and not by region_bytes: a
+// record's length is known, and so the compiler tests none of their places.
 fn job_at(bytes: &[u8], model: u8) -> Job
     requires { ⌜ (model ≡ half (now bytes) 0) × (params-place ≤ length (now bytes)) ⌝ }
     ensures { λ r. ⌜ r ≡ job-at (now (bytes .entry)) ⌝ }
@@ -67,8 +69,18 @@ fn job_at(bytes: &[u8], model: u8) -> Job
         strict: little_endian::word(bytes, MARK) == 1,
         at: Progress {
             done: little_endian::word(bytes, DONE) as usize,
-            edges: region_bytes::box_at(bytes, EDGES as u32),
-            region: region_bytes::box_at(bytes, REGION as u32),
+            edges: Region {
+                left: little_endian::float(bytes, EDGES),
+                top: little_endian::float(bytes, EDGES + 8),
+                right: little_endian::float(bytes, EDGES + 16),
+                bottom: little_endian::float(bytes, EDGES + 24),
+            },
+            region: Region {
+                left: little_endian::float(bytes, REGION),
+                top: little_endian::float(bytes, REGION + 8),
+                right: little_endian::float(bytes, REGION + 16),
+                bottom: little_endian::float(bytes, REGION + 24),
+            },
             updates: little_endian::half(bytes, UPDATES),
             unsettled: little_endian::half(bytes, UNSETTLED) as usize,
             first: little_endian::half(bytes, FIRST) as usize,
