@@ -16,6 +16,7 @@ use Rattle.exact.proofs.Rounding.{rounded}
 use Rattle.exact.proofs.Infinite.{stays-finite, goes-infinite}
 use Rattle.exact.proofs.Pattern.{unique, InUnits, in-units, itself}
 use Rattle.exact.specs.Determined.{Determined}
+use Rattle.exact.proofs.mark.Reads as mark-contract
 use Rattle.exact.proofs.is_finite.Reads as is-finite-contract
 use Rattle.exact.proofs.magnitude.Reads as magnitude-contract
 use Rattle.exact.proofs.is_zero.Reads as is-zero-contract
@@ -123,6 +124,9 @@ value-in-units = in-units
 -- Any two answers to one call that the contract of `is_finite` permits are equal; and so for the other functions.
 pub is-finite-determined : Determined is-finite-contract.Post
 is-finite-determined κ a s s' r r' p q = p ∙ sym q
+
+pub mark-determined : Determined mark-contract.Post
+mark-determined κ a s s' r r' p q = p ∙ sym q
 
 pub magnitude-determined : Determined magnitude-contract.Post
 magnitude-determined κ a s s' r r' p q = p ∙ sym q

@@ -1,6 +1,7 @@
 pub mod Tests
 pub mod Pattern
 pub mod Zeros
+pub mod Marks
 pub mod Alike
 pub mod Rounding
 pub mod Infinite

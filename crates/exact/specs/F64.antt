@@ -27,6 +27,11 @@ minus x = neg x
 abbrev pub f64 : ℕ → Float
 f64 bits = ofBits binary64 bits
 
+-- 0.0 for yes, NaN for no: the sum of some is 0.0 if all of them are
+unfoldable pub mark : Bool → Float
+mark true = f64 0
+mark false = nan
+
 -- without its sign
 unfoldable pub magnitude : Float → Float
 magnitude nan = nan

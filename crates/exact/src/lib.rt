@@ -2,7 +2,7 @@
 ghost use mathlib.Core.Path.{_≡_};
 ghost use lib.Ieee.{binary32, binary64, toBits};
 ghost use lib.Ieee.Scale.{finite};
-ghost use Rattle.exact.specs.F64.{f64, magnitude, isZero};
+ghost use Rattle.exact.specs.F64.{f64, mark, magnitude, isZero};
 
 const INFINITY: u64 = 0x7ff0_0000_0000_0000;
 
@@ -10,12 +10,20 @@ const NAN: u64 = 0x7ff8_0000_0000_0000;
 
 const NAN32: u32 = 0x7fc0_0000;
 
-// Whether x is a number, and neither a NaN nor an infinity.
+// 0.0 where x is finite, and NaN elsewhere. Marks may be added: many numbers share one comparison, of their sum with
+// itself, where two comparisons of each number with the infinities cost far more.
+pub fn mark(x: f64) -> f64
+    ensures { λ r. ⌜ r ≡ mark (finite x) ⌝ }
+{
+    x - x
+}
+
+// Whether x is a number, and neither a NaN nor an infinity: no NaN equals itself.
 pub fn is_finite(x: f64) -> bool
     ensures { λ r. ⌜ r ≡ finite x ⌝ }
 {
-    let infinity = f64::from_bits(INFINITY);
-    x < infinity && -infinity < x
+    let difference = mark(x);
+    difference == difference
 }
 
 // x without its sign: 0.0 for both zeros.

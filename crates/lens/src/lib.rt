@@ -5,6 +5,7 @@ ghost use mathlib.Core.Bool.{_&&_};
 ghost use mathlib.Core.List.{[], _∷_, _++_};
 ghost use lib.Ieee.Scale.{finite};
 ghost use lib.ListN.{getD};
+ghost use Rattle.exact.specs.F64.{mark};
 ghost use Rattle.lens.specs.Constants.{zeros, eps};
 ghost use Rattle.lens.specs.Distorted.{told-pixel, finite-pixel};
 ghost use Rattle.lens.specs.Jacobian.{twoRows};
@@ -196,25 +197,39 @@ pub fn squared_radius(x: f64, y: f64) -> f64
     x * x + y * y
 }
 
+// The mark of a list: 0.0 if every number is finite, and NaN if one isn't. By twos, since the compiler subtracts and
+// adds two numbers at once, and never changes the order in which a sum is added.
+pub fn marks(numbers: &[f64]) -> f64
+    ensures { λ r. ⌜ r ≡ mark (all-finite (now (numbers .entry))) ⌝ }
+{
+    let mut left = 0.0;
+    let mut right = 0.0;
+    let mut i = 0;
+    while i + 1 < numbers.len() {
+        left = left + exact::mark(numbers[i]);
+        right = right + exact::mark(numbers[i + 1]);
+        i += 2;
+    }
+    if i < numbers.len() {
+        return left + exact::mark(numbers[i]) + right;
+    }
+    left + right
+}
+
 // Whether every number of a list is finite: what 4 and 11 ask of parameters, points and answers.
 pub fn all_finite(numbers: &[f64]) -> bool
     ensures { λ r. ⌜ r ≡ all-finite (now (numbers .entry)) ⌝ }
 {
-    let mut i = 0;
-    while i < numbers.len() {
-        if !exact::is_finite(numbers[i]) {
-            return false;
-        }
-        i += 1;
-    }
-    true
+    let sum = marks(numbers);
+    sum == sum
 }
 
 // The same of the two numbers of a point or a pixel.
 pub fn both_finite(x: f64, y: f64) -> bool
     ensures { λ r. ⌜ r ≡ (finite x && finite y) ⌝ }
 {
-    exact::is_finite(x) && exact::is_finite(y)
+    let sum = exact::mark(x) + exact::mark(y);
+    sum == sum
 }
 
 // 11 for a pixel that isn't finite.

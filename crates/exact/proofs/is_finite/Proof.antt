@@ -1,21 +1,17 @@
--- `exact::is_finite` meets its contract: the two tests against the infinities are the definition's cases. Assumes nothing.
-use mathlib.Core.Path.{_∙_}
-use lib.Ieee.{ofBits, nanBits}
-use Rattle.exact.proofs.Tests.{finite-under, finite-not}
+-- `exact::is_finite` meets its contract: a mark equals itself if it says yes. Assumes nothing.
+use mathlib.Core.Path.{ap, _∙_}
+use lib.Ieee.{Float, eq}
+use lib.Ieee.Scale.{finite}
+use borrow.Author.Needs.{needs}
+use Rattle.exact.proofs.Marks.{mark-itself}
 use Rattle.exact.proofs.is_finite.Statement.{statement}
 use Rattle.exact.proofs.is_finite.Tie as tie
 
-float-from-bits-infinity : tie.Need-float-from-bits-infinity
-unfolding nanBits
-float-from-bits-infinity c = tt
+mark-requires : tie.Need-mark-requires
+mark-requires c κs = search needs
 
 returns : tie.Need-returns
-unfolding ofBits
-returns c = finite-under (c .before .args .x) (c .if1 .taken)
-
-returns-2 : tie.Need-returns-2
-unfolding ofBits
-returns-2 c = c .if1 .left ∙ finite-not (c .before .args .x) (c .if1 .left)
+returns c = ap (λ (d : Float). eq d d) (c .mark .ensures) ∙ mark-itself (finite (c .before .args .x))
 
 pub is-finite-spec : {M : Type 1} → statement M
-is-finite-spec = tie.close (tie.spec float-from-bits-infinity returns returns-2)
+is-finite-spec = tie.close (tie.spec mark-requires returns)
