@@ -23,7 +23,7 @@ module _ (camera : Camera) (x y : Float) where
 
 -- ---- bc12: bc's parameters, then the prism's
 
-all-finite-append : (xs ys : List Float) → all-finite (xs ++ ys) ≡ (all-finite xs && all-finite ys)
+pub all-finite-append : (xs ys : List Float) → all-finite (xs ++ ys) ≡ (all-finite xs && all-finite ys)
 unfolding all-finite
 all-finite-append [] ys = refl
 all-finite-append (x ∷ xs) ys = ap (λ (b : Bool). finite x && b) (all-finite-append xs ys) ∙ go (finite x)

@@ -1,6 +1,7 @@
 pub mod ByHand
 pub mod Fits
 pub mod Known
+pub mod Given
 pub mod Laws
 pub mod Models
 pub mod PrismZero

@@ -1,3 +1,4 @@
+pub mod Parts
 pub mod Camera
 pub mod Numbers
 pub mod Rows
