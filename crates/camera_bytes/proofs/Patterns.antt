@@ -26,7 +26,8 @@ use Rattle.camera.specs.Numbers.{most, count, first-of}
 use Rattle.camera.specs.declared.Camera.{Camera}
 use Rattle.camera.proofs.Laws.{camera-first, parameters-are, table-ends}
 use Rattle.camera.proofs.Models.{each-model}
-use Rattle.camera_bytes.specs.Reading.{at, camera-of, finite-only, Plain, SameTo, FiniteTo, Broken, Two, All}
+use Rattle.camera_bytes.specs.Reading.{at, camera-of, finite-only, Plain}
+use Rattle.camera_bytes.specs.Putting.{SameTo, FiniteTo, Broken, Two, All}
 use Rattle.camera_bytes.specs.declared.Asked.the-variants.{Of, Refused}
 
 -- ---- a finite number's pattern

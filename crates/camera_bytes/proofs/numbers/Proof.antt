@@ -6,7 +6,7 @@ use borrow.Author.Needs.{needs}
 use denote.Ref.{now}
 use lib.ListN.{length, length-set}
 use Rattle.camera.specs.Numbers.{most}
-use Rattle.camera_bytes.specs.Reading.{SameTo}
+use Rattle.camera_bytes.specs.Putting.{SameTo}
 use Rattle.camera_bytes.proofs.Patterns.{one-more}
 use Rattle.camera_bytes.proofs.numbers.Statement.{statement}
 use Rattle.camera_bytes.proofs.numbers.Tie as tie
