@@ -7,7 +7,6 @@
 // every number here is finite, those that only brown_conrady works out are ones, zeros and copies of these.
 ghost use mathlib.Core.Path.{_≡_};
 ghost use Prim.Native.Nat.{_<_};
-ghost use lib.Ieee.Scale.{finite};
 ghost use Rattle.brown_conrady.specs.BrownConrady.{limit};
 ghost use Rattle.short_brown_conrady.specs.ShortBrownConrady.{no-quotient, distortion, distort, slopes-at, dx-distort-x, f-xy, step-from, pass, newton, undistort};
 use brown_conrady::BrownConradyParams;
@@ -28,15 +27,6 @@ pub fn no_quotient(params: BrownConradyParams) -> bool
         }
     }
     false
-}
-
-// As exact's, for a test in each cell: x - x is 0 where x is finite and NaN elsewhere, and no NaN equals itself. That
-// is three instructions, where two comparisons with infinities come to six.
-fn is_finite(x: f64) -> bool
-    ensures { λ r. ⌜ r ≡ finite x ⌝ }
-{
-    let difference = x - x;
-    difference == difference
 }
 
 // Where the lens sends a point, on the z=1 plane too.
@@ -66,7 +56,7 @@ pub fn distort(params: BrownConradyParams, point: Point) -> Pixel
         brown_conrady::affine_params(params),
         distortion(params, point),
     );
-    if is_finite(pixel.0 + pixel.1) {
+    if exact::is_finite(pixel.0 + pixel.1) {
         return pixel;
     }
     brown_conrady::distort(params, point)
@@ -116,7 +106,7 @@ pub fn dx_distort_x(params: BrownConradyParams, point: Point) -> Jacobian
     let uy = params.fx * s.uy;
     let vx = params.fy * s.vx;
     let vy = params.fy * s.vy;
-    if is_finite(ux + uy + vx + vy) {
+    if exact::is_finite(ux + uy + vx + vy) {
         return lens::two_columns(ux, uy, vx, vy);
     }
     brown_conrady::dx_distort_x(params, point)
@@ -220,7 +210,7 @@ pub fn undistort(params: BrownConradyParams, pixel: Pixel) -> Settled
     let at = newton(params, distorted);
     let xy = at.search.xy;
     let f = f_xy(params, distorted, xy);
-    if is_finite(f.0 + f.1 + at.last) {
+    if exact::is_finite(f.0 + f.1 + at.last) {
         return Settled {
             point: xy,
             updates: at.search.updates,
