@@ -1,13 +1,13 @@
--- A cell of any kind is made from the pixel that the cell holds as it is (`made`, `from-pixel`). Assumes nothing.
+-- A cell of any kind is made from the pixel that the cell holds as it is (`made`), and from its point (`by-point`). Assumes nothing.
 use mathlib.Core.Path.{_≡_, refl, sym, ap, _∙_}
 use mathlib.Core.Bool.{Bool, true, false, cond, _&&_}
 use Prim.Native.Nat.{ℕ}
 use lib.Ieee.Scale.{finite}
+use Rattle.lens.specs.Distorted.{finite-pixel}
 use Rattle.lens.specs.declared.Distorted.{Distorted}
 use Rattle.lens.specs.declared.Distorted.the-variants as pixels
 use Rattle.lens.specs.declared.Pixel.{Pixel}
 use Rattle.lens.specs.declared.Point.{Point}
-use Rattle.lens.specs.declared.Refusal.the-variants.{AnswerNotFinite}
 use Rattle.region.specs.declared.Increments.{Increments}
 use Rattle.region.specs.declared.Region.{Region}
 use Rattle.plans.specs.Plan.{Content, none}
@@ -30,15 +30,11 @@ module _ {X : Type 0} (kind : Pixel → Content X) where
         go true = of-one-pixel (distort point)
         go false = refl
 
-  -- from what the point was found to be sent to, which is judged first
-  pub from-pixel : (distort : Point → Distorted) (region : Region) (by : Increments) (u v : ℕ) {r d : Distorted} → let point = cell-point region by u v in
-      r ≡ d → r ≡ cond (finite (point .0) && finite (point .1)) (distort point) (pixels.Refused AnswerNotFinite) → of-pixel kind d ≡ cell-by distort kind region by u v
+  -- by a point that was worked out and judged, and what is made of its pixel
+  pub by-point :
+      (pixel-at : Point → Pixel) (region : Region) (by : Increments) (u v : ℕ) {point : Point} {judged : Bool} {content : Content X}
+      → point ≡ cell-point region by u v → judged ≡ (finite (point .0) && finite (point .1))
+      → content ≡ cond judged (of-pixel kind (finite-pixel (pixel-at point))) (none 11)
+      → content ≡ cell-by (λ (p : Point). finite-pixel (pixel-at p)) kind region by u v
   unfolding cell-by
-  from-pixel distort region by u v e h = ap (of-pixel kind) (sym e ∙ h) ∙ go (finite (point .0) && finite (point .1))
-    where
-      point : Point
-      point = cell-point region by u v
-
-      go : (f : Bool) → of-pixel kind (cond f (distort point) (pixels.Refused AnswerNotFinite)) ≡ cond f (of-pixel kind (distort point)) (none 11)
-      go true = refl
-      go false = refl
+  by-point pixel-at region by u v e f h = h ∙ rw (f, e) refl

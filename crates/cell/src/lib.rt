@@ -1,12 +1,12 @@
 // What one cell of a table holds: the pixel of its point, as two f32 or as two numbers of sixteen bits,
 // or why there is none.
 ghost use mathlib.Core.Path.{_≡_};
-ghost use mathlib.Core.Bool.{_&&_};
+ghost use mathlib.Core.Bool.{cond, _&&_};
 ghost use lib.Ieee.Scale.{finite};
+ghost use Rattle.lens.specs.Distorted.{finite-pixel};
 ghost use Rattle.engine.specs.Engine.{distort};
-ghost use Rattle.cell.specs.Cell.{cell-point, f32, i16, cell-by, told, told16};
+ghost use Rattle.cell.specs.Cell.{cell-point, f32, i16, of-pixel, cell-by, told, told16};
 use camera::Camera;
-use lens::Distorted;
 use lens::Pixel;
 use lens::Point;
 use lens::Refusal;
@@ -26,46 +26,48 @@ pub enum Cell16 {
     Refused(Refusal),
 }
 
-// Whether an f32 is a number, and neither a NaN nor an infinity.
-fn is_finite32(x: f32) -> bool
-    ensures { λ r. ⌜ r ≡ finite x ⌝ }
-{
-    let infinity = f32::from_bits(0x7f80_0000);
-    if x < infinity { -infinity < x } else { false }
-}
-
+// Whether two f32s are numbers, and neither NaNs nor infinities: x - x is 0.0 then, and a NaN else, and the two share
+// one comparison.
 fn both_finite32(a: f32, b: f32) -> bool
     ensures { λ r. ⌜ r ≡ (finite a && finite b) ⌝ }
 {
-    if is_finite32(a) {
-        is_finite32(b)
-    } else {
-        false
+    let sum = (a - a) + (b - b);
+    sum == sum
+}
+
+// Why a pixel is in no cell: 11 if it isn't finite, and else what its kind of cell says. Neither kind holds a pixel that
+// isn't finite, so that only a refusal asks for that.
+fn refusal_of(pixel: Pixel, kind: Refusal) -> Refusal
+    ensures { λ r. ⌜ r ≡ cond (finite (pixel .0) && finite (pixel .1)) kind Refusal.AnswerNotFinite ⌝ }
+{
+    if lens::both_finite(pixel.0, pixel.1) {
+        return kind;
     }
+    Refusal::AnswerNotFinite
 }
 
 // A pixel as a cell: 12 if an f32 of it is infinite.
 fn narrow_pixel(pixel: Pixel) -> Cell
-    ensures { λ r. ⌜ told r ≡ f32 pixel ⌝ }
+    ensures { λ r. ⌜ told r ≡ of-pixel f32 (finite-pixel pixel) ⌝ }
 {
     let a = narrow::narrow(pixel.0);
     let b = narrow::narrow(pixel.1);
     if both_finite32(a, b) {
         return Cell::Holds(a, b);
     }
-    Cell::Refused(Refusal::CellInfinite)
+    Cell::Refused(refusal_of(pixel, Refusal::CellInfinite))
 }
 
 // A pixel as a cell of sixteen-bit numbers: 19 if one of it is too far.
 fn round_pixel(pixel: Pixel) -> Cell16
-    ensures { λ r. ⌜ told16 r ≡ i16 pixel ⌝ }
+    ensures { λ r. ⌜ told16 r ≡ of-pixel i16 (finite-pixel pixel) ⌝ }
 {
     if let Multiple::Is(a) = thirty_seconds::thirty_seconds(pixel.0) {
         if let Multiple::Is(b) = thirty_seconds::thirty_seconds(pixel.1) {
             return Cell16::Holds(a, b);
         }
     }
-    Cell16::Refused(Refusal::TooFar)
+    Cell16::Refused(refusal_of(pixel, Refusal::TooFar))
 }
 
 // The point of the cell in column u and row v.
@@ -89,10 +91,11 @@ pub fn cell_at(
 ) -> Cell
     ensures { λ r. ⌜ told r ≡ cell-by (distort camera short) f32 region by u v ⌝ }
 {
-    match engine::distort(camera, short, point_at(region, by, u, v)) {
-        Distorted::Refused(refusal) => Cell::Refused(refusal),
-        Distorted::At(pixel) => narrow_pixel(pixel),
+    let point = point_at(region, by, u, v);
+    if lens::both_finite(point.0, point.1) {
+        return narrow_pixel(engine::distort(camera, short, point));
     }
+    Cell::Refused(Refusal::AnswerNotFinite)
 }
 
 // The cell of sixteen-bit numbers in column u and row v.
@@ -106,8 +109,9 @@ pub fn cell_at16(
 ) -> Cell16
     ensures { λ r. ⌜ told16 r ≡ cell-by (distort camera short) i16 region by u v ⌝ }
 {
-    match engine::distort(camera, short, point_at(region, by, u, v)) {
-        Distorted::Refused(refusal) => Cell16::Refused(refusal),
-        Distorted::At(pixel) => round_pixel(pixel),
+    let point = point_at(region, by, u, v);
+    if lens::both_finite(point.0, point.1) {
+        return round_pixel(engine::distort(camera, short, point));
     }
+    Cell16::Refused(Refusal::AnswerNotFinite)
 }

@@ -15,7 +15,7 @@ use Rattle.lens.specs.declared.Refusal.the-variants.{AnswerNotFinite}
 use Rattle.lens.specs.declared.Settled.{Settled}
 use Rattle.lens.specs.declared.Undistorted.{Undistorted}
 use Rattle.lens.specs.declared.Undistorted.the-variants.{At, Refused}
-use Rattle.lens.proofs.Laws.{told-one-to-one, told-pixel-one-to-one}
+use Rattle.lens.proofs.Laws.{told-one-to-one}
 use Rattle.brown_conrady.specs.declared.BrownConradyParams.{BrownConradyParams}
 use Rattle.short_brown_conrady.specs.ShortBrownConrady as short
 use Rattle.short_brown_conrady.proofs.Fits.{undistort-fits}
@@ -34,7 +34,7 @@ use Rattle.engine.proofs.undistort.Reads as undistort-contract
 pub determined : Determined short-for-contract.Post × Determined distort-contract.Post × Determined undistort-contract.Post
 determined = (
   λ κ a s s' r r' p q. p ∙ sym q,
-  λ κ a s s' r r' p q. told-pixel-one-to-one r r' (p ∙ sym q),
+  λ κ a s s' r r' p q. p ∙ sym q,
   λ κ a s s' r r' p q. told-one-to-one r r' (p ∙ sym q),
 )
 

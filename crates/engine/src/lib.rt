@@ -1,12 +1,10 @@
 // What finds the points and the pixels of a table: the camera itself, and for a bc camera whose k4, k5 and k6 are zeros
 // the short engine. A turn asks once which it is (`short_for`), so that no sample and no cell asks again.
 ghost use mathlib.Core.Path.{_≡_};
-ghost use Rattle.lens.specs.Distorted.{told-pixel, finite-pixel};
 ghost use Rattle.lens.specs.Undistorted.{told};
 ghost use Rattle.camera.specs.Camera.{finite-point};
-ghost use Rattle.engine.specs.Engine.{short-for, distort, distort-finite, undistort};
+ghost use Rattle.engine.specs.Engine.{short-for, pixel-by, undistort};
 use camera::Camera;
-use lens::Distorted;
 use lens::Pixel;
 use lens::Point;
 use lens::Refusal;
@@ -23,10 +21,10 @@ pub fn short_for(camera: Camera) -> bool
     false
 }
 
-// The pixel of a point, finite or not. It asks the models themselves, so that a cell's call is one piece of code and
-// copies no camera.
-fn pixel_of(camera: Camera, short: bool, point: Point) -> Pixel
-    ensures { λ r. ⌜ finite-pixel r ≡ distort camera short point ⌝ }
+// The pixel of a cell's point, by the short engine or not, finite or not: a cell asks that of the numbers it holds. It
+// asks the models themselves, so that a cell's call is one piece of code and copies no camera.
+pub fn distort(camera: Camera, short: bool, point: Point) -> Pixel
+    ensures { λ r. ⌜ r ≡ pixel-by camera short point ⌝ }
 {
     match camera {
         Camera::Affine(p) => affine::distort(p, point),
@@ -40,17 +38,6 @@ fn pixel_of(camera: Camera, short: bool, point: Point) -> Pixel
         }
         Camera::ThinPrism(p) => thin_prism::distort(p, point),
     }
-}
-
-// The pixel of a cell's point, by the short engine or not, for a camera that 4 and 5 do not refuse: 11 for a point that
-// isn't finite, which is judged before anything is made of it.
-pub fn distort(camera: Camera, short: bool, point: Point) -> Distorted
-    ensures { λ r. ⌜ told-pixel r ≡ told-pixel (distort-finite camera short point) ⌝ }
-{
-    if lens::both_finite(point.0, point.1) {
-        return lens::finite_pixel(pixel_of(camera, short, point));
-    }
-    Distorted::Refused(Refusal::AnswerNotFinite)
 }
 
 // 11 for a point that isn't finite.
