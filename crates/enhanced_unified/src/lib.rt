@@ -107,7 +107,8 @@ pub fn dx_distort_x(params: EnhancedUnifiedParams, point: Point) -> Jacobian
     )
 }
 
-// The derivative of distort by fx, fy, cx, cy, alpha and beta.
+// The derivative of distort by fx, fy, cx, cy, alpha and beta. Stored one by one, as bc's is: the loop of
+// `lens::two_rows` over all places costs more.
 pub fn dx_distort_params(params: EnhancedUnifiedParams, point: Point) -> Jacobian
     ensures { λ r. ⌜ r ≡ dx-distort-params params point ⌝ }
 {
@@ -122,8 +123,17 @@ pub fn dx_distort_params(params: EnhancedUnifiedParams, point: Point) -> Jacobia
     let ub = params.fx * turned(x, norm, dnorm_dbeta);
     let va = params.fy * turned(y, norm, dnorm_dalpha);
     let vb = params.fy * turned(y, norm, dnorm_dbeta);
-    lens::two_rows(
-        &[x / norm, 0.0, 1.0, 0.0, ua, ub],
-        &[0.0, y / norm, 0.0, 1.0, va, vb],
-    )
+    let mut entries = [0.0; lens::ENTRIES];
+    entries[0] = x / norm;
+    entries[2] = 1.0;
+    entries[4] = ua;
+    entries[5] = ub;
+    entries[7] = y / norm;
+    entries[9] = 1.0;
+    entries[10] = va;
+    entries[11] = vb;
+    Jacobian {
+        entries,
+        columns: 6,
+    }
 }

@@ -26,24 +26,15 @@ turned-requires-3 c κs = search needs
 turned-requires-4 : tie.Need-turned-requires-4
 turned-requires-4 c κs = search needs
 
-slice-aggregate-two-rows : tie.Need-slice-aggregate-two-rows
-slice-aggregate-two-rows c = search needs
-
-slice-aggregate-two-rows-2 : tie.Need-slice-aggregate-two-rows-2
-slice-aggregate-two-rows-2 c = search needs
-
-two-rows-requires : tie.Need-two-rows-requires
-two-rows-requires c κs = search needs
-
 returns : tie.Need-returns
 unfolding ofBits ofInt
 returns c =
-    let t4 = c .before .before .before .before in
+    let t4 = c .before in
     let t3 = t4 .before .before in
     let t2 = t3 .before .before in
     let t1 = t2 .before .before in
     let n = t1 .before .before in
-    rw (c .two-rows .ensures, t4 .turned4 .ensures, t3 .turned3 .ensures, t2 .turned2 .ensures, t1 .turned .ensures, n .norm-of .ensures, n .before .rho-of .ensures, n .before .before .squared-radius .ensures) refl
+    rw (t4 .turned4 .ensures, t3 .turned3 .ensures, t2 .turned2 .ensures, t1 .turned .ensures, n .norm-of .ensures, n .before .rho-of .ensures, n .before .before .squared-radius .ensures) refl
 
 pub dx-distort-params-spec : {M : Type 1} → statement M
 dx-distort-params-spec =
@@ -56,7 +47,12 @@ dx-distort-params-spec =
     turned-requires-2
     turned-requires-3
     turned-requires-4
-    slice-aggregate-two-rows
-    slice-aggregate-two-rows-2
-    two-rows-requires
+    (λ c. search needs)
+    (λ c. search needs)
+    (λ c. search needs)
+    (λ c. search needs)
+    (λ c. search needs)
+    (λ c. search needs)
+    (λ c. search needs)
+    (λ c. search needs)
     returns)
