@@ -63,8 +63,10 @@ a-told-pixel number pixel = record { number = number; pixel = pixel }
 -- The same of what is told of a pixel, and of a pixel that is handed over.
 pub determined-pixel : Determined told-pixel-contract.Post
     × DeterminedWith give-pixel-contract.Post (λ κ s. now (s .1 .0))
-determined-pixel = (λ κ a s s' r r' p q. ap₂ a-told-pixel (p .0 ∙ sym (q .0)) (p .1 ∙ sym (q .1)),
-    λ κ a s s' r r' p q. both (p ∙ sym q))
+determined-pixel = (
+  λ κ a s s' r r' p q. ap₂ a-told-pixel (p .0 ∙ sym (q .0)) (p .1 ∙ sym (q .1)),
+  λ κ a s s' r r' p q. both (p ∙ sym q),
+)
 
 -- ---- the number and the buffer
 
@@ -76,9 +78,12 @@ pub refused-untouched :
     × Untouched (dx-distort-x-bytes model params x y lent) lent
     × Untouched (dx-distort-params-bytes model params x y lent) lent
 unfolding distort-bytes undistort-bytes dx-distort-x-bytes dx-distort-params-bytes
-refused-untouched model params lent x y =
-    (refused-kept 16 _ _ lent, refused-kept 24 _ _ lent, refused-kept jacobian-length _ _ lent,
-    refused-kept jacobian-length _ _ lent)
+refused-untouched model params lent x y = (
+  refused-kept 16 _ _ lent,
+  refused-kept 24 _ _ lent,
+  refused-kept jacobian-length _ _ lent,
+  refused-kept jacobian-length _ _ lent,
+)
 
 -- ---- from a camera to its answer in the buffer
 
@@ -102,7 +107,7 @@ module _ (model : ℕ) (params lent : List ℕ) (x y : Float) (known : model ≤
   unfolding distort-bytes
   distort-answered pixel e f =
       by-camera (λ (a : Asked). distorted a record { 0 = x; 1 = y })
-          (λ (d : Distorted). given-pixel (told-pixel d) lent) (pixels.At pixel) e
+      (λ (d : Distorted). given-pixel (told-pixel d) lent) (pixels.At pixel) e
       ∙ filled 16 0 (pixel-bytes pixel) lent refl f
 
   -- Where it answers a point, 24 bytes are that, with its updates and flag.
@@ -112,7 +117,7 @@ module _ (model : ℕ) (params lent : List ℕ) (x y : Float) (known : model ≤
   unfolding undistort-bytes
   undistort-answered s e f =
       by-camera (λ (a : Asked). undistorted a record { 0 = x; 1 = y }) (λ (d : Undistorted). given-point (told d) lent)
-          (points.At s) e
+      (points.At s) e
       ∙ filled 24 0 (point-bytes s) lent refl f
 
   -- Where it answers a Jacobian, so many bytes are that, by the point and by the parameters.
@@ -120,7 +125,7 @@ module _ (model : ℕ) (params lent : List ℕ) (x y : Float) (known : model ≤
       dx-distort-x camera record { 0 = x; 1 = y } .number ≡ 0 →
       length lent ≡ jacobian-length →
       dx-distort-x-bytes model params x y lent
-          ≡ given 0 (jacobian-bytes (dx-distort-x camera record { 0 = x; 1 = y } .jacobian))
+      ≡ given 0 (jacobian-bytes (dx-distort-x camera record { 0 = x; 1 = y } .jacobian))
   unfolding dx-distort-x-bytes
   dx-distort-x-answered e f = is-read (λ (a : Asked). give-jacobian (slopes a record { 0 = x; 1 = y }) lent)
       ∙ filled jacobian-length _ _ lent e f
@@ -129,7 +134,7 @@ module _ (model : ℕ) (params lent : List ℕ) (x y : Float) (known : model ≤
       dx-distort-params camera record { 0 = x; 1 = y } .number ≡ 0 →
       length lent ≡ jacobian-length →
       dx-distort-params-bytes model params x y lent
-          ≡ given 0 (jacobian-bytes (dx-distort-params camera record { 0 = x; 1 = y } .jacobian))
+      ≡ given 0 (jacobian-bytes (dx-distort-params camera record { 0 = x; 1 = y } .jacobian))
   unfolding dx-distort-params-bytes
   dx-distort-params-answered e f = is-read (λ (a : Asked). give-jacobian
       (parameter-slopes a record { 0 = x; 1 = y }) lent) ∙ filled jacobian-length _ _ lent e f
@@ -147,8 +152,10 @@ floats-read xs k d h ok = ap (λ (l : List ℕ). float l (8 * k)) (sym (append-n
 -- Out of a pixel's, u at 0 and v at 8: the same f64s.
 pub pixel-read : (p : Pixel) → T (fits binary64 (p .0)) → T (fits binary64 (p .1)) → (float (pixel-bytes p) 0 ≡ p .0)
     × (float (pixel-bytes p) 8 ≡ p .1)
-pixel-read p u v = (floats-read (p .0 ∷ p .1 ∷ []) 0 (p .0) (omega arith) u,
-    floats-read (p .0 ∷ p .1 ∷ []) 1 (p .0) (omega arith) v)
+pixel-read p u v = (
+  floats-read (p .0 ∷ p .1 ∷ []) 0 (p .0) (omega arith) u,
+  floats-read (p .0 ∷ p .1 ∷ []) 1 (p .0) (omega arith) v,
+)
 
 module _ (s : Settled) where
   abbrev numbers : List Float
@@ -167,9 +174,9 @@ module _ (s : Settled) where
       (float (point-bytes s) 0 ≡ s .point .0) × (float (point-bytes s) 8 ≡ s .point .1)
   point-read x y = (
     ap (λ (l : List ℕ). float l 0) grouped ∙ float-at numbers 0 (s .point .0) (bytes 4 (s .updates) ++ tail)
-    (omega arith) x,
+        (omega arith) x,
     ap (λ (l : List ℕ). float l 8) grouped ∙ float-at numbers 1 (s .point .0) (bytes 4 (s .updates) ++ tail)
-    (omega arith) y,
+        (omega arith) y,
   )
 
   -- the updates at 16,
@@ -185,8 +192,12 @@ module _ (s : Settled) where
   pub flag-read : drop 20 (point-bytes s) ≡ flag-number (s .flag) ∷ 0 ∷ 0 ∷ 0 ∷ []
   flag-read =
       drop-at (floats numbers ++ bytes 4 (s .updates)) tail 20
-      (omega (arith, length-append (floats numbers) (bytes 4 (s .updates)), length-floats numbers,
-      length-bytes 4 (s .updates)))
+      (omega (
+        arith,
+        length-append (floats numbers) (bytes 4 (s .updates)),
+        length-floats numbers,
+        length-bytes 4 (s .updates),
+      ))
 
 -- Out of a Jacobian's, its k-th number at 8k, and the count of columns behind them.
 pub entry-read :

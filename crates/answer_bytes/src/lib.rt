@@ -13,7 +13,8 @@ ghost use Rattle.camera.specs.Camera.{parameters, distort, undistort, dx-distor
 ghost use Rattle.camera_bytes.specs.Reading.{read};
 ghost use Rattle.given.specs.Given.{given};
 ghost use Rattle.answer_bytes.specs.Answer.{columns-place, give-pixel, give-point, give-jacobian};
-ghost use Rattle.answer_bytes.specs.Answer.{distorted, undistorted, slopes, parameter-slopes, distort-bytes, undistort-bytes, dx-distort-x-bytes, dx-distort-params-bytes};
+ghost use Rattle.answer_bytes.specs.Answer.{distorted, undistorted, slopes, parameter-slopes, distort-bytes};
+ghost use Rattle.answer_bytes.specs.Answer.{undistort-bytes, dx-distort-x-bytes, dx-distort-params-bytes};
 use camera::Camera;
 use camera::Differentiated;
 use camera_bytes::Asked;
@@ -200,7 +201,8 @@ fn parameter_slopes(model: u8, params: &[u8], point: Point) -> Differentiated
 
 // Puts the bit patterns of finite numbers at the start: none is a NaN, so that the compiler copies them as they are.
 fn put_entries(answer: &mut [u8], numbers: &[f64; lens::ENTRIES])
-    requires { ⌜ (columns-place ≤ length (now answer)) × ((length (now numbers) ≡ entries) × (all-finite (now numbers) ≡ true)) ⌝ }
+    requires { ⌜ (columns-place ≤ length (now answer)) ×
+        ((length (now numbers) ≡ entries) × (all-finite (now numbers) ≡ true)) ⌝ }
     ensures { λ _. ⌜ now (answer .exit) ≡ put 0 (floats (now (numbers .entry))) (now (answer .entry)) ⌝ }
 {
     let mut i = 0;

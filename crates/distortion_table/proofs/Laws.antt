@@ -188,9 +188,11 @@ module _
         strict-settled h =
             let tallies = is-admitted (sweep-of camera width height strict) (last .job .at)
             (length (last .cells)) build-admitted .record-of .tallies in
-            let none = tallies .none-strict h in
-            (none, λ k l. first-unsettled t camera width height strict table allowances last calls .yes-all k l
-            (tallies .some-first none))
+            let none = tallies .none-strict h in (
+              none,
+              λ k l. first-unsettled t camera width height strict table allowances last calls .yes-all k l
+                  (tallies .some-first none),
+            )
 
         -- so that none is refused with 4, 5, 6, 7 or 13, but with 8, 10, 11 or 16 if at all, in a strict job with 18,
         -- or with 12 for f32s and 19 for i16s,
@@ -369,7 +371,7 @@ status-one-to-one Running Running e = refl
 pub same-turned : {X : Type 0} (r r' : Turned) (c c' : List X) → told-turned r c ≡ told-turned r' c' → r ≡ r'
 same-turned {X} r r' c c' e =
     ap (λ (x : Status). record { status = x; job = r .job })
-        (status-one-to-one (r .status) (r' .status) (ap (λ (t : Answer X). t .said) e))
+    (status-one-to-one (r .status) (r' .status) (ap (λ (t : Answer X). t .said) e))
     ∙ ap (λ (j : Job). record { status = r' .status; job = j }) (ap (λ (t : Answer X). t .job) e)
 
 pub same-table : {X : Type 0} (r r' : Turned) (c c' : List X) → told-turned r c ≡ told-turned r' c' → c ≡ c'

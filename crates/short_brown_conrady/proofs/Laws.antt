@@ -27,10 +27,12 @@ use Rattle.brown_conrady.specs.declared.BrownConradyParams.{BrownConradyParams}
 use Rattle.brown_conrady.specs.declared.Offset.{Offset}
 use Rattle.lens.specs.Alike.{AlikeJacobians, AlikeSettled}
 use Rattle.short_brown_conrady.specs.Path.{distort-numbers, dx-distort-x-numbers, undistort-numbers}
-use Rattle.short_brown_conrady.specs.ShortBrownConrady.{no-quotient, distortion, distort, slopes-at, dx-distort-x, f-xy, newton, distorted-of, undistort}
+use Rattle.short_brown_conrady.specs.ShortBrownConrady.{no-quotient, distortion, distort, slopes-at, dx-distort-x}
+use Rattle.short_brown_conrady.specs.ShortBrownConrady.{f-xy, newton, distorted-of, undistort}
 use Rattle.short_brown_conrady.specs.declared.Tracked.{Tracked}
 use Rattle.short_brown_conrady.proofs.Fits.{most-updates}
-use Rattle.short_brown_conrady.proofs.Full.{zeros-of, powers, distortion-same, slopes-alike, one-by, newton-ended}
+use Rattle.short_brown_conrady.proofs.Full.{zeros-of, powers, distortion-same, slopes-alike, one-by}
+use Rattle.short_brown_conrady.proofs.Full.{newton-ended}
 use Rattle.short_brown_conrady.proofs.Path.{entries, distort-either, dx-distort-x-either, undistort-either}
 use Rattle.short_brown_conrady.proofs.no_quotient.Reads as no-quotient-contract
 use Rattle.short_brown_conrady.proofs.distort.Reads as distort-contract
@@ -40,9 +42,15 @@ use Rattle.short_brown_conrady.proofs.dx_distort_x.Reads as dx-distort-
 -- Any two answers to one call that the contract of a function permits are equal, for each of the four.
 pub determined : Determined no-quotient-contract.Post × Determined distort-contract.Post
     × Determined undistort-contract.Post × Determined dx-distort-x-contract.Post
-determined = (λ κ a s s' r r' p q. p ∙ sym q, λ κ a s s' r r' p q. p ∙ sym q, λ κ a s s' r r' p q. p ∙ sym q, λ κ a s s' r r' p q. p ∙ sym q)
+determined = (
+  λ κ a s s' r r' p q. p ∙ sym q,
+  λ κ a s s' r r' p q. p ∙ sym q,
+  λ κ a s s' r r' p q. p ∙ sym q,
+  λ κ a s s' r r' p q. p ∙ sym q,
+)
 
--- ---- a number that isn't finite, wherever it turns up on the short path, sends the point to the full engine. No bound is asked for beside
+-- ---- a number that isn't finite, wherever it turns up on the short path, sends the point to the full engine; there
+-- is no bound beside that
 
 -- All numbers of a distort are finite, or the answer is the full engine's.
 pub distort-finite-or-full : (params : BrownConradyParams) (point : Point)
@@ -64,7 +72,8 @@ unfolding all-finite
 finite-alike [] [] h = refl
 finite-alike [] (y ∷ ys) h = absurd h
 finite-alike (x ∷ xs) [] h = absurd h
-finite-alike (x ∷ xs) (y ∷ ys) h = ap (λ (b : Bool). b && all-finite xs) (≐-finite (h .0)) ∙ ap (λ (b : Bool). finite y && b) (finite-alike xs ys (h .1))
+finite-alike (x ∷ xs) (y ∷ ys) h = ap (λ (b : Bool). b && all-finite xs) (≐-finite (h .0))
+    ∙ ap (λ (b : Bool). finite y && b) (finite-alike xs ys (h .1))
 
 module _ (params : BrownConradyParams) (z : no-quotient params ≡ true) where
   -- ---- the short engine is the full one
@@ -76,12 +85,14 @@ module _ (params : BrownConradyParams) (z : no-quotient params ≡ true) where
       short : Pixel
       short = affine.distort (full.affine-params params) (distortion params point)
 
-      go : (b : Bool) → finite (short .0 ⊕ short .1) ≡ b → cond b short (full.distort params point) ≡ full.distort params point
+      go : (b : Bool) → finite (short .0 ⊕ short .1) ≡ b → cond b short (full.distort params point)
+          ≡ full.distort params point
       go false e = refl
       go true e =
           let u = sum-finite _ _ (subst T (sym e) tt) .0 in
           let x = product-finite _ _ (sum-finite _ _ u .0) .0 in
-          ap (affine.distort (full.affine-params params)) (distortion-same params (zeros-of params z) point (powers params point x))
+          ap (affine.distort (full.affine-params params))
+          (distortion-same params (zeros-of params z) point (powers params point x))
 
   -- Undistort gives the full one's point, the sign of a zero aside, with its updates and its flag.
   pub undistort-short-is-full : (pixel : Pixel) → AlikeSettled (undistort params pixel) (full.undistort params pixel)
@@ -98,14 +109,20 @@ module _ (params : BrownConradyParams) (z : no-quotient params ≡ true) where
 
       go :
           (b : Bool) → finite (f .0 ⊕ f .1 ⊕ last .last) ≡ b
-          → AlikeSettled (cond b (record { point = last .search .xy; updates = last .search .updates; flag = full.small f }) (full.undistort params pixel)) (full.undistort params pixel)
+          → AlikeSettled (cond b (record {
+            point = last .search .xy;
+            updates = last .search .updates;
+            flag =
+                full.small f;
+          }) (full.undistort params pixel)) (full.undistort params pixel)
       go false e = record { point = record { x = ≐-refl; y = ≐-refl }; updates = refl; flag = refl }
       go true e =
           let tested = sum-finite _ _ (subst T (sym e) tt) in
           let n = newton-ended params (zeros-of params z) distorted (sum-finite _ _ (tested .0) .0) (tested .1) in
           record { point = n .ends .xy; updates = n .ends .updates; flag = n .flag }
 
-  -- Dx_distort_x gives the full one's numbers, the sign of a zero aside. That fx and fy are f64s is so of every camera's.
+  -- Dx_distort_x gives the full one's numbers, the sign of a zero aside. That fx and fy are f64s is so of every
+  -- camera's.
   pub dx-distort-x-short-is-full : Fit (params .fx) → Fit (params .fy) → (point : Point)
       → AlikeJacobians (dx-distort-x params point) (full.dx-distort-x params point)
   dx-distort-x-short-is-full fx fy point = go (finite (ux ⊕ uy ⊕ vx ⊕ vy)) refl
@@ -124,7 +141,8 @@ module _ (params : BrownConradyParams) (z : no-quotient params ≡ true) where
 
       go :
           (b : Bool) → finite (ux ⊕ uy ⊕ vx ⊕ vy) ≡ b
-          → AlikeJacobians (cond b (twoRows (ux ∷ uy ∷ []) (vx ∷ vy ∷ [])) (full.dx-distort-x params point)) (full.dx-distort-x params point)
+          → AlikeJacobians (cond b (twoRows (ux ∷ uy ∷ []) (vx ∷ vy ∷ [])) (full.dx-distort-x params point))
+          (full.dx-distort-x params point)
       go false e = record { entries = all-alike (full.dx-distort-x params point .entries); columns = refl }
       go true e =
           let h = entries params point (subst T (sym e) tt) in
@@ -132,7 +150,16 @@ module _ (params : BrownConradyParams) (z : no-quotient params ≡ true) where
           (product-finite _ _ (h .ux) .1) (product-finite _ _ (h .uy) .1) (product-finite _ _ (h .vy) .1) in
           let c18 : params .fx ≐ full.slopes-at params point .c7 ⊗ params .fx = same (sym (one-by _ _ (s .c7) fx)) in
           let c22 : params .fy ≐ full.slopes-at params point .c7 ⊗ params .fy = same (sym (one-by _ _ (s .c7) fy)) in
-          record { entries = (c18 ⟨⊗⟩ s .ux, (c18 ⟨⊗⟩ s .uy, (c22 ⟨⊗⟩ s .vx, (c22 ⟨⊗⟩ s .vy, all-alike (replicate 28 zeros))))); columns = refl }
+          record {
+            entries = (
+              c18 ⟨⊗⟩ s .ux,
+              (
+                c18 ⟨⊗⟩ s .uy,
+                (c22 ⟨⊗⟩ s .vx, (c22 ⟨⊗⟩ s .vy, all-alike (replicate 28 zeros))),
+              ),
+            );
+            columns = refl;
+          }
 
   -- ---- so refusals are as they were
 

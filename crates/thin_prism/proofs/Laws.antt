@@ -39,8 +39,12 @@ use Rattle.thin_prism.proofs.dx_distort_params.Reads as dx-distort-para
 pub determined :
     Determined distort-contract.Post × Determined undistort-contract.Post
     × Determined dx-distort-x-contract.Post × Determined dx-distort-params-contract.Post
-determined = (λ κ a s s' r r' p q. p ∙ sym q, λ κ a s s' r r' p q. p ∙ sym q, λ κ a s s' r r' p q. p ∙ sym q,
-    λ κ a s s' r r' p q. p ∙ sym q)
+determined = (
+  λ κ a s s' r r' p q. p ∙ sym q,
+  λ κ a s s' r r' p q. p ∙ sym q,
+  λ κ a s s' r r' p q. p ∙ sym q,
+  λ κ a s s' r r' p q. p ∙ sym q,
+)
 
 -- ---- without a prism
 
@@ -96,22 +100,28 @@ module _ {ρ : ℕ → Fraction} (numbers : Numbers ρ) (defined : ¬ (exact ρ 
   pub params-derived : Alike ρ (gradient parameters formula.u) formula.u-params
       × Alike ρ (gradient parameters formula.v) formula.v-params
   unfolding gradient derivative
-  params-derived = (derived numbers defined parameters formula.u formula.u-params tt,
-      derived numbers defined parameters formula.v formula.v-params tt)
+  params-derived = (
+    derived numbers defined parameters formula.u formula.u-params tt,
+    derived numbers defined parameters formula.v formula.v-params tt,
+  )
 
   -- and so is each of dx_distort_x by x or y,
   pub point-derived : Alike ρ (gradient coordinates formula.u) formula.u-point
       × Alike ρ (gradient coordinates formula.v) formula.v-point
   unfolding gradient derivative
-  point-derived = (derived numbers defined coordinates formula.u formula.u-point tt,
-      derived numbers defined coordinates formula.v formula.v-point tt)
+  point-derived = (
+    derived numbers defined coordinates formula.u formula.u-point tt,
+    derived numbers defined coordinates formula.v formula.v-point tt,
+  )
 
   -- and each of the matrix of a Newton step, of the distorted point by x or y.
   pub step-derived : Alike ρ (gradient coordinates formula.xd) formula.xd-point
       × Alike ρ (gradient coordinates formula.yd) formula.yd-point
   unfolding gradient derivative
-  step-derived = (derived numbers defined coordinates formula.xd formula.xd-point tt,
-      derived numbers defined coordinates formula.yd formula.yd-point tt)
+  step-derived = (
+    derived numbers defined coordinates formula.xd formula.xd-point tt,
+    derived numbers defined coordinates formula.yd formula.yd-point tt,
+  )
 
 -- ---- how many updates
 
@@ -150,5 +160,6 @@ pub by-hand :
     (int 0 ∷ int 2 ∷ int 0 ∷ int 1 ∷ int 10 ∷ int 50 ∷ int 13 ∷ int 4 ∷ int 250 ∷ minus (int 10) ∷ minus (int 50) ∷
     minus (int 250)
     ∷ int 0 ∷ int 0 ∷ int 5 ∷ int 25 ∷ []))
-unfolding passes pass-by step-from prism-slopes-at slopes-at shared-at distortion bc.distortion dx-distort-params rounded root le add sub mul div neg ofBits ofInt
+unfolding passes pass-by step-from prism-slopes-at slopes-at shared-at distortion bc.distortion dx-distort-params
+    rounded root le add sub mul div neg ofBits ofInt
 by-hand = (refl, refl, refl, refl)

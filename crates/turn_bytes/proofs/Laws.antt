@@ -111,9 +111,25 @@ module _ {X : Type 0} (c : Cells X) (bs : List ℕ) (cells : List X) (allowance 
           subst Told (sym (ap (λ (h : Handed X). h .code) (taken-written z)))
           (by-unit Told (c .kind .refusal) (job-at bs .strict)
           (said-number (turn-of (c .kind) (job-at bs) cells allowance .said))
-          (taken-so (c .kind) (c .fit) bs cells lent allowance z)
-          (refl, (refl, (refl, (refl, (refl, (refl,
-          (last-of (c .kind .refusal) (0 ∷ 1 ∷ 4 ∷ 5 ∷ 6 ∷ 7 ∷ 8 ∷ 10 ∷ 11 ∷ 13 ∷ 16 ∷ 18 ∷ []), tt))))))))
+          (taken-so (c .kind) (c .fit) bs cells lent allowance z) (
+            refl,
+            (
+              refl,
+              (
+                refl,
+                (
+                  refl,
+                  (
+                    refl,
+                    (
+                      refl,
+                      (last-of (c .kind .refusal) (0 ∷ 1 ∷ 4 ∷ 5 ∷ 6 ∷ 7 ∷ 8 ∷ 10 ∷ 11 ∷ 13 ∷ 16 ∷ 18 ∷ []), tt),
+                    ),
+                  ),
+                ),
+              ),
+            ),
+          ))
       go false e =
           subst Told (sym (ap (λ (h : Handed X). h .code) (refused-untouched (eqb-false before 0 e))))
           (by-each Told (0 ∷ call-numbers) before (before-so bs cells lent)
@@ -134,9 +150,19 @@ module _ {X : Type 0} (c : Cells X) (bs : List ℕ) (cells : List X) (allowance 
           absurd
           (by-unit Unit's (c .kind .refusal) (job-at bs .strict)
           (said-number (turn-of (c .kind) (job-at bs) cells allowance .said))
-          (taken-so (c .kind) (c .fit) bs cells lent allowance z)
-          (false≢true, (false≢true, (false≢true, (false≢true,
-          (false≢true, (false≢true, (λ h. false≢true (sym (c .apart) ∙ h), tt)))))))
+          (taken-so (c .kind) (c .fit) bs cells lent allowance z) (
+            false≢true,
+            (
+              false≢true,
+              (
+                false≢true,
+                (
+                  false≢true,
+                  (false≢true, (false≢true, (λ h. false≢true (sym (c .apart) ∙ h), tt))),
+                ),
+              ),
+            ),
+          )
           (sym (ap (λ (x : Handed X). one-of (x .code) call-numbers) (taken-written z)) ∙ h))
       go false e =
           let u : after ≡ handed before bs cells lent = refused-untouched (eqb-false before 0 e) in
