@@ -10,14 +10,10 @@
 What is owed comes from tools/listings.py, written from docs/RULES.md and request P1. Each refused text stands here with
 its number, and `compared` must say the same. No code of the crates takes part.
 """
-import pathlib
-import sys
-
 from listings import LONGEST, MOST, UPDATES, cell_line, compared, read, refused, status, written
 from make_leaf_vectors import Splitmix
 from make_printer_inputs import EXAMPLE, printed
-
-ROOT = pathlib.Path(__file__).resolve().parent.parent
+from parts import make, part
 
 # ---- listings
 
@@ -317,11 +313,6 @@ def heading(words):
     return f"# {words}\n".encode()
 
 
-def part(text):
-    assert len(text) <= 300_000
-    return len(text).to_bytes(4, "little") + text
-
-
 # The example of RULES 16.6: updates, an edge of the region, the first cell and the last.
 BY_HAND = written(3, 2, 41, (*EDGES[:3], EDGES[3] ^ 1), [(0xC0000001, 0xBFC00000), *PAIRS[1:5], (0x40800000, 0x40200010)])
 
@@ -386,10 +377,4 @@ def self_test():
 
 
 if __name__ == "__main__":
-    if sys.argv[1:] == ["--self-test"]:
-        self_test()
-    else:
-        for name, content in files():
-            path = ROOT / name
-            path.parent.mkdir(parents=True, exist_ok=True)
-            path.write_bytes(content)
+    make(files, self_test)

@@ -12,13 +12,12 @@ refused text stands here with its number, and `answered` must say the same. A pa
 No code of the crates takes part.
 """
 import math
-import pathlib
 import random
 import re
 import struct
-import sys
 
-ROOT = pathlib.Path(__file__).resolve().parent.parent
+from parts import make, part
+
 LONGEST = 4096
 FIELDS = rb"((?:\t[0-9a-f]{16})+)\n"
 OURS = re.compile(rb"params" + FIELDS, re.DOTALL)
@@ -296,10 +295,6 @@ def cases():
         yield f"# {number}: {words}\n".encode(), text, refused(number)
 
 
-def part(text):
-    return len(text).to_bytes(2, "little") + text
-
-
 def files():
     found = [(words, text[: LONGEST + 1], answer) for words, text, answer in cases()]
     yield "crates/test_opencv_params/stdin", b"".join(part(words) + part(text) for words, text, _ in found)
@@ -339,10 +334,4 @@ def blank(text):
 
 
 if __name__ == "__main__":
-    if sys.argv[1:] == ["--self-test"]:
-        self_test()
-    else:
-        for name, content in files():
-            path = ROOT / name
-            path.parent.mkdir(exist_ok=True)
-            path.write_bytes(content)
+    make(files, self_test)

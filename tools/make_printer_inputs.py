@@ -12,9 +12,7 @@ The form of the text stands here as one regular expression, written from docs/RU
 tools/lens_tables.py. Each refused input stands here with its number, and `printed` must say the same. No code of
 the crates takes part.
 """
-import pathlib
 import re
-import sys
 
 import listings
 from lens_models import AFFINE, BC, BC12, COUNTS, EUCM, KB, MODELS, bits
@@ -24,8 +22,8 @@ from make_leaf_vectors import value
 from model_questions import BC_EXAMPLE, PRISM, spelled
 from make_head_calls import JOBS
 from make_table_vectors import LISTING
+from parts import make, part
 
-ROOT = pathlib.Path(__file__).resolve().parent.parent
 NAMES = {name.encode(): number for number, name in enumerate(MODELS)}
 FORM = re.compile(
     rb"camera\t([a-z0-9]{1,16})\t([1-9][0-9]{0,3})\t([1-9][0-9]{0,3})\nparams((?:\t[0-9a-f]{16})+)\n", re.DOTALL
@@ -235,10 +233,6 @@ def cases():
         yield f"# {number}: {words}\n".encode(), text, refused(number)
 
 
-def part(text):
-    return len(text).to_bytes(2, "little") + text
-
-
 def files():
     found = list(cases())
     yield "crates/test_printer_inputs/stdin", b"".join(part(words) + part(text) for words, text, _ in found)
@@ -276,10 +270,4 @@ def self_test():
 
 
 if __name__ == "__main__":
-    if sys.argv[1:] == ["--self-test"]:
-        self_test()
-    else:
-        for name, content in files():
-            path = ROOT / name
-            path.parent.mkdir(exist_ok=True)
-            path.write_bytes(content)
+    make(files, self_test)

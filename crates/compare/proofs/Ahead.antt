@@ -12,7 +12,7 @@ use lib.Dec.{eqb}
 use lib.ListN.{length, take, drop, getD, drop-of-length-le}
 use lib.Seq.{drop-cons}
 use Rattle.listing_lines.specs.Read.{onto}
-use Rattle.compare.specs.Judged.{longest, line-end, cut}
+use Rattle.compare.specs.Judged.{longest, line-end, complete, cut}
 
 -- the first line, and the others behind it
 pub first-cut :
@@ -39,12 +39,6 @@ first-cut (suc room) b (c ∷ text) = by-end (eqb b 10) (first-cut room c text)
         ∷ cut longest (drop (cond t 1 (suc (line-end (suc room) (c ∷ text)))) (b ∷ c ∷ text))
     by-end true e = refl
     by-end false e = ap (onto b) e
-
--- whether a piece has all of its first line, or as much of it as there is room for
-unfoldable pub complete : ℕ → List ℕ → Bool
-complete zero text = true
-complete (suc room) [] = false
-complete (suc room) (b ∷ text) = cond (eqb b 10) true (complete room text)
 
 -- what follows a piece matters only where the line isn't complete
 pub more-ahead :

@@ -1,50 +1,35 @@
 -- Two listings of one size, compared line by line: the lines told are the report's. Assumes nothing.
 use mathlib.Core.Path.{_≡_, refl, sym, ap, ap₂, _∙_}
-use mathlib.Core.Bool.{Bool, true, false, cond, _&&_, true≢false}
+use mathlib.Core.Bool.{Bool, true, false, cond, _&&_}
 use mathlib.Core.List.{List, [], _∷_, _++_, append-assoc, append-nil}
-use mathlib.Core.Option.{Option, none, some, Option·some-injective}
+use mathlib.Core.Option.{none, Option·some-injective}
 use Prim.Native.Nat.{ℕ, zero, suc, _+_, _*_, _^_, _≤_, _<_}
 use native.Mathlib.Nat.{mul-le-mul-right, zero-add}
 use native.Mathlib.Omega.{arith}
-use borrow.Author.Tests.{eq-eqb, eqb-true, eqb-false, lt-ltb}
-use lib.Dec.{eqb, ltb}
-use lib.ListN.{length, getD}
+use borrow.Author.Tests.{eqb-true, eqb-false, lt-ltb}
+use lib.Dec.{eqb}
+use lib.ListN.{length}
 use Rattle.decimal.specs.Text.{same}
-use Rattle.decimal.proofs.Bytes.{same-self, same-true, both}
+use Rattle.decimal.proofs.Bytes.{same-self, same-true}
 use Rattle.put_text.specs.Placed.{joined}
-use Rattle.listing_lines.specs.Line.{line, table-line, region-text, cell-text, difference-line, count-line}
-use Rattle.listing_lines.specs.Read.{single, Header, header-text, Edges, edges-text, Cell, text-of-cell, fair-cell, read-cell, cell-told}
-use Rattle.listing_lines.specs.declared.CellLine.the-variants as line
+use Rattle.listing_lines.specs.Line.{cell-text, difference-line, count-line}
+use Rattle.listing_lines.specs.Read.{single, header-text, edges-text, Cell, fair-cell, read-cell}
 use Rattle.listing_lines.proofs.Reading.{both-true}
-use Rattle.listing_lines.proofs.Laws.{cell-read, only-cell}
+use Rattle.listing_lines.proofs.Laws.{cell-read}
+use Rattle.listing_lines.proofs.Others.{table-no-cell, region-no-cell}
 use Rattle.listing.specs.Listing.{across, down, cell-texts}
-use Rattle.listing.specs.Read.{Listed, all-single}
+use Rattle.listing.specs.Read.{Listed, listed-lines, all-single}
+use Rattle.listing.proofs.Cut.{joined-append}
+use Rattle.listing.proofs.Fair.{Fair, cell-fair}
 use Rattle.listing.proofs.Grid.{next, in-a-row}
 use Rattle.compare.specs.Report.{both-lines, differing, one-size, report}
-use Rattle.compare.specs.Told.{cells-told, told, counted, told-lines, all-told, all-counted}
+use Rattle.compare.specs.Told.{told, counted, told-lines, all-told, all-counted}
 use Rattle.compare.specs.declared.Difference.{Difference}
 use Rattle.compare.specs.declared.Difference.the-variants.{Same, Lines, Cells}
-use Rattle.compare.proofs.Held.{Fair, listed-lines}
 
 -- ---- two lines that are no cells'
 
-no-cell : (text : List ℕ) → (getD text 0 0 ≡ 99 → ⊥) → cell-told (read-cell text) ≡ line.NoCell
-unfolding cell-text line
-no-cell text ne = by-line (read-cell text) refl
-  where
-    by-line : (o : Option Cell) → read-cell text ≡ o → cell-told o ≡ line.NoCell
-    by-line none e = refl
-    by-line (some c) e = absurd (ne (ap (λ (x : List ℕ). getD x 0 0) (only-cell text c e .0)))
-
-table-no-cell : (h : Header) → cell-told (read-cell (header-text h)) ≡ line.NoCell
-unfolding table-line line
-table-no-cell h = no-cell _ (λ e. omega (arith, e))
-
-region-no-cell : (e : Edges) → cell-told (read-cell (edges-text e)) ≡ line.NoCell
-unfolding region-text line
-region-no-cell e = no-cell _ (λ f. omega (arith, f))
-
-module _ (s t : List ℕ) (e : cell-told (read-cell s) ≡ line.NoCell) where
+module _ (s t : List ℕ) (e : read-cell s ≡ none) where
   by-same : (b : Bool) → same s t ≡ b → told s t ≡ cond b Same Lines
   unfolding told
   by-same true f = simp f
@@ -117,9 +102,6 @@ at-most-one true n u v a b c d k h = omega arith
 at-most-one false n u v a b c d k h = simp (lt-ltb n (2 ^ 32) (omega arith)) (omega arith)
 
 module _ (w h : ℕ) (hw : w ≤ 4096) (hh : h ≤ 4096) where
-  fair-at : (u v a b : ℕ) → u < w → v < h → (single a && single b) ≡ true → fair-cell (record { u = u; v = v; a = a; b = b }) ≡ true
-  fair-at u v a b i j s = both (both (lt-ltb u (2 ^ 32) (omega arith)) (lt-ltb v (2 ^ 32) (omega arith))) s
-
   cells-compared :
       (old new : List ℕ) (u v n k : ℕ) → u < w → all-single old ≡ true → all-single new ≡ true →
       length old + 2 * (v * w + u) ≡ 2 * (w * h) → length new ≡ length old → length old ≡ 2 * k → n + k ≤ 2 ^ 32 →
@@ -139,7 +121,7 @@ module _ (w h : ℕ) (hw : w ≤ 4096) (hh : h ≤ 4096) where
       let q = both-true (single c) (single d && all-single new) t in
       let q' = both-true (single d) (all-single new) (q .1) in
       let z = eqb a c && eqb b d in
-      let told-is = cell-compared u v a b c d (fair-at u v a b l i (both (p .0) (p' .0))) (fair-at u v c d l i (both (q .0) (q' .0))) in
+      let told-is = cell-compared u v a b c d (cell-fair u v a b (omega arith) (omega arith) (p .0) (p' .0)) (cell-fair u v c d (omega arith) (omega arith) (q .0) (q' .0)) in
       let more =
       cells-compared old new (across w u) (down w u v) (counted n (cond z Same (Cells u v a b c d))) k (m .0) (p' .1) (q' .1) (omega (arith, m .1)) (omega arith) (omega arith)
       (at-most-one z n u v a b c d k y) in
@@ -150,11 +132,6 @@ module _ (w h : ℕ) (hw : w ≤ 4096) (hh : h ≤ 4096) where
       )
 
 -- ---- two listings
-
-joined-append : (s t : List (List ℕ)) → joined (s ++ t) ≡ joined s ++ joined t
-unfolding joined
-joined-append [] t = refl
-joined-append (x ∷ s) t = ap (λ (r : List ℕ). x ++ r) (joined-append s t) ∙ sym (append-assoc x (joined s) (joined t))
 
 module _ (l m : Listed) (f : Fair l) (g : Fair m) (e : one-size (l .header) (m .header) ≡ true) where
   abbrev w : ℕ

@@ -1,77 +1,24 @@
 -- The lines of a listing are held whole. Assumes nothing.
-use mathlib.Core.Path.{_≡_, refl, ap, _∙_}
-use mathlib.Core.Bool.{Bool, true, false, cond, _&&_}
+use mathlib.Core.Path.{_≡_, refl}
+use mathlib.Core.Bool.{Bool, true, false, cond}
 use mathlib.Core.List.{List, [], _∷_}
-use Prim.Native.Nat.{ℕ, _+_, _*_, _^_, _≤_, _<_}
+use Prim.Native.Nat.{ℕ, _^_, _≤_, _<_}
 use native.Mathlib.Omega.{arith}
-use borrow.Author.Tests.{leb-true, ltb-true, eqb-true, le-leb, lt-ltb, eq-eqb}
-use lib.Dec.{eqb, leb, ltb}
+use borrow.Author.Tests.{ltb-true}
+use lib.Dec.{ltb}
 use lib.ListN.{length}
 use Rattle.decimal.specs.Decimal.{decimal}
-use Rattle.decimal.proofs.Bytes.{both}
 use Rattle.decimal.proofs.Digits.{decimal-short}
-use Rattle.region.specs.Size.{within, sized, Sized}
-use Rattle.listing_lines.specs.Line.{hex, line, word-table, word-region, word-cell, table-line, region-text, cell-text}
-use Rattle.listing_lines.specs.Read.{single, Header, header-text, Edges, edges-text, fair-edges, Cell, text-of-cell}
+use Rattle.listing_lines.specs.Line.{hex, word-table, word-region, word-cell, table-line, region-text, cell-text}
+use Rattle.listing_lines.specs.Read.{Header, header-text, Edges, edges-text, Cell, text-of-cell}
 use Rattle.listing_lines.proofs.Back.{table-plain, region-plain, cell-plain, plains-of-table, plains-of-region, plains-of-cell}
 use Rattle.listing_lines.proofs.Length.{table-length, region-length, cell-length}
-use Rattle.listing_lines.proofs.Reading.{both-true}
 use Rattle.listing.specs.Listing.{across, down, cell-texts}
-use Rattle.listing.specs.Read.{Listed, all-single, fair-header, fair}
+use Rattle.listing.specs.Read.{Listed, listed-lines}
+use Rattle.listing.proofs.Fair.{Fair}
 use Rattle.listing.proofs.Grid.{next}
 use Rattle.compare.specs.Judged.{longest}
 use Rattle.compare.proofs.Cutting.{Ended, Held, line-ended}
-
--- ---- what a listing may tell
-
-pub record Fair (l : Listed) : Type 0 where
-  pub size : Sized (l .header .width) (l .header .height)
-  pub updates : l .header .updates < 2 ^ 32
-  pub edges : fair-edges (l .edges) ≡ true
-  pub count : length (l .cells) ≡ 2 * (l .header .width * l .header .height)
-  pub singles : all-single (l .cells) ≡ true
-
-pub is-fair : (l : Listed) → fair l ≡ true → Fair l
-is-fair l f =
-    let h = l .header in
-    let x = both-true (fair-header h && fair-edges (l .edges)) _ f in
-    let y = both-true (fair-header h) _ (x .0) in
-    let z = both-true (eqb (length (l .cells)) (2 * (h .width * h .height))) _ (x .1) in
-    let s = both-true (sized (h .width) (h .height)) _ (y .0) in
-    let t = both-true (within (h .width)) _ (s .0) in
-    let a = both-true (leb 2 (h .width)) _ (t .0) in
-    let b = both-true (leb 2 (h .height)) _ (t .1) in
-    record {
-      size = record {
-        wide = leb-true 2 (h .width) (a .0);
-        high = leb-true 2 (h .height) (b .0);
-        not-wider = leb-true (h .width) 4096 (a .1);
-        not-higher = leb-true (h .height) 4096 (b .1);
-      };
-      updates = ltb-true (h .updates) (2 ^ 32) (s .1);
-      edges = y .1;
-      count = eqb-true (length (l .cells)) (2 * (h .width * h .height)) (z .0);
-      singles = z .1;
-    }
-
-pub fair-is : (l : Listed) → Fair l → fair l ≡ true
-fair-is l f =
-    let h = l .header in
-    let s = f .size in
-    both
-    (both
-    (both
-    (both
-    (both (le-leb 2 (h .width) (s .wide)) (le-leb (h .width) 4096 (s .not-wider)))
-    (both (le-leb 2 (h .height) (s .high)) (le-leb (h .height) 4096 (s .not-higher))))
-    (lt-ltb (h .updates) (2 ^ 32) (f .updates)))
-    (f .edges))
-    (both (eq-eqb (length (l .cells)) (2 * (h .width * h .height)) (f .count)) (f .singles))
-
--- ---- its lines
-
-unfoldable pub listed-lines : Listed → List (List ℕ)
-listed-lines l = header-text (l .header) ∷ edges-text (l .edges) ∷ cell-texts (l .header .width) (l .header .height) 0 0 (l .cells)
 
 table-held : (h : Header) → h .width ≤ 4096 → h .height ≤ 4096 → h .updates < 2 ^ 32 → Ended (header-text h) × (length (header-text h) ≤ longest)
 unfolding table-line

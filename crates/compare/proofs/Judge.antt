@@ -6,13 +6,14 @@ use mathlib.Core.Option.{Option, none, some}
 use Prim.Native.Nat.{ℕ, suc, _+_, _*_, _^_, _≤_, _<_}
 use native.Mathlib.Nat.{mul-comm, mul-le-mul-right, suc-mul}
 use native.Mathlib.Omega.{arith}
-use borrow.Author.Tests.{le-leb, lt-ltb, eq-eqb, ltb-true, ltb-false, eqb-true, leb-true}
-use lib.Dec.{eqb, leb, ltb}
+use borrow.Author.Tests.{lt-ltb, eq-eqb, ltb-true, ltb-false, eqb-true}
+use lib.Dec.{eqb, ltb}
 use lib.ListN.{length}
 use Rattle.decimal.proofs.Bytes.{both}
-use Rattle.region.specs.Size.{within, sized, Sized}
+use Rattle.region.proofs.Size.{is-sized}
+use Rattle.region.specs.Size.{sized, Sized}
 use Rattle.listing_lines.specs.Line.{cell-text}
-use Rattle.listing_lines.specs.Read.{single, Header, header-text, fair-numbers, read-table, table-told, Edges, edges-text, fair-edges, read-region, region-told, Cell, text-of-cell, fair-cell, read-cell, cell-told}
+use Rattle.listing_lines.specs.Read.{single, Header, fair-numbers, read-table, table-told, Edges, edges-text, read-region, region-told, Cell, read-cell, cell-told}
 use Rattle.listing_lines.specs.declared.TableLine.{TableLine}
 use Rattle.listing_lines.specs.declared.TableLine.the-variants.{Table, NoTable}
 use Rattle.listing_lines.specs.declared.RegionLine.{RegionLine}
@@ -22,12 +23,11 @@ use Rattle.listing_lines.specs.declared.CellLine.the-variants as line
 use Rattle.listing_lines.proofs.Reading.{both-true}
 use Rattle.listing_lines.proofs.Laws.{table-read, only-table, region-read, only-region, cell-read, only-cell}
 use Rattle.listing.specs.Listing.{across, down, cell-texts}
-use Rattle.listing.specs.Read.{Listed, all-single}
+use Rattle.listing.specs.Read.{Listed, listed-lines, all-single}
+use Rattle.listing.proofs.Fair.{of-size, Fair, cell-fair}
 use Rattle.listing.proofs.Grid.{next, in-a-row, before-end}
 use Rattle.compare.specs.Judged.{after-table, after-region, next-cell, after-cell, step, judged, whole}
-use Rattle.compare.specs.declared.Judging.{Judging}
 use Rattle.compare.specs.declared.Judging.the-variants as at
-use Rattle.compare.proofs.Held.{Fair, listed-lines}
 
 -- ---- a bad line is never made good
 
@@ -160,22 +160,11 @@ module _ (w h : ℕ) where
       let n = next w u v l in
       let x = both-true (single a) (single b && all-single cells) s in
       let y = both-true (single b) (all-single cells) (x .1) in
-      let f : fair-cell (record { u = u; v = v; a = a; b = b }) ≡ true =
-      both (both (lt-ltb u (2 ^ 32) (omega arith)) (lt-ltb v (2 ^ 32) (omega arith))) (both (x .0) (y .0)) in
+      let f = cell-fair u v a b (omega arith) (omega arith) (x .0) (y .0) in
       simp (lt-ltb v h i, cell-read (record { u = u; v = v; a = a; b = b }) f, next-taken w h u v l i)
       (cells-back hw hh cells (across w u) (down w u v) (n .0) (y .1) (omega (arith, n .1)))
 
 -- ---- the table's line and the region's
-
-size-of : (w h : ℕ) → sized w h ≡ true → Sized w h
-size-of w h e =
-    let p = both-true (within w) _ e in
-    let a = both-true (leb 2 w) _ (p .0) in
-    let b = both-true (leb 2 h) _ (p .1) in
-    record { wide = leb-true 2 w (a .0); high = leb-true 2 h (b .0); not-wider = leb-true w 4096 (a .1); not-higher = leb-true h 4096 (b .1) }
-
-of-size : (w h : ℕ) → Sized w h → sized w h ≡ true
-of-size w h s = both (both (le-leb 2 w (s .wide)) (le-leb w 4096 (s .not-wider))) (both (le-leb 2 h (s .high)) (le-leb h 4096 (s .not-higher)))
 
 -- some lines are those of a listing
 pub record Listing (lines : List (List ℕ)) : Type 0 where
@@ -217,7 +206,7 @@ module _ (first : List ℕ) where
   by-size lines w h n e false f g = never lines g
   by-size [] w h n e true f g = absurd (false≢true g)
   by-size (second ∷ lines) w h n e true f g =
-      by-region first second w h n (told-table (read-table first) w h n e) (size-of w h f) lines (region-told (read-region second)) refl g
+      by-region first second w h n (told-table (read-table first) w h n e) (is-sized w h f) lines (region-told (read-region second)) refl g
 
   by-table : (lines : List (List ℕ)) (r : TableLine) → table-told (read-table first) ≡ r → whole (judged (after-table r) lines) ≡ true → Listing (first ∷ lines)
   by-table lines NoTable e g = never lines g

@@ -1,9 +1,9 @@
 -- What a caller may rely on, of the definitions of specs/ and of the contracts of src/. Assumes nothing.
 use mathlib.Core.Path.{_≡_, refl, sym, ap, ap₂, _∙_}
-use mathlib.Core.Bool.{Bool, true, false, cond, _&&_}
+use mathlib.Core.Bool.{true, false, cond}
 use mathlib.Core.List.{List, [], _∷_, _++_, append-nil}
 use mathlib.Core.Option.{Option, none, some}
-use Prim.Native.Nat.{ℕ, zero, suc, _+_, _*_, _-_}
+use Prim.Native.Nat.{ℕ, _+_, _*_, _-_}
 use native.Mathlib.Omega.{arith}
 use borrow.Author.Tests.{eq-eqb, eqb-true}
 use denote.Ref.{now}
@@ -12,22 +12,23 @@ use lib.ListN.{length, take, drop}
 use Rattle.exact.specs.Determined.{Determined, DeterminedWith}
 use Rattle.decimal.specs.Decimal.{places, decimal}
 use Rattle.decimal.proofs.Bytes.{same-self}
-use Rattle.lens.specs.Refusal.{number}
 use Rattle.put_text.specs.Placed.{joined}
 use Rattle.put_text.proofs.Laws.{both}
 use Rattle.listing_lines.specs.Line.{line, count-line, refused-line}
 use Rattle.listing_lines.specs.Read.{header-text, edges-text}
 use Rattle.listing_lines.proofs.Reading.{both-true}
+use Rattle.listing.specs.Listing.{each}
 use Rattle.listing.specs.Read.{Listed, listed-text, fair, read-listing}
+use Rattle.listing.proofs.Fair.{is-fair}
 use Rattle.listing.proofs.Laws.{listing-read, only-listing}
-use Rattle.compare.specs.Report.{both-lines, differing, one-size, report, report-or-refusal, compared}
-use Rattle.compare.specs.Judged.{longest, line-end, cut, judged, whole}
+use Rattle.compare.specs.Report.{both-lines, differing, told-at, one-size, report, report-or-refusal, compared}
+use Rattle.compare.specs.Judged.{longest, line-end, complete, cut, judged, whole, is-some}
 use Rattle.compare.specs.Told.{by-lines}
 use Rattle.compare.specs.declared.Judging.the-variants.{Start}
 use Rattle.compare.proofs.Ahead as ahead
-use Rattle.compare.proofs.Held.{is-fair}
-use Rattle.compare.proofs.Exactly.{told-at, each, each-differing, none-differing}
-use Rattle.compare.proofs.Texts.{is-some, whole-exactly, lines-compared}
+use Rattle.compare.proofs.Exactly.{each-differing, none-differing}
+use Rattle.compare.proofs.Equal.{equal-texts, refused-unread}
+use Rattle.compare.proofs.Texts.{whole-exactly, lines-compared}
 use Rattle.compare.proofs.line_end.Reads as line-end-contract
 use Rattle.compare.proofs.start.Reads as start-contract
 use Rattle.compare.proofs.step.Reads as step-contract
@@ -82,8 +83,7 @@ module _ (old new : List ℕ) (l m : Listed) (e : read-listing old ≡ some l) (
       fm .count ∙ ap₂ (λ (p q : ℕ). 2 * (p * q)) (sym (eqb-true w (m .header .width) (x .0)))
       (sym (eqb-true h (m .header .height) (x .1))) in
       let d : differing w 0 0 (l .cells) (m .cells) ≡ each (told-at w (l .cells) (m .cells)) 0 (w * h) =
-      each-differing w (l .cells) (m .cells) (w * h) 0 0 0 (omega (arith, fl .size .wide)) (omega arith)
-      (omega (arith, fl .count)) (omega (arith, n)) in
+      each-differing w (w * h) (l .cells) (m .cells) (fl .count) n (omega (arith, fl .size .wide)) in
       simp (e, f, s)
       (ap (λ (cells : List (List ℕ)). joined
       (both-lines (header-text (l .header)) (header-text (m .header))
@@ -104,6 +104,10 @@ equal-listings text l e =
     )
     (append-nil (count-line 0))
 
+-- And only of two equal texts is that all that is printed.
+pub equal-only : (old new : List ℕ) → compared old new ≡ count-line 0 → old ≡ new
+equal-only = equal-texts
+
 -- Where the old text is no listing, there is only the line that says 14,
 pub refusal-alone : (old new : List ℕ) → read-listing old ≡ none → compared old new ≡ refused-line 14
 unfolding compared joined
@@ -117,6 +121,10 @@ refusal-alone-new old new e = by-old (read-listing old)
     by-old : (o : Option Listed) → joined (report-or-refusal o (read-listing new)) ≡ refused-line 14
     by-old none = append-nil (refused-line 14)
     by-old (some l) = simp e (append-nil (refused-line 14))
+
+-- The line of a refusal, which the printer prints where there is no table, is no listing.
+pub refused-no-listing : (n : ℕ) → read-listing (refused-line n) ≡ none
+refused-no-listing = refused-unread
 
 -- `count`, tab, `0`, line end
 pub count-0 : count-line 0 ≡ 99 ∷ 111 ∷ 117 ∷ 110 ∷ 116 ∷ 9 ∷ 48 ∷ 10 ∷ []
@@ -136,7 +144,7 @@ first-line b text = ahead.first-cut 95 b text
 -- piece, with the room that is left.
 pub pieces :
     (room : ℕ) (s t : List ℕ) →
-    line-end room (s ++ t) ≡ cond (ahead.complete room s) (line-end room s) (length s + line-end (room - length s) t)
+    line-end room (s ++ t) ≡ cond (complete room s) (line-end room s) (length s + line-end (room - length s) t)
 pieces = ahead.more-ahead
 
 -- ---- each contract permits one answer

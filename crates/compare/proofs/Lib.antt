@@ -6,4 +6,5 @@ pub mod Ahead
 pub mod Telling
 pub mod Texts
 pub mod Exactly
+pub mod Equal
 pub mod Laws

@@ -1,42 +1,34 @@
 -- Two texts, by their lines: each is judged as it is read, and what is printed of them is what the definition says.
 -- Assumes nothing.
-use mathlib.Core.Path.{_≡_, refl, sym, ap, ap₂, _∙_}
+use mathlib.Core.Path.{_≡_, refl, sym, ap, _∙_}
 use mathlib.Core.Bool.{Bool, true, false, cond, _&&_, true≢false}
 use mathlib.Core.List.{List, [], _∷_, _++_, append-nil}
-use mathlib.Core.Option.{Option, none, some, Option·none-ne-some}
+use mathlib.Core.Option.{Option, none, some}
 use Prim.Native.Nat.{ℕ}
 use borrow.Author.Tests.{eq-eqb}
-use lib.Dec.{eqb}
 use Rattle.lens.specs.Judgement.{decided}
 use Rattle.lens.specs.Refusal.{number}
-use Rattle.lens.specs.declared.Judgement.{Judgement}
 use Rattle.lens.specs.declared.Refusal.{Refusal}
 use Rattle.lens.specs.declared.Judgement.the-variants.{Taken, Refused}
-use Rattle.lens.specs.declared.Refusal.the-variants.{NotTheForm, SizesDiffer}
+use Rattle.lens.specs.declared.Refusal.the-variants.{SizesDiffer}
 use Rattle.put_text.specs.Placed.{joined}
 use Rattle.listing_lines.specs.Line.{count-line, refused-line}
-use Rattle.listing_lines.specs.Read.{Header}
-use Rattle.listing.specs.Read.{Listed, listed-text, fair, read-listing}
+use Rattle.listing.specs.Read.{Listed, listed-lines, listed-text, fair, read-listing}
+use Rattle.listing.proofs.Fair.{is-fair, fair-is}
 use Rattle.listing.proofs.Laws.{listing-read, only-listing}
 use Rattle.compare.specs.Report.{one-size, report, report-or-refusal, compared}
-use Rattle.compare.specs.Judged.{longest, cut, judged, whole, same-size, verdict}
+use Rattle.compare.specs.Judged.{longest, cut, judged, whole, is-some, verdict}
 use Rattle.compare.specs.Told.{all-told, all-counted, by-lines}
-use Rattle.compare.specs.declared.Judging.{Judging}
 use Rattle.compare.specs.declared.Judging.the-variants as at
 use Rattle.compare.proofs.Cutting.{joined-cut, cut-joined}
-use Rattle.compare.proofs.Held.{Fair, is-fair, fair-is, listed-lines, lines-held}
+use Rattle.compare.proofs.Held.{lines-held}
 use Rattle.compare.proofs.Judge.{whole-only, whole-back}
 use Rattle.compare.proofs.Comparing.{reported}
 
 -- ---- one text
 
--- whether there is something
-abbrev pub is-some : {A : Type 0} → Option A → Bool
-is-some none = false
-is-some (some x) = true
-
 text-is : (l : Listed) → listed-text l ≡ joined (listed-lines l)
-unfolding listed-text listed-lines
+unfolding listed-text
 text-is l = refl
 
 module _ (text : List ℕ) where

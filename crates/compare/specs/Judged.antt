@@ -1,6 +1,7 @@
 -- A text cut into lines as they are held, and judged line by line. Definitions only.
-use mathlib.Core.Bool.{Bool, false, cond, _&&_}
+use mathlib.Core.Bool.{Bool, true, false, cond, _&&_}
 use mathlib.Core.List.{List, [], _∷_}
+use mathlib.Core.Option.{Option, none, some}
 use Prim.Native.Nat.{ℕ, zero, suc}
 use lib.Dec.{eqb, ltb}
 use Rattle.decimal.specs.Text.{newline}
@@ -30,6 +31,12 @@ unfoldable pub line-end : ℕ → List ℕ → ℕ
 line-end zero text = 0
 line-end (suc room) [] = 0
 line-end (suc room) (b ∷ text) = cond (eqb b newline) 1 (suc (line-end room text))
+
+-- whether a piece of a text has all of its first line, or as much of it as there is room for
+unfoldable pub complete : ℕ → List ℕ → Bool
+complete zero text = true
+complete (suc room) [] = false
+complete (suc room) (b ∷ text) = cond (eqb b newline) true (complete room text)
 
 -- the lines of a text, with room for so many more bytes in the first; a longer one is cut
 unfoldable pub cut : ℕ → List ℕ → List (List ℕ)
@@ -76,6 +83,11 @@ whole (Cells width height u v) = eqb v height
 whole Start = false
 whole (Sized width height) = false
 whole Bad = false
+
+-- whether something was read
+abbrev pub is-some : {A : Type 0} → Option A → Bool
+is-some none = false
+is-some (some x) = true
 
 abbrev pub is-size : ℕ → ℕ → Judging → Bool
 is-size width height (Cells w h u v) = eqb width w && eqb height h

@@ -3,9 +3,9 @@
 use mathlib.Core.Bool.{Bool, cond, _&&_}
 use mathlib.Core.List.{List, [], _∷_, _++_}
 use mathlib.Core.Option.{Option, none, some}
-use Prim.Native.Nat.{ℕ}
+use Prim.Native.Nat.{ℕ, _+_, _*_, _/_, _%_}
 use lib.Dec.{eqb}
-use lib.ListN.{length}
+use lib.ListN.{length, getD}
 use Rattle.decimal.specs.Text.{same}
 use Rattle.lens.specs.Refusal.{number}
 use Rattle.lens.specs.declared.Refusal.the-variants.{NotTheForm, SizesDiffer}
@@ -31,6 +31,15 @@ differing width u v [] new = []
 differing width u v (a ∷ []) new = []
 differing width u v (a ∷ b ∷ old) [] = []
 differing width u v (a ∷ b ∷ old) (c ∷ []) = []
+
+-- by its number: what is told of cell k of two tables of so many columns is its line, if its bits differ
+abbrev pub told-at : ℕ → List ℕ → List ℕ → ℕ → List (List ℕ)
+told-at width old new k =
+    let a = getD old (2 * k) 0 in
+    let b = getD old (2 * k + 1) 0 in
+    let c = getD new (2 * k) 0 in
+    let d = getD new (2 * k + 1) 0 in
+    cond (eqb a c && eqb b d) [] (difference-line (k % width) (k / width) a b c d ∷ [])
 
 -- the table's lines and the region's, where they differ; the cells that do, and how many they are
 unfoldable pub report : Listed → Listed → List (List ℕ)

@@ -6,7 +6,7 @@ use lib.Dec.{ltb}
 use Rattle.decimal.specs.Text.{same}
 use Rattle.lens.specs.Judgement.{decided}
 use Rattle.lens.specs.Refusal.{number}
-use Rattle.put_text.specs.Placed.{Written, placed, joined}
+use Rattle.put_text.specs.Placed.{joined}
 use Rattle.listing_lines.specs.Line.{difference-line, count-line, refused-line}
 use Rattle.listing_lines.specs.Read.{read-cell, cell-told}
 use Rattle.listing_lines.specs.declared.CellLine.{CellLine}
@@ -37,11 +37,6 @@ abbrev pub told-lines : Difference → List ℕ → List ℕ → List (List ℕ)
 told-lines Same old new = []
 told-lines Lines old new = old ∷ new ∷ []
 told-lines (Cells u v a b c d) old new = difference-line u v a b c d ∷ []
-
--- and put into a buffer, each line where it fits
-unfoldable pub each-placed : Written → List (List ℕ) → Written
-each-placed w [] = w
-each-placed w (text ∷ texts) = each-placed (placed w text) texts
 
 -- ---- two texts, line by line
 

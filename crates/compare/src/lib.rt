@@ -1,10 +1,10 @@
 // Two listings, line by line: whether each text is one, and what is printed of the two.
 ghost use mathlib.Core.Path.{_≡_};
-ghost use Rattle.put_text.specs.Placed.{written};
+ghost use Rattle.put_text.specs.Placed.{written, each-placed};
 ghost use Rattle.compare.specs.Judged.{line-end, after-table, after-region, next-cell, after-cell, step, whole};
 ghost use Rattle.compare.specs.Judged.{is-size, same-size, verdict};
 ghost use Rattle.compare.specs.declared.Judging.the-variants.{Start};
-ghost use Rattle.compare.specs.Told.{cells-told, told, counted, told-lines, each-placed};
+ghost use Rattle.compare.specs.Told.{cells-told, told, counted, told-lines};
 use lens::Judgement;
 use lens::Refusal;
 use listing_lines::CellLine;

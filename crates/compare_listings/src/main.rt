@@ -8,20 +8,12 @@ use lens::Judgement;
 use lens::Refusal;
 use libc::STDERR_FILENO;
 use libc::STDOUT_FILENO;
-ghost use Rattle.io.specs.Counts.{Counts};
 
 // What is read ahead of a file, and what is gathered before it is written.
 const AHEAD: usize = 4096;
 
 // What is told of a pair of lines fits behind so many bytes: two lines, or one.
 const ROOM: usize = 3904;
-
-// n, where buf has so many bytes; each n here is one.
-fn held(n: usize, buf: &[u8]) -> usize
-    ensures { λ r. ⌜ Counts r (now (buf .entry)) ⌝ }
-{
-    if n <= buf.len() { n } else { 0 }
-}
 
 // A file that is being read: which bytes that were read ahead are still to be taken, how many the line has, and whether
 // a read failed. A line of no bytes says that there are no more.
@@ -136,7 +128,7 @@ fn judged(s: Judging, line: &[u8], n: usize) -> Judging {
     if n == 0 {
         return s;
     }
-    let k = held(n, line);
+    let k = parts::held(n, line);
     compare::step(s, &line[..k])
 }
 
@@ -183,7 +175,7 @@ struct Told {
 
 // Writes what is gathered.
 fn flushed(out: &[u8], told: Told) -> Told {
-    let n = held(told.at, out);
+    let n = parts::held(told.at, out);
     let written = io::write_all(STDOUT_FILENO, &out[..n]);
     Told {
         count: told.count,
@@ -202,8 +194,8 @@ fn with_room(out: &[u8], told: Told) -> Told {
 
 // Compares the first bytes of two lines, and gathers what is printed of them.
 fn gathered(out: &mut [u8], told: Told, old: &[u8], n: usize, new: &[u8], m: usize) -> Told {
-    let k = held(n, old);
-    let l = held(m, new);
+    let k = parts::held(n, old);
+    let l = parts::held(m, new);
     let difference = compare::compare(&old[..k], &new[..l]);
     let at = compare::tell(out, told.at, difference, &old[..k], &new[..l]);
     Told {
@@ -333,7 +325,7 @@ fn compare_files(first: i32, second: i32) -> Ending {
 fn tell_count(count: u64) {
     let mut out = [0u8; LINE];
     let n = listing_lines::count_line(&mut out, 0, count);
-    let k = held(n, &out);
+    let k = parts::held(n, &out);
     io::write_all(STDOUT_FILENO, &out[..k]);
 }
 
@@ -371,7 +363,7 @@ fn tell(first: i32, second: i32, old: &[u8], new: &[u8]) {
 fn refuse(refusal: Refusal) {
     let mut out = [0u8; LINE];
     let n = listing_lines::refused_line(&mut out, 0, refusal);
-    let k = held(n, &out);
+    let k = parts::held(n, &out);
     io::write_all(STDOUT_FILENO, &out[..k]);
 }
 

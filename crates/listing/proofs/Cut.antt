@@ -1,7 +1,7 @@
 -- A listing is cut into the lines that it is made of. Assumes nothing.
-use mathlib.Core.Path.{_≡_, refl, ap, _∙_}
+use mathlib.Core.Path.{_≡_, refl, sym, ap, _∙_}
 use mathlib.Core.Bool.{Bool, true, false, cond}
-use mathlib.Core.List.{List, [], _∷_, _++_, append-assoc}
+use mathlib.Core.List.{List, [], _∷_, _++_, append-assoc, append-nil}
 use Prim.Native.Nat.{ℕ}
 use native.Mathlib.Omega.{arith}
 use borrow.Author.Tests.{ne-eqb}
@@ -9,10 +9,10 @@ use lib.Dec.{ltb}
 use Rattle.decimal.specs.Decimal.{decimal}
 use Rattle.put_text.specs.Placed.{joined}
 use Rattle.listing_lines.specs.Line.{hex, line, word-table, word-region, word-cell, table-line, region-text, cell-text}
-use Rattle.listing_lines.specs.Read.{onto, header-text, Edges, edges-text, Cell, text-of-cell}
+use Rattle.listing_lines.specs.Read.{onto, Header, header-text, Edges, edges-text, Cell, text-of-cell}
 use Rattle.listing_lines.proofs.Back.{Plain, Plains, table-plain, region-plain, cell-plain, plains-of-table, plains-of-region, plains-of-cell}
 use Rattle.listing.specs.Listing.{across, down, cell-texts}
-use Rattle.listing.specs.Read.{lines, Listed, listed-text}
+use Rattle.listing.specs.Read.{lines, Listed, listed-lines, listed-text}
 
 -- ---- the lines of a text
 
@@ -38,48 +38,65 @@ lines-line word (text ∷ texts) rest p q =
     ∙ through word (9 ∷ (line text texts ++ rest)) (9 ∷ line text texts) (lines rest) p
     (lines-tab (line text texts ++ rest) (line text texts) (lines rest) (lines-line text texts rest (q .0) (q .1)))
 
+-- ---- texts that are cut off whole, whatever follows
+
+abbrev pub Cut : List ℕ → Type 0
+Cut text = (rest : List ℕ) → lines (text ++ rest) ≡ text ∷ lines rest
+
+abbrev pub Cuts : List (List ℕ) → Type 0
+Cuts [] = Unit {0}
+Cuts (text ∷ texts) = Cut text × Cuts texts
+
+pub joined-cut : (texts : List (List ℕ)) (rest : List ℕ) → Cuts texts → lines (joined texts ++ rest) ≡ texts ++ lines rest
+unfolding joined
+joined-cut [] rest c = refl
+joined-cut (text ∷ texts) rest c =
+    ap lines (append-assoc text (joined texts) rest)
+    ∙ c .0 (joined texts ++ rest)
+    ∙ ap (λ (l : List (List ℕ)). text ∷ l) (joined-cut texts rest (c .1))
+
+pub joined-append : (s t : List (List ℕ)) → joined (s ++ t) ≡ joined s ++ joined t
+unfolding joined
+joined-append [] t = refl
+joined-append (x ∷ s) t = ap (λ (r : List ℕ). x ++ r) (joined-append s t) ∙ sym (append-assoc x (joined s) (joined t))
+
 -- ---- the three kinds of lines
 
-module _ (width height updates : ℕ) where
-  pub table-cut : (rest : List ℕ) → lines (table-line width height updates ++ rest) ≡ table-line width height updates ∷ lines rest
-  unfolding table-line
-  table-cut rest = lines-line word-table (decimal width ∷ decimal height ∷ decimal updates ∷ []) rest table-plain (plains-of-table width height updates)
+pub table-cut : (h : Header) → Cut (header-text h)
+unfolding table-line
+table-cut h rest =
+    lines-line word-table (decimal (h .width) ∷ decimal (h .height) ∷ decimal (h .updates) ∷ []) rest table-plain
+    (plains-of-table (h .width) (h .height) (h .updates))
 
-module _ (e : Edges) where
-  pub region-cut : (rest : List ℕ) → lines (edges-text e ++ rest) ≡ edges-text e ∷ lines rest
-  unfolding region-text
-  region-cut rest =
-      lines-line word-region (hex 16 (e .left) ∷ hex 16 (e .top) ∷ hex 16 (e .right) ∷ hex 16 (e .bottom) ∷ []) rest region-plain (plains-of-region e)
+pub region-cut : (e : Edges) → Cut (edges-text e)
+unfolding region-text
+region-cut e rest =
+    lines-line word-region (hex 16 (e .left) ∷ hex 16 (e .top) ∷ hex 16 (e .right) ∷ hex 16 (e .bottom) ∷ []) rest region-plain (plains-of-region e)
 
-module _ (c : Cell) where
-  pub cell-cut : (rest : List ℕ) → lines (text-of-cell c ++ rest) ≡ text-of-cell c ∷ lines rest
-  unfolding cell-text
-  cell-cut rest = lines-line word-cell (decimal (c .u) ∷ decimal (c .v) ∷ hex 8 (c .a) ∷ hex 8 (c .b) ∷ []) rest cell-plain (plains-of-cell c)
+pub cell-cut : (c : Cell) → Cut (text-of-cell c)
+unfolding cell-text
+cell-cut c rest = lines-line word-cell (decimal (c .u) ∷ decimal (c .v) ∷ hex 8 (c .a) ∷ hex 8 (c .b) ∷ []) rest cell-plain (plains-of-cell c)
 
-pub cells-cut : (width height u v : ℕ) (rest : List ℕ) → lines (joined (cell-texts width height u v rest)) ≡ cell-texts width height u v rest
-unfolding cell-texts joined lines
-cells-cut width height u v [] = refl
-cells-cut width height u v (a ∷ []) = refl
-cells-cut width height u v (a ∷ b ∷ rest) = by-row (ltb v height) (cells-cut width height (across width u) (down width u v) rest)
+cells-cut : (width height u v : ℕ) (cells : List ℕ) → Cuts (cell-texts width height u v cells)
+unfolding cell-texts
+cells-cut width height u v [] = tt
+cells-cut width height u v (a ∷ []) = tt
+cells-cut width height u v (a ∷ b ∷ cells) = by-row (ltb v height) (cells-cut width height (across width u) (down width u v) cells)
   where
     by-row :
         (t : Bool) →
-        lines (joined (cell-texts width height (across width u) (down width u v) rest)) ≡ cell-texts width height (across width u) (down width u v) rest →
-        lines (joined (cond t (cell-text u v a b ∷ cell-texts width height (across width u) (down width u v) rest) []))
-        ≡ cond t (cell-text u v a b ∷ cell-texts width height (across width u) (down width u v) rest) []
-    by-row true e =
-        cell-cut (record { u = u; v = v; a = a; b = b }) (joined (cell-texts width height (across width u) (down width u v) rest))
-        ∙ ap (λ (l : List (List ℕ)). cell-text u v a b ∷ l) e
-    by-row false e = refl
+        Cuts (cell-texts width height (across width u) (down width u v) cells) →
+        Cuts (cond t (cell-text u v a b ∷ cell-texts width height (across width u) (down width u v) cells) [])
+    by-row true c = (cell-cut (record { u = u; v = v; a = a; b = b }), c)
+    by-row false c = tt
 
--- all of it
-pub listed-cut :
-    (l : Listed) →
-    lines (listed-text l) ≡ header-text (l .header) ∷ edges-text (l .edges) ∷ cell-texts (l .header .width) (l .header .height) 0 0 (l .cells)
-unfolding listed-text joined
-listed-cut l =
-    let h = l .header in
-    let cells = cell-texts (h .width) (h .height) 0 0 (l .cells) in
-    table-cut (h .width) (h .height) (h .updates) (edges-text (l .edges) ++ joined cells)
-    ∙ ap (λ (texts : List (List ℕ)). header-text h ∷ texts)
-    (region-cut (l .edges) (joined cells) ∙ ap (λ (texts : List (List ℕ)). edges-text (l .edges) ∷ texts) (cells-cut (h .width) (h .height) 0 0 (l .cells)))
+-- all of it, whatever follows
+pub listing-cut : (l : Listed) (rest : List ℕ) → lines (listed-text l ++ rest) ≡ listed-lines l ++ lines rest
+unfolding listed-text listed-lines
+listing-cut l rest =
+    joined-cut (listed-lines l) rest
+    (table-cut (l .header), (region-cut (l .edges), cells-cut (l .header .width) (l .header .height) 0 0 (l .cells)))
+
+pub listed-cut : (l : Listed) → lines (listed-text l) ≡ listed-lines l
+unfolding lines
+listed-cut l = ap lines (sym (append-nil (listed-text l))) ∙ listing-cut l [] ∙ append-nil (listed-lines l)

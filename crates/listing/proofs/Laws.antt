@@ -1,27 +1,25 @@
 -- What a caller may rely on, of the definitions of specs/ and of the contracts of src/. Assumes nothing.
 use mathlib.Core.Path.{_≡_, refl, sym, ap, _∙_}
-use mathlib.Core.Bool.{true, _&&_}
-use mathlib.Core.List.{List, [], _∷_, map}
+use mathlib.Core.Bool.{true}
+use mathlib.Core.List.{List, [], map}
 use mathlib.Core.Option.{some}
 use Prim.Native.Nat.{ℕ, _+_, _*_, _≤_, _<_}
 use native.Mathlib.Omega.{arith}
 use denote.Ref.{now}
-use borrow.Author.Tests.{leb-true, eqb-true}
-use lib.Dec.{eqb, leb}
 use lib.Ieee.{Float, nan, binary32, toBits}
 use lib.ListN.{length, length-map, getD}
 use Rattle.exact.specs.Determined.{DeterminedWith}
-use Rattle.region.specs.Size.{within, sized}
 use Rattle.region.specs.declared.Region.{Region}
 use Rattle.put_text.specs.Placed.{written, placed, placed-all}
 use Rattle.put_text.proofs.Laws.{both, texts-in-place}
 use Rattle.listing_lines.specs.Line.{cell-line}
-use Rattle.listing_lines.specs.Read.{fair-edges}
-use Rattle.listing_lines.proofs.Reading.{both-true, read-again, only-read}
+use Rattle.listing_lines.proofs.Reading.{read-again, only-read}
 use Rattle.listing_lines.proofs.Back.{header-back, edges-back}
 use Rattle.listing.specs.Listing.{cell-texts, cell-lines, listing-lines, listing}
-use Rattle.listing.specs.Read.{Listed, listed, listed-text, fair-header, fair, lines, patterns, listed-of, read-listing}
+use Rattle.listing.specs.Read.{Listed, listed, listed-lines, listed-text, fair}
+use Rattle.listing.specs.Read.{lines, patterns, listed-of, read-listing}
 use Rattle.listing.proofs.Cut.{listed-cut}
+use Rattle.listing.proofs.Fair.{is-fair}
 use Rattle.listing.proofs.Grid.{patterns-back, count, line-at, before-end}
 use Rattle.listing.proofs.cells.Reads as cells-contract
 use Rattle.listing.proofs.write_listing.Reads as write-listing-contract
@@ -45,7 +43,8 @@ pub listing-in-place :
     placed-all (written out at) (listing-lines width height updates region table)
     ≡ placed (written out at) (listing width height updates region table)
 unfolding listing
-listing-in-place out at width height updates region table h = texts-in-place out at (listing-lines width height updates region table) h
+listing-in-place out at width height updates region table h =
+    texts-in-place out at (listing-lines width height updates region table) h
 
 -- ---- the cells
 
@@ -66,7 +65,8 @@ module _ (width height : ℕ) (table : List Float) (long : length table ≡ 2 * 
       getD (cell-lines width height 0 0 table) (v * width + u) []
       ≡ cell-line u v (getD table (2 * (v * width + u)) nan) (getD table (2 * (v * width + u) + 1) nan)
   cell-at u v h k =
-      line-at width height (v * width + u) 0 0 u v table (omega arith) h k (omega arith) (omega (arith, before-end width height u v h k))
+      line-at width height (v * width + u) 0 0 u v table (omega arith) h k (omega arith)
+      (omega (arith, before-end width height u v h k))
 
 -- ---- reading back
 
@@ -74,48 +74,44 @@ module _ (width height : ℕ) (table : List Float) (long : length table ≡ 2 * 
 pub listing-is :
     (width height updates : ℕ) (region : Region) (table : List Float) →
     listing width height updates region table ≡ listed-text (listed width height updates region table)
-unfolding listing listing-lines listed-text
+unfolding listing listing-lines listed-lines listed-text
 listing-is width height updates region table = refl
 
--- what of it counts the cells
-whole : (l : Listed) → fair l ≡ true → (2 ≤ l .header .width) × (length (l .cells) ≡ 2 * (l .header .width * l .header .height))
-whole l f =
-    let h = l .header in
-    let x = both-true (fair-header h && fair-edges (l .edges)) _ f in
-    let y = both-true (fair-header h) _ (x .0) in
-    let z = both-true (eqb (length (l .cells)) (2 * (h .width * h .height))) _ (x .1) in
-    let w = both-true (within (h .width)) _ (both-true (sized (h .width) (h .height)) _ (y .0) .0) .0 in
-    (leb-true 2 (h .width) (both-true (leb 2 (h .width)) _ w .0), eqb-true (length (l .cells)) _ (z .0))
-
-listed-back : (l : Listed) → fair l ≡ true → listed-of (lines (listed-text l)) ≡ l
-unfolding listed-of
+-- What the lines of a listing's text tell is what they were written of.
+pub listed-back : (l : Listed) → fair l ≡ true → listed-of (lines (listed-text l)) ≡ l
+unfolding listed-of listed-lines
 listed-back l f =
     let h = l .header in
-    let x = both-true (fair-header h && fair-edges (l .edges)) _ f in
-    let y = both-true (fair-header h) _ (x .0) in
-    let z = both-true (eqb (length (l .cells)) (2 * (h .width * h .height))) _ (x .1) in
-    let n = whole l f in
+    let n = is-fair l f in
     let cells : patterns (cell-texts (h .width) (h .height) 0 0 (l .cells)) ≡ l .cells =
-    patterns-back (h .width) (h .height) 0 0 (l .cells) (omega (arith, n .0)) (omega (arith, n .1)) (z .1) in
-    ap listed-of (listed-cut l) ∙ simp (header-back (h .width) (h .height) (h .updates), edges-back (l .edges) (y .1), cells)
+    patterns-back (h .width) (h .height) 0 0 (l .cells) (omega (arith, n .size .wide)) (omega (arith, n .count))
+    (n .singles) in
+    ap listed-of (listed-cut l)
+    ∙ simp (header-back (h .width) (h .height) (h .updates), edges-back (l .edges) (n .edges), cells)
 
--- From the bytes that are written of what a listing may tell, that comes back: w·h cells row by row, sides of 2 to 4,096, any bit
--- pattern.
+-- From the bytes that are written of what a listing may tell, that comes back: w·h cells row by row, sides of 2 to
+-- 4,096, any bit pattern.
 pub listing-read : (l : Listed) → fair l ≡ true → read-listing (listed-text l) ≡ some l
 unfolding read-listing
-listing-read l f = read-again fair listed-text (listed-of (lines (listed-text l))) (listed-text l) l (listed-back l f) refl f
+listing-read l f =
+    read-again fair listed-text (listed-of (lines (listed-text l))) (listed-text l) l (listed-back l f) refl f
 
 -- And no other bytes are read: what is read of a text may be told, and the text is what is written of it.
 pub only-listing : (text : List ℕ) (l : Listed) → read-listing text ≡ some l → (text ≡ listed-text l) × (fair l ≡ true)
 unfolding read-listing
 only-listing text l e = only-read fair listed-text (listed-of (lines text)) text l e
 
--- So a text that is read has a line for each of its w·h cells behind the first two: one with a cell left out is not read.
-pub read-counted : (text : List ℕ) (l : Listed) → read-listing text ≡ some l → length (lines text) ≡ 2 + l .header .width * l .header .height
+-- So a text that is read has a line for each of its w·h cells behind the first two: one with a cell left out is not
+-- read.
+pub read-counted :
+    (text : List ℕ) (l : Listed) →
+    read-listing text ≡ some l →
+    length (lines text) ≡ 2 + l .header .width * l .header .height
+unfolding listed-lines
 read-counted text l e =
     let o = only-listing text l e in
     let h = l .header in
-    let n = whole l (o .1) in
+    let n = is-fair l (o .1) in
     let c : 2 * length (cell-texts (h .width) (h .height) 0 0 (l .cells)) ≡ length (l .cells) =
-    count (h .width) (h .height) 0 0 (l .cells) (omega (arith, n .0)) (omega (arith, n .1)) in
-    ap (λ (t : List ℕ). length (lines t)) (o .0) ∙ ap length (listed-cut l) ∙ omega (arith, c, n .1)
+    count (h .width) (h .height) 0 0 (l .cells) (omega (arith, n .size .wide)) (omega (arith, n .count)) in
+    ap (λ (t : List ℕ). length (lines t)) (o .0) ∙ ap length (listed-cut l) ∙ omega (arith, c, n .count)

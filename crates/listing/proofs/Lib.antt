@@ -1,5 +1,6 @@
+pub mod Grid
+pub mod Each
 pub mod Rows
 pub mod Cut
-pub mod Grid
 pub mod Fair
 pub mod Laws

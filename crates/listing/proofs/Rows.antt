@@ -1,21 +1,20 @@
 -- The cells one after the other: what the code does in a turn is what the definition says of the rest of the table. Assumes nothing.
 use mathlib.Core.Path.{_≡_, refl, sym, ap, ap₂, _∙_}
 use mathlib.Core.Bool.{Bool, true, false, cond}
-use mathlib.Core.List.{List, [], _∷_, _++_}
-use Prim.Native.Nat.{ℕ, zero, suc, _+_, _≤_, _<_}
-use native.Mathlib.Numerals.{add-one}
+use mathlib.Core.List.{List, [], _∷_}
+use Prim.Native.Nat.{ℕ, _+_, _≤_, _<_}
 use native.Mathlib.Omega.{arith}
 use borrow.Author.Tests.{lt-ltb, le-ltb}
-use lib.Dec.{eqb, ltb}
+use lib.Dec.{eqb}
 use lib.Ieee.{Float, nan}
 use lib.ListN.{length, getD, drop, length-drop}
-use lib.Seq.{drop-cons}
 use Rattle.region.specs.declared.Region.{Region}
 use Rattle.listing_lines.specs.Line.{table-line, region-line, cell-line}
 use Rattle.listing.specs.Listing.{across, down, cell-texts, cell-lines, listing-lines}
 use Rattle.put_text.specs.Placed.{Written, written, placed, placed-all}
 use Rattle.put_text.proofs.Putting.{stopped, went-on}
 use Rattle.listing_lines.proofs.Lines.{table-some, region-some, cell-some}
+use Rattle.listing.proofs.Each.{pair}
 
 -- ---- the next place
 
@@ -33,14 +32,8 @@ down-most width u v = by-end (eqb (u + 1) width) (v + 1) v (v + 1) (omega arith)
 
 -- ---- the table from place i on
 
-two : (table : List Float) (i : ℕ) → i + 1 < length table → drop i table ≡ getD table i nan ∷ getD table (i + 1) nan ∷ drop (i + 2) table
-two table i h =
-    let j : suc i ≡ i + 1 = omega arith in
-    let k : suc (i + 1) ≡ i + 2 = omega arith in
-    drop-cons table i nan (omega arith)
-    ∙ ap (λ (n : ℕ). getD table i nan ∷ drop n table) j
-    ∙ ap (λ (l : List Float). getD table i nan ∷ l) (drop-cons table (i + 1) nan h)
-    ∙ ap (λ (n : ℕ). getD table i nan ∷ getD table (i + 1) nan ∷ drop n table) k
+pub two : (table : List Float) (i : ℕ) → i + 1 < length table → drop i table ≡ getD table i nan ∷ getD table (i + 1) nan ∷ drop (i + 2) table
+two = pair nan
 
 at-most-one : (width height u v : ℕ) (rest : List Float) → length rest ≤ 1 → cell-lines width height u v rest ≡ []
 unfolding cell-texts

@@ -1,7 +1,7 @@
 -- The listing of a table, as bytes (docs/RULES.md, 16). Definitions only.
 use mathlib.Core.Bool.{cond}
-use mathlib.Core.List.{List, [], _∷_, map}
-use Prim.Native.Nat.{ℕ, _+_}
+use mathlib.Core.List.{List, [], _∷_, _++_, map}
+use Prim.Native.Nat.{ℕ, zero, suc, _+_}
 use lib.Dec.{eqb, ltb}
 use lib.Ieee.{Float, binary32, toBits}
 use Rattle.region.specs.declared.Region.{Region}
@@ -28,6 +28,12 @@ cell-texts width height u v (a ∷ b ∷ rest) =
 -- of a table of f32, those of their patterns
 abbrev pub cell-lines : ℕ → ℕ → ℕ → ℕ → List Float → List (List ℕ)
 cell-lines width height u v table = cell-texts width height u v (map (toBits binary32) table)
+
+-- what is told of n cells by their numbers, from cell k on: cell k of a table of w columns is the one in column k mod w
+-- and row k div w
+unfoldable pub each : (ℕ → List (List ℕ)) → ℕ → ℕ → List (List ℕ)
+each tell k zero = []
+each tell k (suc n) = tell k ++ each tell (suc k) n
 
 -- ---- the listing
 

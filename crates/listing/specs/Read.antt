@@ -36,11 +36,15 @@ listed width height updates region table = record {
   cells = map (toBits binary32) table;
 }
 
--- its bytes: the table's line, the region's, the cells' row by row
-unfoldable pub listed-text : Listed → List ℕ
-listed-text l =
+-- its lines: the table's, the region's, the cells' row by row
+unfoldable pub listed-lines : Listed → List (List ℕ)
+listed-lines l =
     let h = l .header in
-    joined (header-text h ∷ edges-text (l .edges) ∷ cell-texts (h .width) (h .height) 0 0 (l .cells))
+    header-text h ∷ edges-text (l .edges) ∷ cell-texts (h .width) (h .height) 0 0 (l .cells)
+
+-- and their bytes
+unfoldable pub listed-text : Listed → List ℕ
+listed-text l = joined (listed-lines l)
 
 -- ---- what it may tell
 

@@ -22,6 +22,8 @@ use Rattle.listing_lines.proofs.region_text.Reads as region-text-contra
 use Rattle.listing_lines.proofs.cell_text.Reads as cell-text-contract
 use Rattle.listing_lines.proofs.difference_line.Reads as difference-line-contract
 use Rattle.listing_lines.proofs.count_line.Reads as count-line-contract
+use Rattle.listing_lines.proofs.filled_line.Reads as filled-line-contract
+use Rattle.listing_lines.proofs.differs_line.Reads as differs-line-contract
 use Rattle.listing_lines.proofs.read_table.Reads as read-table-contract
 use Rattle.listing_lines.proofs.read_region.Reads as read-region-contract
 use Rattle.listing_lines.proofs.read_cell.Reads as read-cell-contract
@@ -53,13 +55,21 @@ cell-line-determined κ a s s' r r' p q = both (p ∙ sym q)
 pub refused-line-determined : DeterminedWith refused-line-contract.Post (λ κ s. now (s .0))
 refused-line-determined κ a s s' r r' p q = both (p ∙ sym q)
 
--- `difference_line`
+-- `difference_line`,
 pub difference-line-determined : DeterminedWith difference-line-contract.Post (λ κ s. now (s .0))
 difference-line-determined κ a s s' r r' p q = both (p ∙ sym q)
 
--- and `count_line`.
+-- `count_line`,
 pub count-line-determined : DeterminedWith count-line-contract.Post (λ κ s. now (s .0))
 count-line-determined κ a s s' r r' p q = both (p ∙ sym q)
+
+-- `filled_line`
+pub filled-line-determined : DeterminedWith filled-line-contract.Post (λ κ s. now (s .0))
+filled-line-determined κ a s s' r r' p q = both (p ∙ sym q)
+
+-- and `differs_line`.
+pub differs-line-determined : DeterminedWith differs-line-contract.Post (λ κ s. now (s .0))
+differs-line-determined κ a s s' r r' p q = both (p ∙ sym q)
 
 -- Any two answers to one call that the contract of `read_table` permits are equal; and so for `read_region` and
 -- `read_cell`.

@@ -5,7 +5,7 @@ use Prim.Native.Nat.{ℕ, _+_}
 use native.Mathlib.Omega.{arith}
 use lib.ListN.{length, length-append}
 use Rattle.decimal.specs.Decimal.{decimal}
-use Rattle.listing_lines.specs.Line.{line, table-line, region-text, cell-text, refused-line}
+use Rattle.listing_lines.specs.Line.{line, table-line, region-text, cell-text, refused-line, filled-line, differs-line}
 use Rattle.listing_lines.proofs.Numbers.{hex-length}
 
 field-more : (word field : List ℕ) (fields : List (List ℕ)) → length (line word (field ∷ fields)) ≡ length word + 1 + length (line field fields)
@@ -31,3 +31,11 @@ region-length l t r b = simp (field-more, field-last, hex-length) refl
 pub cell-length : (u v a b : ℕ) → length (cell-text u v a b) ≡ 25 + length (decimal u) + length (decimal v)
 unfolding cell-text
 cell-length u v a b = simp (field-more, field-last, hex-length) (omega arith)
+
+pub filled-length : (u v : ℕ) → length (filled-line u v) ≡ 9 + length (decimal u) + length (decimal v)
+unfolding filled-line
+filled-length u v = simp (field-more, field-last) (omega arith)
+
+pub differs-length : (u v : ℕ) → length (differs-line u v) ≡ 10 + length (decimal u) + length (decimal v)
+unfolding differs-line
+differs-length u v = simp (field-more, field-last) (omega arith)

@@ -8,3 +8,4 @@ pub mod Passing
 pub mod Fields
 pub mod Guess
 pub mod Laws
+pub mod Others

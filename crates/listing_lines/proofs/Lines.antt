@@ -31,6 +31,16 @@ module _ {z l l' l'' : List ℕ} {n n' n'' : ℕ} {word a : List ℕ} where
   unfolding line
   made1 g h i = on (on (g .front) h) i ∙ append-assoc word (9 ∷ a) (10 ∷ [])
 
+module _ {z l₁ l₂ l₃ l₄ : List ℕ} {n₁ n₂ n₃ n₄ : ℕ} {word a b : List ℕ} where
+  pub made2 :
+      Grown z 0 word l₁ n₁ →
+      Grown l₁ n₁ (9 ∷ a) l₂ n₂ →
+      Grown l₂ n₂ (9 ∷ b) l₃ n₃ →
+      Grown l₃ n₃ (10 ∷ []) l₄ n₄ →
+      take n₄ l₄ ≡ line word (a ∷ b ∷ [])
+  unfolding line
+  made2 g h i j = on (on (on (g .front) h) i) j ∙ simp append-assoc
+
 module _ {z l₁ l₂ l₃ l₄ l₅ : List ℕ} {n₁ n₂ n₃ n₄ n₅ : ℕ} {word a b d : List ℕ} where
   made3 :
       Grown z 0 word l₁ n₁ →

@@ -33,6 +33,13 @@ word-cell = 99 ∷ 101 ∷ 108 ∷ 108 ∷ []
 abbrev pub word-count : List ℕ
 word-count = 99 ∷ 111 ∷ 117 ∷ 110 ∷ 116 ∷ []
 
+-- of a mended listing's report
+abbrev pub word-filled : List ℕ
+word-filled = 102 ∷ 105 ∷ 108 ∷ 108 ∷ 101 ∷ 100 ∷ []
+
+abbrev pub word-differs : List ℕ
+word-differs = 100 ∷ 105 ∷ 102 ∷ 102 ∷ 101 ∷ 114 ∷ 115 ∷ []
+
 abbrev pub word-refused : List ℕ
 word-refused = 114 ∷ 101 ∷ 102 ∷ 117 ∷ 115 ∷ 101 ∷ 100 ∷ []
 
@@ -70,3 +77,10 @@ difference-line u v a b c d = line (decimal u) (decimal v ∷ hex 8 a ∷ hex 8 
 -- how many there are
 unfoldable pub count-line : ℕ → List ℕ
 count-line n = line word-count (decimal n ∷ [])
+
+-- a cell that was missing, and one that isn't as the fresh build has it: their places
+unfoldable pub filled-line : ℕ → ℕ → List ℕ
+filled-line u v = line word-filled (decimal u ∷ decimal v ∷ [])
+
+unfoldable pub differs-line : ℕ → ℕ → List ℕ
+differs-line u v = line word-differs (decimal u ∷ decimal v ∷ [])

@@ -1,14 +1,14 @@
 // The lines of a table's listing, each written into a buffer that the caller lends.
 ghost use mathlib.Core.Path.{_≡_};
-ghost use mathlib.Core.List.{_∷_};
+ghost use mathlib.Core.List.{[], _∷_};
 ghost use Prim.Native.Nat.{_+_, _%_, _^_, _≤_};
 ghost use lib.ListN.{length};
 ghost use Rattle.decimal.specs.Decimal.{decimal};
 ghost use Rattle.decimal.specs.Text.{same};
 ghost use Rattle.lens.specs.Refusal.{number};
 ghost use Rattle.put_text.specs.Placed.{written, placed};
-ghost use Rattle.listing_lines.specs.Line.{hex, table-line, region-text, region-line, cell-text, cell-line};
-ghost use Rattle.listing_lines.specs.Line.{refused-line, difference-line, count-line};
+ghost use Rattle.listing_lines.specs.Line.{hex, line, table-line, region-text, region-line, cell-text, cell-line};
+ghost use Rattle.listing_lines.specs.Line.{refused-line, difference-line, count-line, filled-line, differs-line};
 ghost use Rattle.listing_lines.specs.Numeral.{pushed, left-after, number-after, numeral};
 ghost use Rattle.listing_lines.specs.Read.{read-table, table-told, read-region, region-told, read-cell};
 ghost use Rattle.listing_lines.specs.Read.{cell-told};
@@ -215,6 +215,34 @@ pub fn count_line(out: &mut [u8], at: usize, n: u64) -> usize
     let first = grow_decimal(&mut line, word, n);
     let end = grow(&mut line, first, b"\n");
     put_text::put(out, at, &line[..end])
+}
+
+// A cell's place behind a word,
+fn place_line(out: &mut [u8], at: usize, word: &[u8], u: usize, v: usize) -> usize
+    requires { ⌜ length (now word) ≤ 21 ⌝ }
+    ensures { λ r. ⌜ written (now (out .exit)) r ≡
+        placed (written (now (out .entry)) at) (line (now (word .entry)) (decimal u ∷ decimal v ∷ [])) ⌝ }
+{
+    let mut line = [0u8; LINE];
+    let start = grow(&mut line, 0, word);
+    let column = grow_decimal(&mut line, start, u as u64);
+    let row = grow_decimal(&mut line, column, v as u64);
+    let end = grow(&mut line, row, b"\n");
+    put_text::put(out, at, &line[..end])
+}
+
+// as in the line of a cell that was filled,
+pub fn filled_line(out: &mut [u8], at: usize, u: usize, v: usize) -> usize
+    ensures { λ r. ⌜ written (now (out .exit)) r ≡ placed (written (now (out .entry)) at) (filled-line u v) ⌝ }
+{
+    place_line(out, at, b"filled", u, v)
+}
+
+// and of one that differs from the fresh table.
+pub fn differs_line(out: &mut [u8], at: usize, u: usize, v: usize) -> usize
+    ensures { λ r. ⌜ written (now (out .exit)) r ≡ placed (written (now (out .entry)) at) (differs-line u v) ⌝ }
+{
+    place_line(out, at, b"differs", u, v)
 }
 
 // A number with a digit after it, where there is room.

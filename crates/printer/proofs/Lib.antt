@@ -1,8 +1,10 @@
 pub mod Back
+pub mod Ended
+pub mod Finished
 pub mod Fits
 pub mod Laws
-pub mod Lines
 pub mod Numbers
 pub mod Order
 pub mod Short
+pub mod Ways
 pub mod Whole

@@ -1,7 +1,7 @@
 -- What is printed, by the rows of the refusal table. Assumes nothing.
 use mathlib.Core.Path.{_≡_, refl, sym, ap, _∙_}
 use mathlib.Core.Bool.{Bool, true, false, cond}
-use mathlib.Core.List.{List, [], _∷_, _++_, append-nil}
+use mathlib.Core.List.{List, [], _∷_, _++_}
 use Prim.Native.Nat.{ℕ, _*_, _≤_}
 use native.Mathlib.Omega.{arith}
 use borrow.Author.Tests.{ne-eqb, eqb-true, eqb-false, ltb-false}
@@ -21,9 +21,10 @@ use Rattle.job.specs.declared.Job.{Job}
 use Rattle.job.specs.declared.Started.{Started}
 use Rattle.job.specs.declared.Started.the-variants as begun
 use Rattle.job.proofs.Laws.{fresh-number}
-use Rattle.put_text.specs.Placed.{joined}
 use Rattle.listing_lines.specs.Line.{refused-line}
-use Rattle.printer.specs.Printed.{refusal-lines, most-cells, sized-lines, started, table-lines, file-lines, printed-lines, printed}
+use Rattle.printer.specs.Made.{most-cells, InRoom, unbuilt, build-whole, build-sized, started, build-asked, build-parsed, build}
+use Rattle.printer.specs.Made.{made-in, blank-room, made}
+use Rattle.printer.specs.Printed.{made-text, printed}
 use Rattle.printer.specs.Rows.{asked-rows, printer-rows, built-text, by-rows}
 
 -- ---- rows behind rows
@@ -65,35 +66,37 @@ fresh-numbered camera width height = (omega arith, (omega arith, (omega arith, t
 
 -- ---- a refusal's line
 
-refused-text : (n m : ℕ) (text : List ℕ) → 1 ≤ n → joined (refusal-lines n) ≡ by-rows (else n m) text
-unfolding joined
+refused-text : (n m : ℕ) (text : List ℕ) → 1 ≤ n → refused-line n ≡ by-rows (else n m) text
 refused-text n m text h =
-    append-nil (refused-line n)
-    ∙ sym (ap (λ (b : Bool). cond b text (refused-line n)) (ne-eqb n 0 (λ e. omega (arith, h, e))))
+    sym (ap (λ (b : Bool). cond b text (refused-line n)) (ne-eqb n 0 (λ e. omega (arith, h, e))))
     ∙ ap (λ (k : ℕ). by-rows k text) (sym (else-some n m h))
 
 -- ---- 4, 5, 6
+
+-- what is printed of a build in the room of zeros
+abbrev text-of : InRoom → List ℕ
+text-of b = made-text (made-in b)
 
 module _ (camera : Camera) (width height : ℕ) where
   abbrev text : List ℕ
   text = built-text (Asked camera width height)
 
-  by-cells : (t : Bool) (lines : List (List ℕ)) → joined (cond t (refusal-lines 6) lines) ≡ by-rows (cond t 6 0) (joined lines)
-  unfolding joined
-  by-cells true lines = append-nil (refused-line 6)
-  by-cells false lines = refl
+  by-cells : (t : Bool) (b : InRoom) → text-of (cond t (unbuilt blank-room 6) b) ≡ by-rows (cond t 6 0) (text-of b)
+  by-cells true b = refl
+  by-cells false b = refl
 
   by-start : (b : Started)
-      → joined (started b (sized-lines camera width height)) ≡ by-rows (else (begun-number (told-started b)) (cond (ltb most-cells (width * height)) 6 0)) text
-  unfolding sized-lines
+      → text-of (started blank-room b (build-sized blank-room camera width height))
+      ≡ by-rows (else (begun-number (told-started b)) (cond (ltb most-cells (width * height)) 6 0)) text
+  unfolding build-sized
   by-start (begun.Refused r) = refused-text (number r) _ text (number-within r .0)
-  by-start (begun.With job) = by-cells (ltb most-cells (width * height)) _
+  by-start (begun.With job) = by-cells (ltb most-cells (width * height)) (build-whole blank-room camera width height)
 
   asked-first : first (asked-rows (Asked camera width height)) ≡ else (first (fresh-rows camera width height)) (cond (ltb most-cells (width * height)) 6 0)
   asked-first = behind (fresh-rows camera width height) ((6 when ltb most-cells (width * height)) ∷ []) (fresh-numbered camera width height)
 
-  asked-order : joined (table-lines camera width height) ≡ by-rows (first (asked-rows (Asked camera width height))) text
-  unfolding table-lines
+  asked-order : text-of (build-asked blank-room camera width height) ≡ by-rows (first (asked-rows (Asked camera width height))) text
+  unfolding build-asked
   asked-order =
       by-start (fresh camera width height false)
       ∙ ap (λ (n : ℕ). by-rows (else n (cond (ltb most-cells (width * height)) 6 0)) text) (fresh-number camera width height false)
@@ -102,7 +105,7 @@ module _ (camera : Camera) (width height : ℕ) where
 -- ---- 14, 1, 3 before them
 
 module _ (input : List ℕ) where
-  by-file : (p : Parsed) → joined (file-lines p) ≡ by-rows (else (told-file p .number) (first (asked-rows p))) (built-text p)
+  by-file : (p : Parsed) → text-of (build-parsed blank-room p) ≡ by-rows (else (told-file p .number) (first (asked-rows p))) (built-text p)
   by-file (Refused r) = refused-text (number r) 0 [] (number-within r .0)
   by-file (Asked camera width height) = asked-order camera width height
 
@@ -110,7 +113,7 @@ module _ (input : List ℕ) where
   all-first = behind (file-rows input) (asked-rows (parsed input)) (file-numbered input)
 
   pub order : printed input ≡ by-rows (first (printer-rows input)) (built-text (parsed input))
-  unfolding printed printed-lines
+  unfolding printed made build
   order =
       by-file (parsed input)
       ∙ ap (λ (n : ℕ). by-rows (else n (first (asked-rows (parsed input)))) (built-text (parsed input))) (file-number input)

@@ -1,18 +1,17 @@
 -- How long the lines of a listing are. Assumes nothing.
 use mathlib.Core.Path.{_≡_, refl}
 use mathlib.Core.Bool.{Bool, true, false, cond}
-use mathlib.Core.List.{List, [], _∷_, _++_}
-use Prim.Native.Nat.{ℕ, zero, suc, _+_, _*_, _/_, _^_, _≤_, _<_}
-use native.Mathlib.Nat.{pow-suc, div-lt-iff-lt-mul}
+use mathlib.Core.List.{List, [], _∷_}
+use Prim.Native.Nat.{ℕ, suc, _+_, _*_, _^_, _≤_, _<_}
 use native.Mathlib.Omega.{arith}
-use borrow.Author.Tests.{lt-ltb, ltb-true, eqb-false}
+use borrow.Author.Tests.{ltb-true, eqb-false}
 use lib.Dec.{eqb, ltb}
 use lib.Ieee.{Float, binary32, toBits}
 use lib.ListN.{length, length-append}
 use Rattle.region.specs.declared.Region.{Region}
 use Rattle.decimal.proofs.Digits.{decimal-short}
 use Rattle.put_text.specs.Placed.{joined}
-use Rattle.listing_lines.specs.Line.{line, table-line, region-text, region-line, cell-text, cell-line, refused-line}
+use Rattle.listing_lines.specs.Line.{table-line, region-line, cell-line, refused-line}
 use Rattle.listing.specs.Listing.{across, down, cell-texts, cell-lines}
 use Rattle.listing_lines.proofs.Length.{table-length, region-length, cell-length, refused-length}
 

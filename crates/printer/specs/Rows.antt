@@ -4,16 +4,15 @@ use mathlib.Core.Bool.{cond}
 use mathlib.Core.List.{List, [], _∷_, _++_}
 use Prim.Native.Nat.{ℕ, _*_}
 use lib.Dec.{eqb, ltb}
-use Rattle.lens.specs.Rows.{Row, _when_, first}
+use Rattle.lens.specs.Rows.{Row, _when_}
 use Rattle.camera_file.specs.Asked.{parsed}
 use Rattle.camera_file.specs.Rows.{file-rows}
 use Rattle.camera_file.specs.declared.Parsed.{Parsed}
 use Rattle.camera_file.specs.declared.Parsed.the-variants.{Asked, Refused}
 use Rattle.job.specs.Rows.{fresh-rows}
-use Rattle.distortion_table.specs.Answer.{whole-table}
-use Rattle.put_text.specs.Placed.{joined}
 use Rattle.listing_lines.specs.Line.{refused-line}
-use Rattle.printer.specs.Printed.{shown, most-cells, blank}
+use Rattle.printer.specs.Made.{most-cells, build-whole, made-in, blank-room}
+use Rattle.printer.specs.Printed.{made-text}
 
 -- 4, 5 and 6 for its sides, of the camera and the size that a file asks for, and 6 for more cells than are printed
 abbrev pub asked-rows : Parsed → List Row
@@ -27,7 +26,7 @@ printer-rows input = file-rows input ++ asked-rows (parsed input)
 
 -- what the build of the table asked for says: its listing, or the line with the number of the unit that refused
 abbrev pub built-text : Parsed → List ℕ
-built-text (Asked camera width height) = joined (shown (whole-table camera width height (blank (width * height))))
+built-text (Asked camera width height) = made-text (made-in (build-whole blank-room camera width height))
 built-text (Refused refusal) = []
 
 -- the line with the number of the first row that holds; where none does, what the build says

@@ -5,9 +5,9 @@ use Prim.Native.Nat.{ℕ, _+_, _≤_, _<_}
 use denote.Ref.{now}
 use lib.ListN.{length, take, drop}
 use Rattle.exact.specs.Determined.{DeterminedWith}
-use Rattle.put_text.specs.Placed.{Written, written, placed, placed-all, joined}
+use Rattle.put_text.specs.Placed.{Written, written, with-text, placed, placed-all, each-placed, joined}
 use Rattle.put_text.proofs.Putting.{not-placed, is-placed}
-use Rattle.put_text.proofs.Whole.{front-is, back-is, all-placed}
+use Rattle.put_text.proofs.Whole.{front-is, back-is, each-put, all-placed}
 use Rattle.put_text.proofs.put.Reads as put-contract
 
 -- Two buffers and places that are written alike are alike, each by itself.
@@ -43,3 +43,10 @@ pub texts-in-place :
     at + length (joined texts) ≤ length out →
     placed-all (written out at) texts ≡ placed (written out at) (joined texts)
 texts-in-place = all-placed
+
+-- The same where a text that does not fit would be left out: where all fit, they stand there as one.
+pub each-in-place :
+    (out : List ℕ) (at : ℕ) (texts : List (List ℕ)) →
+    at + length (joined texts) ≤ length out →
+    each-placed (written out at) texts ≡ with-text (written out at) (joined texts)
+each-in-place = each-put

@@ -30,6 +30,11 @@ unfoldable pub placed-all : Written → List (List ℕ) → Written
 placed-all w [] = w
 placed-all w (text ∷ texts) = cond (room w text) (placed-all (placed w text) texts) w
 
+-- and each that fits
+unfoldable pub each-placed : Written → List (List ℕ) → Written
+each-placed w [] = w
+each-placed w (text ∷ texts) = each-placed (placed w text) texts
+
 -- texts one after the other
 unfoldable pub joined : List (List ℕ) → List ℕ
 joined [] = []

@@ -2,39 +2,15 @@
 // that are nearly listings. The gate runs this on the file stdin, and holds what it writes to the file stdout;
 // tools/make_compare_inputs.py makes both.
 //
-// A case is three parts: the line to write above its answer, the old text, the new one. A part is four bytes that tell
-// its length, the least first, and so many bytes.
+// A case is three parts: the line to write above its answer, the old text, the new one. What a part is
+// stands in crates/parts.
 use compare::Judging;
 use compare::LINE;
 use lens::Judgement;
-use libc::STDIN_FILENO;
 use libc::STDOUT_FILENO;
-ghost use Rattle.io.specs.Counts.{Counts};
 
 // The longest part.
 const PART: usize = 300000;
-
-fn length_of(first: u8, second: u8, third: u8, fourth: u8) -> usize {
-    let low = first as usize + 256 * (second as usize);
-    let high = third as usize + 256 * (fourth as usize);
-    low + 65536 * high
-}
-
-// Reads the next part, and answers how many bytes it has: none where the input ends, or where it tells of more than
-// there is room for.
-fn read_part(part: &mut [u8]) -> usize
-    ensures { λ r. ⌜ Counts r (now (part .exit)) ⌝ }
-{
-    let mut length = [0u8; 4];
-    if io::read_full(STDIN_FILENO, &mut length) < 4 {
-        return 0;
-    }
-    let n = length_of(length[0], length[1], length[2], length[3]);
-    if part.len() < n {
-        return 0;
-    }
-    io::read_full(STDIN_FILENO, &mut part[..n])
-}
 
 // How many bytes the first line of a text from `from` on has.
 fn line_at(text: &[u8], from: usize) -> usize {
@@ -85,9 +61,8 @@ fn told(old: &[u8], new: &[u8], count: u64) -> u64 {
 
 // Writes the first n bytes of a buffer.
 fn write(out: &[u8], n: usize) {
-    if n <= out.len() {
-        io::write_all(STDOUT_FILENO, &out[..n]);
-    }
+    let k = parts::held(n, out);
+    io::write_all(STDOUT_FILENO, &out[..k]);
 }
 
 // The same of the lines of k and l bytes that begin at from and start.
@@ -165,13 +140,13 @@ fn answer_next() -> bool {
     let mut words = [0u8; 4096];
     let mut old = [0u8; PART];
     let mut new = [0u8; PART];
-    let n = read_part(&mut words);
+    let n = parts::read_part(&mut words);
     if n == 0 {
         return false;
     }
     io::write_all(STDOUT_FILENO, &words[..n]);
-    let k = read_part(&mut old);
-    let l = read_part(&mut new);
+    let k = parts::read_part(&mut old);
+    let l = parts::read_part(&mut new);
     print(&old[..k], &new[..l]);
     true
 }

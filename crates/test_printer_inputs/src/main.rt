@@ -2,44 +2,22 @@
 // form, and a table of each model. The gate runs this on the file stdin, and holds what it writes to the file stdout;
 // tools/make_printer_inputs.py makes both.
 //
-// A case is two parts: the line to write above its answer, and the input. A part is two bytes that tell its length, the
-// lower first, and so many bytes.
-use libc::STDIN_FILENO;
+// A case is two parts: the line to write above its answer, and the input. What a part is stands in
+// crates/parts.
 use libc::STDOUT_FILENO;
-ghost use Rattle.io.specs.Counts.{Counts};
 
 // The longest part: one byte more than a camera file may have.
 const PART: usize = 4097;
 
-fn length_of(lower: u8, upper: u8) -> usize {
-    lower as usize + 256 * (upper as usize)
-}
-
-// Reads the next part, and answers how many bytes it has: none where the input ends, or where it tells of more than
-// there is room for.
-fn read_part(part: &mut [u8]) -> usize
-    ensures { λ r. ⌜ Counts r (now (part .exit)) ⌝ }
-{
-    let mut length = [0u8; 2];
-    if io::read_full(STDIN_FILENO, &mut length) < 2 {
-        return 0;
-    }
-    let n = length_of(length[0], length[1]);
-    if part.len() < n {
-        return 0;
-    }
-    io::read_full(STDIN_FILENO, &mut part[..n])
-}
-
 // Writes a case's line, and then what is printed for its input. Answers false where there is no case left.
 fn answer_next() -> bool {
     let mut part = [0u8; PART];
-    let words = read_part(&mut part);
+    let words = parts::read_part(&mut part);
     if words == 0 {
         return false;
     }
     io::write_all(STDOUT_FILENO, &part[..words]);
-    let input = read_part(&mut part);
+    let input = parts::read_part(&mut part);
     let mut output = [0u8; printer::OUTPUT];
     let printed = printer::print(&part[..input], &mut output);
     io::write_all(STDOUT_FILENO, &output[..printed]);

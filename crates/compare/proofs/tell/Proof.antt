@@ -1,6 +1,6 @@
 -- `compare::tell` meets its contract. Assumes nothing.
 use borrow.Author.Needs.{needs}
-use Rattle.compare.specs.Told.{each-placed}
+use Rattle.put_text.specs.Placed.{each-placed}
 use Rattle.compare.proofs.Telling.{two-placed}
 use Rattle.compare.proofs.tell.Statement.{statement}
 use Rattle.compare.proofs.tell.Tie as tie

@@ -1,7 +1,9 @@
 -- `printer::fill` meets its contract. Assumes nothing.
 use mathlib.Core.Path.{_≡_, sym, ap, _∙_}
+use mathlib.Core.List.{List, _++_}
 use native.Mathlib.Omega.{arith}
-use lib.ListN.{length, drop, length-append, length-drop}
+use lib.Ieee.{Float}
+use lib.ListN.{length, drop}
 use lib.Seq.{length-take-le, take-at}
 use Rattle.distortion_table.specs.Answer.{told-turned}
 use borrow.Author.Needs.{needs}
@@ -17,9 +19,11 @@ returns : tie.Need-returns
 returns c =
     let a = c .before .before .before .before .before .args in
     let ys = c .before .before .distort-table .last .1 .1 .1 .0 in
-    let long : length ys ≡ a .n = omega (arith, length-take-le (a .n) (a .room .now) (c .before .before .before .before .before .pre)) in (
-      ap (told-turned (c .before .before .distort-table .result)) (take-at ys (drop (a .n) (a .room .now)) (a .n) long) ∙ c .before .before .distort-table .ensures,
-      length-append ys (drop (a .n) (a .room .now)) ∙ omega (arith, long, length-drop (a .n) (a .room .now), c .before .before .before .before .before .pre),
+    let rest = drop (a .n) (a .room .now) in
+    let long : length ys ≡ a .n = omega (arith, length-take-le (a .n) (a .room .now) (c .before .before .before .before .before .pre)) in
+    let front = take-at ys rest (a .n) long in (
+      ap (told-turned (c .before .before .distort-table .result)) front ∙ c .before .before .distort-table .ensures,
+      ap (λ (l : List Float). l ++ rest) (sym front),
     )
 
 pub fill-spec : {M : Type 1} → statement M

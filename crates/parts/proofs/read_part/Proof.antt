@@ -1,4 +1,4 @@
--- `test_compare_listings::read_part` meets its contract. Assumes nothing.
+-- `parts::read_part` meets its contract. Assumes nothing.
 use mathlib.Core.Path.{sym}
 use mathlib.Core.List.{_++_}
 use Prim.Native.Nat.{_≤_}
@@ -6,8 +6,8 @@ use native.Mathlib.Omega.{arith}
 use lib.ListN.{length, drop, length-append}
 use lib.Seq.{length-take-le}
 use borrow.Author.Needs.{needs}
-use Rattle.test_compare_listings.proofs.read_part.Statement.{statement}
-use Rattle.test_compare_listings.proofs.read_part.Tie as tie
+use Rattle.parts.proofs.read_part.Statement.{statement}
+use Rattle.parts.proofs.read_part.Tie as tie
 
 slice-aggregate-read-full-2 : tie.Need-slice-aggregate-read-full-2
 slice-aggregate-read-full-2 c =
