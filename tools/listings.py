@@ -1,7 +1,9 @@
-"""A table's listing as text, and what comparing two listings prints, in another language than ours.
+"""A table's listing as text, what comparing two listings prints, and what mending a damaged one prints, in another
+language than ours.
 
-From docs/RULES.md 16 (the text) and request P1 (the comparing). No code of the crates takes part. A listing is held
-as whole numbers: bit patterns of f64s for the region, of f32s for the cells, and any pattern may stand there, NaNs too.
+From docs/RULES.md 16 (the text) and requests P1 (the comparing) and P12 (the mending). No code of the crates takes
+part. A listing is held as whole numbers: bit patterns of f64s for the region, of f32s for the cells, and any pattern
+may stand there, NaNs too.
 """
 import io
 import re
@@ -90,7 +92,10 @@ class Reader:
                 if not found:
                     self.bad(f"isn't cell {u} {v} with two patterns of 8 lower-case digits, parted by tabs")
                 yield int(found[1], 16), int(found[2], 16)
-        if self.line():
+        line = self.line()
+        if line.startswith((b"filled\t", b"differs\t")):
+            self.bad("mend-listing's report, which is no part of a listing: grep -Ev '^(filled|differs)' drops it")
+        if line:
             self.bad("there is more after the last cell")
 
 
@@ -124,3 +129,41 @@ def compared(old, new):
 def status(printed):
     """What the command ends with: 0 equal, 1 different, 2 refused, as diff has it."""
     return 2 if printed.startswith(b"refused\t") else int(printed != b"count\t0\n")
+
+
+# ---- mending
+
+# A line that may be kept, without its newline. A table has at most 4,096 columns and rows: no more than four digits.
+CELL = re.compile(rb"cell\t(0|[1-9][0-9]{0,3})\t(0|[1-9][0-9]{0,3})\t[0-9a-f]{8}\t[0-9a-f]{8}")
+
+
+def kept(w, h, damaged):
+    """The lines that a text gives of a table's cells, by their places: of each cell the first. What stands behind the
+    last newline is no line."""
+    found = {}
+    for line in damaged.split(b"\n")[:-1]:
+        cell = CELL.fullmatch(line)
+        if cell and int(cell[1]) < w and int(cell[2]) < h:
+            found.setdefault((int(cell[1]), int(cell[2])), line + b"\n")
+    return found
+
+
+def mended(fresh, damaged):
+    """All that is printed for a camera file and a damaged listing, from what the printer prints for that file."""
+    table = read(fresh)
+    if table is None:
+        return fresh
+    (w, h), *header, pairs = table
+    built = {(i % w, i // w): cell_line(i % w, i // w, *pair) for i, pair in enumerate(pairs)}
+    given = kept(w, h, damaged)
+    lines = header + [given.get(place, line) for place, line in built.items()]
+    lines += [b"filled\t%d\t%d\n" % place for place in built if place not in given]
+    lines += [b"differs\t%d\t%d\n" % place for place, line in built.items() if given.get(place, line) != line]
+    return b"".join(lines)
+
+
+def mended_status(printed):
+    """What the command ends with: 0 nothing to tell, 1 cells were filled or differ, 2 refused."""
+    if printed.startswith(b"refused\t"):
+        return 2
+    return int(not printed.splitlines()[-1].startswith(b"cell\t"))

@@ -1,0 +1,15 @@
+pub mod Map
+pub mod Feeding
+pub mod Keeping
+pub mod Passing
+pub mod Telling
+pub mod Fits
+pub mod Whole
+pub mod Same
+pub mod Asked
+pub mod Given
+pub mod Numbered
+pub mod Again
+pub mod ReadBack
+pub mod Texts
+pub mod Laws
