@@ -1,5 +1,5 @@
 -- The operations of brown_conrady.rs by its local names: each product, sum, difference and quotient rounds once, in
--- the Rust's order. Numbers in comments are lines of that file. Definitions only.
+-- the Rust's order. Numbers in comments are lines of that file; `past` is ours. Definitions only.
 use mathlib.Core.Bool.{Bool, true, false, cond, not, _&&_}
 use mathlib.Core.List.{[], _∷_}
 use Prim.Native.Nat.{ℕ, _+_}

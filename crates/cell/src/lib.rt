@@ -35,8 +35,8 @@ fn both_finite32(a: f32, b: f32) -> bool
     sum == sum
 }
 
-// Why a pixel is in no cell: 11 if it isn't finite, and else what its kind of cell says. Neither kind holds a pixel that
-// isn't finite, so that only a refusal asks for that.
+// Why a pixel is in no cell: 11 if it isn't finite, and else what its kind of cell says. Neither kind holds a pixel
+// that isn't finite, so that only a refusal asks for that.
 fn refusal_of(pixel: Pixel, kind: Refusal) -> Refusal
     ensures { λ r. ⌜ r ≡ cond (finite (pixel .0) && finite (pixel .1)) kind Refusal.AnswerNotFinite ⌝ }
 {

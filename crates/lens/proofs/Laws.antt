@@ -32,6 +32,7 @@ use Rattle.lens.proofs.direct.Reads as direct-contract
 use Rattle.lens.proofs.two_rows.Reads as two-rows-contract
 use Rattle.lens.proofs.two_columns.Reads as two-columns-contract
 use Rattle.lens.proofs.squared_radius.Reads as squared-radius-contract
+use Rattle.lens.proofs.marks.Reads as marks-contract
 use Rattle.lens.proofs.all_finite.Reads as all-finite-contract
 use Rattle.lens.proofs.both_finite.Reads as both-finite-contract
 use Rattle.lens.proofs.finite_pixel.Reads as finite-pixel-contract
@@ -151,7 +152,7 @@ module _ (top bottom : List Float) where
 
 -- ---- each contract permits one answer
 
--- Any two answers to one call that the contract of `finite_pixel` permits are equal; and so for the eight other functions.
+-- Any two answers to one call that the contract of `finite_pixel` permits are equal; and so for the nine other functions.
 pub finite-pixel-determined : Determined finite-pixel-contract.Post
 finite-pixel-determined κ a s s' r r' p q = told-pixel-one-to-one r r' (p ∙ sym q)
 
@@ -172,6 +173,9 @@ two-columns-determined κ a s s' r r' p q = p ∙ sym q
 
 pub squared-radius-determined : Determined squared-radius-contract.Post
 squared-radius-determined κ a s s' r r' p q = p ∙ sym q
+
+pub marks-determined : Determined marks-contract.Post
+marks-determined κ a s s' r r' p q = p ∙ sym q
 
 pub all-finite-determined : Determined all-finite-contract.Post
 all-finite-determined κ a s s' r r' p q = p ∙ sym q

@@ -157,8 +157,9 @@ fn placed(top: &[f64], bottom: &[f64], i: usize) -> f64
     if j < bottom.len() { bottom[j] } else { 0.0 }
 }
 
-// The Jacobian of two rows, of any number of columns: one function for every model's. Each place is written from the
-// rows, so that no model spells the zeros out. What does not fit the record is cut off; no model has such rows.
+// The Jacobian of two rows, of any number of columns: each place is written from the rows. The models store theirs one
+// by one, which costs less; that of a refused call, of no columns, comes from here. What does not fit the record is cut
+// off.
 pub fn two_rows(top: &[f64], bottom: &[f64]) -> Jacobian
     ensures { λ r. ⌜ r ≡ twoRows (now (top .entry)) (now (bottom .entry)) ⌝ }
 {

@@ -25,7 +25,8 @@ pub struct Region {
 // How far apart two cells' points are, across and down.
 pub struct Increments(pub f64, pub f64);
 
-// A count as an f64. One that a table has is cast: rounding two halves, as a larger one needs, costs three times as much.
+// A count as an f64. One that a table has is cast: rounding two halves, as a larger one needs, costs three times as
+// much.
 pub fn float(n: usize) -> f64
     ensures { λ r. ⌜ r ≡ float n ⌝ }
 {
