@@ -6,7 +6,7 @@ How it is reckoned. machine_code.py reads the archive as it is linked: each func
 recursion and no indirect call, which it checks. So the most is the longest path: each instruction counts 1, a call counts 1 and what
 the function called takes at most, and a loop counts as often as it can be passed. That last is what a person says, in LOOPS below, from
 what is proved of the source. A loop that isn't in LOOPS is an error, and so is a line of LOOPS that fits no loop. A path that no input
-takes counts too: the figures are bounds and not the worst input's.
+takes counts too, but for counts above 4,096 in a cell: the figures are bounds and not the worst input's.
 
 A unit's part of a turn. The loops over samples and cells have no number of passes: they have a price. A pass of the loop at its longest
 is what a sample costs, S, or a cell, C. Then each call that makes a sample is counted S less, and each that makes a cell C less: no pass
@@ -28,8 +28,8 @@ The stack. What a function pushes and reserves at its deepest, the 8 bytes of it
 as far as it is touched, and at each call what the function called takes at most. An alignment counts as the most it can skip. What the
 caller of a C function passes on the stack isn't in it.
 
-memcpy and memset are the functions from outside, called by the turns and by the derivatives. Their own instructions and
-stack are not in the figures; how often they can be called is said."""
+memcpy is the one function from outside, called by the turns and by what begins a job. Its own instructions and stack are not in the
+figures; how often it can be called is said."""
 import re, sys
 from dataclasses import dataclass
 from functools import lru_cache
@@ -37,7 +37,7 @@ from functools import lru_cache
 from machine_code import call_of, fail, order, read
 from models import MODELS
 
-OUTSIDE = {"memcpy", "memset"}
+OUTSIDE = {"memcpy"}
 
 
 @dataclass
@@ -46,7 +46,8 @@ class Limit:
     passed at most `passes` times at each entry. `first`: its head tests before a pass, so that the head is run once more, to leave. With
     a `unit` it has a price and no number: each call of `by`, or without one each pass, is one unit. `many`: a loop of a function that
     was inlined at many places; `function` is then a list, and each of them has one or more. `never`: the C functions that don't come to
-    it, whatever they are handed."""
+    it, whatever they are handed. `shut`: what an instruction is like of each block that no pass comes to, and the comparison that stands right
+    before each jump to such a block: it is come to only where the number that is compared is above."""
     function: object
     has: list
     why: str
@@ -57,6 +58,7 @@ class Limit:
     lacks: list = ()
     many: bool = False
     never: list = ()
+    shut: tuple = ()
 
     def places(self):
         return self.function if self.many else [self.function]
@@ -67,6 +69,10 @@ class Limit:
         return all(map(met, self.has)) and not any(map(met, self.lacks))
 
 
+# region::float of a count above 4,096 is two halves, rounded. A cell's column and row are below its table's width and height, which are at
+# most that, or the record is refused (job::admitted, region::sized).
+COUNTED = (r"pshufd \$0x44,", r"cmp \$0x1000,")
+
 # Each loop, how often it can be passed, and why. `has` holds the limit as it stands in the instructions where there is one, so that
 # another limit, or another loop in its place, is noticed.
 LOOPS = [
@@ -76,17 +82,13 @@ LOOPS = [
           why="brown_conrady::newton and thin_prism::newton, LIMIT = 50 (specs: newton, limit); a pass that ends it early makes no update"),
     Limit("distortion_table::up_to_cells", [r"cmp \$0x32,", r"divpd|divsd"], passes=50,
           why="short_brown_conrady::newton, brown_conrady's LIMIT = 50 (specs: newton, limit); a pass that ends it early makes no update"),
-    Limit(["camera::finite_parameters"], [r"cmp \$0xb,"], lacks=["call"], many=True, passes=12,
-          why="lens::all_finite of bc's twelve, and of the same in bc12; the places are counted from 0, and 11 is the last"),
     Limit("camera_bytes::read", [r"cmp \$0x10,"], lacks=["call"], passes=16,
           why="camera_bytes::numbers: as many as any model has, MOST = 16; 16 ends it"),
-    Limit(["lens_dx_distort_params"], [r"cmp \$0x21,", r"movsd"], lacks=["call"], many=True, passes=16,
-          why="lens::two_rows: 32 numbers, two a pass, the place counted from 1; 33 ends it"),
     Limit("distortion_table::up_to_cells", [r"call camera::undistort_judged"], unit="sample",
           why="sweep::units: a pass for each sample that is begun"),
-    Limit("lens_turn", [r"call engine::distort"], unit="cell", by="engine::distort",
-          why="distortion_table's fill: one call for each cell that is begun"),
-    Limit("lens_turn16", [r"call engine::distort"], unit="cell", by="engine::distort",
+    Limit("lens_turn", [r"call engine::distort"], unit="cell", by="engine::distort", shut=COUNTED,
+          why="distortion_table's fill: one call for each cell that is begun; no column or row is above 4,096"),
+    Limit("lens_turn16", [r"call engine::distort"], unit="cell", by="engine::distort", shut=COUNTED,
           why="the same, of sixteen bits"),
     Limit("lens_observe", [r"call camera::undistort_judged"], unit="observation",
           why="observation_bytes: a pass for each record, tested behind the pass, which is skipped for a list of none"),
@@ -94,7 +96,7 @@ LOOPS = [
 
 # little_endian's `last` has a loop that the compiler makes two of, four bytes a pass and one. Fewer than eight bytes are left there. Every C
 # function but lens_lookup has tested all lengths before it reads a number.
-PARTS = ["region_bytes::box_at", "camera_bytes::read", "lens_observe"]
+PARTS = ["lens_lookup", "camera_bytes::read", "lens_observe"]
 TESTED = ["lens_distort", "lens_undistort", "lens_dx_distort_x", "lens_dx_distort_params", "lens_job_new", "lens_turn", "lens_turn16", "lens_observe"]
 LOOPS += [
     Limit(PARTS, [r"shl \$0x10,", "movzbl"], many=True, passes=1, never=TESTED,
@@ -131,6 +133,7 @@ def every_loop(loops):
 class Bounds:
     def __init__(self, archive, engine=None):
         self.functions = read(archive)
+        self.closed = {}  # the blocks that no call comes to, by function
         self.name_loops()
         self.check_calls()
         self.shut = self.find_engines(engine)
@@ -157,9 +160,26 @@ class Bounds:
                 found.append(loop.entry)
                 if loop.entry.first and loop.body.issuperset(function.blocks[loop.head].after):
                     fail(f"{function.name}+{loop.head:x}: LOOPS says that its head tests, but it doesn't leave there")
+                if loop.entry.shut:
+                    self.closed.setdefault(function.name, set()).update(self.shut_blocks(function, own, *loop.entry.shut))
             for limit in limits:
                 if limit not in found:
                     fail(f"LOOPS: no loop of {function.name} fits {limit.has} any more: {limit.why}")
+
+    def shut_blocks(self, function, own, has, behind):
+        """The blocks among `own` with an instruction like `has`. Each jump to one must be taken where a number is above that of `behind`."""
+        def like(pattern, line):
+            return re.search(pattern, re.sub(r"\s+", " ", line.text()))
+
+        found = {at for at in own if any(like(has, line) for line in function.blocks[at].lines)}
+        if not found:
+            fail(f"LOOPS: no block of the loop in {function.name} has an instruction like {has!r} any more")
+        for block in function.blocks.values():
+            for at in found.intersection(block.after):
+                way = {"ja": 0, "jbe": 1}.get(block.lines[-1].op)
+                if way is None or len(block.lines) < 2 or not like(behind, block.lines[-2]) or block.after[way] != at or block.after[1 - way] == at:
+                    fail(f"{function.name}+{block.lines[-1].at:x}: leads to {at:x}, which LOOPS says no pass comes to, and not behind {behind!r}")
+        return found
 
     def check_calls(self):
         done, way = set(), []
@@ -237,6 +257,9 @@ class Bounds:
 
     def ways(self, function, at, model):
         block = function.blocks[at]
+        closed = self.closed.get(function.name)
+        if closed and closed.intersection(block.after):
+            return [way for way in block.after if way not in closed]
         if model is not None and block.table and function.name in MODEL_TABLES:
             return [block.after[model]]
         if model is not None and function.name in self.shut:
@@ -486,7 +509,7 @@ def print_all(bounds):
             print(f"    each {unit}: {[one[1][unit] for one in each]}")
         own, units = zip(*(bounds.copies(name, model) for model in range(len(MODELS))))
         if any(own) or any(map(any, (one.values() for one in units))):
-            print(f"    calls of memcpy and memset at most: {list(own)}, {units[0]}")
+            print(f"    calls of memcpy at most: {list(own)}, {units[0]}")
     print("stack at most")
     for name in FUNCTIONS:
         most, along = bounds.stack(name)

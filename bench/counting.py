@@ -21,5 +21,5 @@ def each(n, *words):
 
 def machine():
     """The machine and the compiler of the Rust's text, which both decide what is counted."""
-    compiler = [os.path.join(os.path.dirname(counter), "cross-rust"), "--version"]
+    compiler = [f"{os.environ['SHARED']}/tools/cross-rust", "--version"]
     return f"{platform.machine()}, {subprocess.run(compiler, capture_output=True, text=True).stdout.strip()}"

@@ -40,13 +40,27 @@ The loops that the compiler has left in the archive. It has laid out the others 
 EACH = """
 ## Each C function at most
 
-Reckoned in the same way, in instructions, for every input; `lens_lookup` and the functions of one number have no model. A function from outside can only be memcpy or memset, whose own instructions and stack are not in it; how often they can be called stands beside.
+Reckoned in the same way, in instructions, for every input; `lens_lookup` and the functions of one number have no model. The only function from outside is memcpy, whose own instructions and stack are not in it; how often it can be called stands beside.
 
 The stack is in bytes, over all paths, with the 8 of the return address and without what the caller passes on the stack. *Met* is what a call took on a stack that was painted before, of one camera a model (bench/stack.c).
 
-| | MODELS | calls of memcpy and memset | stack, met | stack, at most |
+| | MODELS | calls of memcpy | stack, met | stack, at most |
 |LINES---|---|---|---|
 """.replace("MODELS", " | ".join(MODELS)).replace("LINES", "---|" * len(MODELS))
+ASKED = """
+## What is ours alone: asked, before and now
+
+In instructions. Promises are as they were; *before* is what this page had before the work on them, on 2026-11-16. Narrow is counted by tools/count-leaves, with a call, a return and the way back to an f64: its 17 are the 14 that were asked, and these three.
+
+| | asked, at most | before | now |
+|---|---|---|---|
+"""
+TRIED = """
+Where it isn't reached, and what was tried (counted without proofs):
+
+- *affine distort*: asking for affine before the other models gives 48. What is left is the call of `camera::distort` itself: a function that isn't inlined is handed a copy of the camera, 136 bytes.
+- *a turn's own*: at most 560 are for reading a record, its check word and judging it, which takes 199; 199 for judging it again, since `distortion_table::turn` takes any record; 199 for writing it. Judging once was tried when a turn's own was 1,792: 1,336, with a stack of 3,208 bytes for 2,952. Handing back status and progress alone gained nothing.
+"""
 BC = MODELS.index("bc")
 # Counted through C and not in the bounds: the caller's loop, and a memcpy of at most 256 bytes.
 CALLER, COPY = 40, 40
@@ -154,6 +168,28 @@ def through_c(bounds, text):
         hold(f"{name} of {model}, with its caller", int(counted), bounds.instructions(name, at)[0] + allowed)
 
 
+def asked(text):
+    """The goals for what is ours alone, from the page's own rows."""
+    def row(title):
+        found = re.search(rf"^\| {title} \|(.*)\|$", text, re.M)
+        return [float(word) if word.strip() else None for word in found.group(1).split("|")]
+
+    ours, camera = 1, 4
+    turns = [row(rf"{model} \| \w+") for model in MODELS]
+    own = sorted(turn[4] for turn in turns)
+    distort = row("affine distort")
+    yield "affine distort: the camera, above the model", "40", "122", f"{distort[camera] - distort[ours]:.0f}"
+    yield "eucm dx_distort_params, the model", "480", "504", f"{row('eucm dx_distort_params')[ours]:.0f}"
+    yield "kb dx_distort_params, the model", "no loop", "1301", f"{row('kb dx_distort_params')[ours]:.0f}"
+    yield "narrow, by tools/count-leaves", "17", "32", "15"
+    yield "affine cell", "110", "186", f"{row('affine cell')[ours]:.0f}"
+    yield "affine cell, through `lens_turn`, met", "", "234", f"{turns[0][2]:.0f}"
+    yield "a turn's own, met", "900", "1709 to 1947", f"{own[0]:.0f} to {own[-1]:.0f}"
+    yield "a turn's own, at most", "", "1943", f"{max(turn[5] for turn in turns):.0f}"
+    yield "arctangent", "300", "359", f"{row('arctangent')[ours]:.0f}"
+    yield "tangent", "400", "451", f"{row('tangent')[ours]:.0f}"
+
+
 with open(page) as before:
     text = before.read().split(TITLE)[0]
 if f"Counted on {machine()}," not in text:
@@ -166,6 +202,7 @@ text += BY_CAMERA + engine(archive, "k4, k5 and k6 aren't all zeros", "full")
 text += engine(archive, "zeros, done by the short engine alone", "short") + again(bounds)
 text += SIXTEEN + "".join(worst_sixteen(bounds, model) for model in MODELS)
 text += LEFT + "".join(left(bounds)) + EACH + "".join(functions(bounds))
+text += ASKED + "".join(f"| {' | '.join(one)} |\n" for one in asked(text)) + TRIED
 if faults:
     sys.exit("A bound that doesn't hold (lines with a caller come from the page: after a change to the archive run bench/run whole):\n"
              + "\n".join(faults))

@@ -137,7 +137,22 @@ def lens(path, tables):
     least = all(own <= whole[0] and all(price <= whole[1][unit] for unit, price in prices.items()) for own, prices in cut)
     told(f"without a word on models lens_turn takes {whole}, and no model more", least)
     bound.MODEL_TABLES[:] = tables
+    shut(path)
     engines(path, bound.MODELS.index("bc"))
+
+
+def shut(path):
+    """A cell with the ways that no pass takes, and ways that aren't behind the comparison that is said, or aren't there."""
+    cell = next(one for one in bound.LOOPS if one.function == "lens_turn")
+    kept, less = cell.shut, Bounds(path).instructions("lens_turn", 0)[1]["cell"]
+    cell.shut = ()
+    more = Bounds(path).instructions("lens_turn", 0)[1]["cell"]
+    told(f"a cell of affine {less}, and with counts above 4,096 {more}", less < more)
+    for pair, says in (((kept[0], r"cmp \$0xfff,"), "and not behind"), ((r"ucomisd", kept[1]), "and not behind"), (("bsf ", kept[1]), "any more")):
+        cell.shut = pair
+        found = refusal(lambda: Bounds(path))
+        told(found, says in found)
+    cell.shut = kept
 
 
 def engines(path, bc):
