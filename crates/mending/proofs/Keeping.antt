@@ -1,10 +1,11 @@
 -- What the code's tests say where a line is kept. Assumes nothing.
-use mathlib.Core.Path.{_≡_, refl}
-use mathlib.Core.Bool.{true}
+use mathlib.Core.Path.{_≡_, refl, sym, _∙_}
+use mathlib.Core.Bool.{Bool, true, false, not}
 use mathlib.Core.List.{List}
 use mathlib.Core.Option.{Option, none, some}
 use Prim.Native.Nat.{ℕ, _+_, _*_, _<_}
 use native.Mathlib.Omega.{arith}
+use borrow.Author.Tests.{not-true, not-false}
 use Rattle.region.specs.Size.{sized}
 use Rattle.region.proofs.Size.{is-sized, bounded}
 use Rattle.listing_lines.specs.Read.{Cell, cell-told}
@@ -13,9 +14,17 @@ use Rattle.listing_lines.specs.declared.CellLine.the-variants as line
 use Rattle.listing.proofs.Grid.{before-end}
 use Rattle.mending.specs.Kept.{keep-cell, keep-read}
 
+-- a test of `!r`, where r answers b: past it b is so, and where it is met it isn't
+pub passed : {r b : Bool} → r ≡ b → not r ≡ false → b ≡ true
+passed {r} e n = sym e ∙ not-false r n
+
+pub met : {r b : Bool} → r ≡ b → not r ≡ true → b ≡ false
+met {r} e n = sym e ∙ not-true r n
+
 -- a table has at most 4,096 times 4,096 cells
-pub place-small : (width height u v : ℕ) → sized width height ≡ true → u < width → v < height → v * width + u < 16777216
-place-small width height u v s h k = omega (arith, before-end width height u v h k, bounded width height (is-sized width height s))
+pub place-small : {width height u v : ℕ} → sized width height ≡ true → u < width → v < height → v * width + u < 16777216
+place-small {width} {height} {u} {v} s h k =
+    omega (arith, before-end width height u v h k, bounded width height (is-sized width height s))
 
 -- a line that is told to be a cell's, and one that is not
 pub cell-kept :

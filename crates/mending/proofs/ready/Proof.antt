@@ -1,26 +1,26 @@
 -- `mending::ready` meets its contract. Assumes nothing.
-use mathlib.Core.Path.{sym, _∙_}
 use borrow.Author.Needs.{needs}
-use borrow.Author.Tests.{not-true, not-false, le-leb, lt-leb}
+use borrow.Author.Tests.{le-leb, lt-leb}
 use native.Mathlib.Omega.{arith}
 use Rattle.region.proofs.Size.{is-sized, bounded}
+use Rattle.mending.proofs.Keeping.{passed, met}
 use Rattle.mending.proofs.ready.Statement.{statement}
 use Rattle.mending.proofs.ready.Tie as tie
 
 returns : tie.Need-returns
-returns c = simp (sym (c .before .sized .ensures) ∙ not-true (c .before .sized .result) (c .if1 .taken))
+returns c = simp (met (c .before .sized .ensures) (c .if1 .taken))
 
 mul-cells : tie.Need-mul-cells
 mul-cells c =
-    omega (arith, bounded (c .before .before .args .width) (c .before .before .args .height) (is-sized (c .before .before .args .width) (c .before .before .args .height) (sym (c .before .sized .ensures) ∙ not-false (c .before .sized .result) (c .if1 .left))))
+    omega (arith, bounded (c .before .before .args .width) (c .before .before .args .height) (is-sized (c .before .before .args .width) (c .before .before .args .height) (passed (c .before .sized .ensures) (c .if1 .left))))
 
 returns-2 : tie.Need-returns-2
-returns-2 c = simp (sym (c .before .before .sized .ensures) ∙ not-false (c .before .before .sized .result) (c .before .if1 .left), lt-leb _ _ (c .if2 .taken))
+returns-2 c = simp (passed (c .before .before .sized .ensures) (c .before .if1 .left), lt-leb _ _ (c .if2 .taken))
 
 returns-3 : tie.Need-returns-3
 returns-3 c =
     simp (
-      sym (c .before .before .before .sized .ensures) ∙ not-false (c .before .before .before .sized .result) (c .before .before .if1 .left),
+      passed (c .before .before .before .sized .ensures) (c .before .before .if1 .left),
       le-leb _ _ (c .before .if2 .left),
       lt-leb _ _ (c .if3 .taken),
     )
@@ -28,7 +28,7 @@ returns-3 c =
 returns-4 : tie.Need-returns-4
 returns-4 c =
     simp (
-      sym (c .before .before .before .sized .ensures) ∙ not-false (c .before .before .before .sized .result) (c .before .before .if1 .left),
+      passed (c .before .before .before .sized .ensures) (c .before .before .if1 .left),
       le-leb _ _ (c .before .if2 .left),
       le-leb _ _ (c .if3 .left),
     )
