@@ -1,12 +1,14 @@
 // affine.rs: no distortion in the usual sense, but a scale and a shift along each axis. Its four operations, in the
 // Rust's order. None refuses: what isn't finite is for the camera to judge.
+#![tactic(auto)]
+
 ghost use Rattle.std.specs.Prelude.{◌≡◌};
 ghost use Rattle.affine.specs.Affine.{distort, undistort, dx_distort_x, dx_distort_params};
 
 use lens::{Jacobian, Pixel, Point, Settled};
 
 // The four parameters, in the Rust's order.
-#[derive(Drop)]
+#[derive(Clone, Copy)]
 pub struct AffineParams {
     pub fx: f64,
     pub fy: f64,

@@ -1,5 +1,7 @@
 // A camera's four operations over bytes: a model's number and its parameters' bytes in, the number told out, and the
 // answer's bytes in a buffer that the caller lends. What is refused writes nothing.
+#![tactic(auto)]
+
 ghost use Rattle.std.specs.Prelude.{true, ◌≡◌, ◌≤◌, length};
 ghost use Rattle.little_endian.specs.Bytes.{floats, put};
 ghost use Rattle.lens.specs.Distorted.{told_pixel};
@@ -23,7 +25,7 @@ const COLUMNS: usize = 8 * lens::ENTRIES;
 const JACOBIAN: usize = COLUMNS + 8;
 
 // What distort tells: its number, and its pixel or zeros.
-#[derive(Drop)]
+#[derive(Clone, Copy)]
 pub struct ToldPixel {
     pub number: u8,
     pub pixel: Pixel,
@@ -84,7 +86,7 @@ pub fn distort(model: u8, params: &[u8], x: f64, y: f64, answer: &mut [u8]) -> u
 }
 
 // The same for undistort: its number, and where it settled or zeros and no.
-#[derive(Drop)]
+#[derive(Clone, Copy)]
 struct ToldPoint {
     number: u8,
     settled: Settled,

@@ -1,7 +1,7 @@
 -- A number up to 1/2 counted in 2 ^ -60 (`counted`), and a count made a number again (`back`): what the cast asks for, and how far each lies from the exact one. Assumes nothing.
 use Rattle.std.proofs.Common.{◌≡◌, ℕ, zero, suc, ◌+◌, ◌-◌, ◌*◌, ◌/◌, ◌^◌, ◌<◌, ◌≤◌, min, true, false, T, ◌⊎◌, pos, sym, refl, ap, ◌∙◌, subst, inl, inr, true≢false, mul-le-mul_right, zero-lt-suc, div-lt_iff_lt-mul, eq-zero-or-pos, eq-or-lt_of_le, mul-pos, zero-mul, div-mul-le_self, arith, lit≤, lt→ltb, pow_pos}
 use native.Mathlib.Nat.{le-pred_of_lt, min-eq_left, div-le_of_le-mul, lt-div-mul-add}
-use lib.Ieee.{Float, fin, binary64, up, down, round, mul, lt, of_int, of_bits, to_unsigned, fits}
+use lib.Ieee.{Float, nan, inf, fin, binary64, up, down, round, mul, lt, of_int, of_bits, to_unsigned, fits}
 use lib.Ieee.Fits.{up_pos, down_pos, round-fits}
 use lib.Ieee.Exact.{HasValue}
 use lib.Ieee.Scale.{finite}
@@ -30,6 +30,8 @@ no_sign (fin true (suc m) e) f p h = absurd (none (suc m * up e) (down e) (mul-p
   where
     none : (a c : ℕ) → 0 < a → 0 * c + a * 1 ≤ 0 * 1 + 0 * c → ⊥
     none a c p h = omega arith
+no_sign nan f p h = elim p [ ]
+no_sign (inf _) f p h = elim p [ ]
 
 -- ---- the cast cuts
 
@@ -38,6 +40,8 @@ unfolding to_unsigned
 cut (fin false m e) a c C h v =
     ap (λ (x : ℕ). min x (2 ^ 64 - 1)) (div_same (m * up e) (down e) a c (down_pos e) C v.1) ∙ min-eq_left (le-pred_of_lt ((div-lt_iff_lt-mul C).1 h))
 cut (fin true m e) a c C h v = absurd (true≢false v.0)
+cut nan a c C h v = elim v [ ]
+cut (inf _) a c C h v = elim v [ ]
 
 -- ---- what the cast asks for: above -1, and below 2 ^ 64
 
@@ -47,6 +51,9 @@ above_minus_one (fin false m e) p = lt→ltb 0 (1 * down e + m * up e * 1) (more
   where
     more : (d a : ℕ) → 0 < d → 0 < 1 * d + a * 1
     more d a h = omega arith
+above_minus_one nan p = elim p [ ]
+above_minus_one (inf _) p = elim p [ ]
+above_minus_one (fin true m e) p = elim p [ ]
 
 under_top : (w : Float) (a c : ℕ) → 0 < c → a < 2 ^ 64 * c → HasValue w false a c → T (lt w (fin false 1 (pos 64)))
 unfolding exactly

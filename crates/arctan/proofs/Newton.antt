@@ -323,7 +323,7 @@ next (suc (suc (suc (suc k)))) h s = absurd (omega arith)
 refined_stage : {n w : ℕ} (k i : ℕ) → k + i ≡ rounds → Stage (highs i) (shorts i) n w → Stage (highs rounds) (shorts rounds) n (refined k n w)
 unfolding refined
 refined_stage {n} {w} zero i k s = let all : i ≡ rounds = omega arith in subst (λ (j : ℕ). Stage (highs j) (shorts j) n w) all s
-refined_stage (suc k) i l s = refined_stage k (suc i) (omega arith) (next i (omega arith) s)
+refined_stage {n = n} {w = w} (suc k) i l s = refined_stage {w = nearer n w} k (suc i) (omega arith) (next i (omega arith) s)
 
 pub refined_near : (n : ℕ) → n ≤ 13 * 2 ^ 55 → (refined rounds n n ≤ 2 ^ 59) × Within (u 1300) (G (u (refined rounds n n))) (u n)
 refined_near n h =

@@ -130,6 +130,12 @@ over_sum a c b d = omega arith
 sum_is : (x y : Float) → T (plain x) → T (plain y) → x ⊕ y ≡ round binary64 false (num x * den y + num y * den x) (den x * den y)
 unfolding add
 sum_is (fin false m e) (fin false n d) p q = refl
+sum_is nan y p q = elim p [ ]
+sum_is (inf _) y p q = elim p [ ]
+sum_is (fin false m e) nan p q = elim q [ ]
+sum_is (fin false m e) (inf _) p q = elim q [ ]
+sum_is (fin false m e) (fin true n d) p q = elim q [ ]
+sum_is (fin true m e) y p q = elim p [ ]
 
 -- below 2 ^ t / 2 it is at most 2 ^ (t - 55) off: 2 ^ -53 below 2, and 2 ^ -52 below 4
 pub sum_near : (x y : Float) (t : ℕ) → T (plain x) → T (plain y) → t ≤ 100 → exactly x ⊞ exactly y ≺ over (2 ^ t) 2 → PlainNear (x ⊕ y) (over (2 ^ t) (2 ^ 55)) (exactly x ⊞ exactly y)
@@ -154,6 +160,12 @@ difference_is (fin false m e) (fin false n d) p q h =
     let b = n * up d * down e in
     let c = down e * down d in
     cond_no (ltb a b) (round binary64 true (b - a) c) (round binary64 false (a - b) c) (le→nltb a b h)
+difference_is nan y p q h = elim p [ ]
+difference_is (inf _) y p q h = elim p [ ]
+difference_is (fin false m e) nan p q h = elim q [ ]
+difference_is (fin false m e) (inf _) p q h = elim q [ ]
+difference_is (fin false m e) (fin true n d) p q h = elim q [ ]
+difference_is (fin true m e) y p q h = elim p [ ]
 
 pub difference_near : (x y : Float) (t : ℕ) → T (plain x) → T (plain y) → t ≤ 100 → exactly y ≼ exactly x → exactly x ⊟ exactly y ≺ over (2 ^ t) 2
     → PlainNear (x ⊖ y) (over (2 ^ t) (2 ^ 55)) (exactly x ⊟ exactly y)
@@ -178,6 +190,12 @@ quotient_is (fin false m e) (fin false n d) p q h =
   where
     differs : (n : ℕ) → 0 < n → n ≡ 0 → ⊥
     differs n h e = omega arith
+quotient_is nan y p q h = elim p [ ]
+quotient_is (inf _) y p q h = elim p [ ]
+quotient_is (fin false m e) nan p q h = elim q [ ]
+quotient_is (fin false m e) (inf _) p q h = elim q [ ]
+quotient_is (fin false m e) (fin true n d) p q h = elim q [ ]
+quotient_is (fin true m e) y p q h = elim p [ ]
 
 pub quotient_near : (x y : Float) (t : ℕ) → T (plain x) → T (plain y) → t ≤ 100 → whole 0 ≺ exactly y → exactly x ⧄ exactly y ≺ over (2 ^ t) 2
     → PlainNear (x ⊘ y) (over (2 ^ t) (2 ^ 55)) (exactly x ⧄ exactly y)
@@ -190,14 +208,23 @@ quotient_near x y t p q t≤ o h =
 
 pub units_of : (x : Float) → T (fits binary64 x) → T (plain x) → InUnits binary64 x false
 units_of (fin false m e) f p = in_units binary64 false m e f
+units_of nan f p = elim p [ ]
+units_of (inf _) f p = elim p [ ]
+units_of (fin true m e) f p = elim p [ ]
 
 up_is : (z : Float) → T (plain z) → z ⊗ scale ≡ round binary64 false (num z * 2 ^ 60) (den z * 1)
 unfolding mul of_bits
 up_is (fin false m e) p = refl
+up_is nan p = elim p [ ]
+up_is (inf _) p = elim p [ ]
+up_is (fin true m e) p = elim p [ ]
 
 down_is : (z : Float) → T (plain z) → z ⊗ unit ≡ round binary64 false (num z * 1) (den z * 2 ^ 60)
 unfolding mul of_bits
 down_is (fin false m e) p = refl
+down_is nan p = elim p [ ]
+down_is (inf _) p = elim p [ ]
+down_is (fin true m e) p = elim p [ ]
 
 -- z is n / d, and g units of 1 / l
 at_most_lem : (n d g l : ℕ) → 0 < d → n * l ≡ g * d → n ≤ d → g ≤ l
@@ -256,6 +283,9 @@ unit_exact w f p h =
 
     range : (w : Float) → T (fits binary64 w) → T (plain w) → num w < 2 ^ 1024 * den w
     range (fin false m e) f p = in_range binary64 m e f
+    range nan f p = elim p [ ]
+    range (inf _) f p = elim p [ ]
+    range (fin true m e) f p = elim p [ ]
 
     under : (n d g l b : ℕ) → 0 < l → n * l ≡ g * d → n < b * d → g < l * b
     under n d g l b L e h = lt_of_mul-lt-mul_right d (omega (arith, mul-lt-mul_of_pos_right h L))

@@ -3,6 +3,8 @@
 // A number below 1 is counted in 2^-60. The series runs over an argument of at most 3/7: larger
 // numbers are brought there by a quotient, and the angle by a quarter or a half of pi.
 
+#![tactic(auto)]
+
 ghost use Rattle.std.specs.Prelude.{◌≡◌, ◌*◌, ◌/◌, ◌%◌, ◌^◌, ◌≤◌, T, drop};
 ghost use Rattle.std.specs.Float.Ieee.{le};
 ghost use Rattle.exact.specs.F64.{f64};
@@ -180,7 +182,7 @@ pub fn arctangent(x: f64) -> f64
 }
 
 // What the tangent of an angle is: a number, or nothing where the angle is past the limit.
-#[derive(Drop)]
+#[derive(Clone, Copy)]
 pub enum Slope {
     Is(f64),
     TooSteep,

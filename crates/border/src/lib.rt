@@ -1,5 +1,7 @@
 // The border of an image, half a pixel outside it: its pixels in the order they are swept, the edges of the points
 // found there, and twice the box of the edges, which is a table's region.
+#![tactic(auto)]
+
 ghost use Rattle.std.specs.Prelude.{◌≡◌};
 ghost use Rattle.border.specs.Border.{before, across, along, samples, border_at};
 ghost use Rattle.border.specs.Edges.{lowered, raised, widened, edges_after, doubled};

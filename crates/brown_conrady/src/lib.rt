@@ -2,6 +2,8 @@
 // None refuses: what isn't finite is for the camera to judge. What the Rust leaves undone, dx_distort_params, is ours:
 // specs/Formula.antt has its order of operations, and proofs/Laws.antt that in exact arithmetic it is the derivative of
 // distort.
+#![tactic(auto)]
+
 ghost use Rattle.std.specs.Prelude.{◌≡◌, ◌<◌};
 ghost use Rattle.brown_conrady.specs.BrownConrady.{affine_params, distortion, distort, shared_at, slopes_at, dx_distort_x, f_xy, small, past, solve, step_from, limit, pass, newton, undistort};
 ghost use Rattle.brown_conrady.specs.Formula.{parts_at, dx_distort_params};
@@ -11,7 +13,7 @@ use lens::{Jacobian, Pixel, Point, Settled};
 
 // The twelve parameters, in the Rust's order, which has k3 after p2. The Rust calls the last eight d0 d1 d2 k3 d4 d5 d6
 // d7, and in dx_distort_x d3 for its k3: mind that its k3 is p2.
-#[derive(Drop)]
+#[derive(Clone, Copy)]
 pub struct BrownConradyParams {
     pub fx: f64,
     pub fy: f64,
@@ -41,7 +43,7 @@ pub fn affine_params(params: BrownConradyParams) -> AffineParams
 
 // What distortion and dx_distort_params share, by the names of the Rust's distortion_impl: powers of the radius, what
 // p1 and p2 multiply, the quotient's numerator, and 1 over its denominator.
-#[derive(Drop)]
+#[derive(Clone, Copy)]
 pub struct Parts {
     pub r2: f64,
     pub r4: f64,
@@ -93,7 +95,7 @@ pub fn distort(params: BrownConradyParams, point: Point) -> Pixel
 
 // What the four slopes share, by the names of the Rust's Newton. In its dx_distort_x they are c7, c8, c14, c15, c16 and
 // c21.
-#[derive(Drop)]
+#[derive(Clone, Copy)]
 struct Shared {
     c5: f64,
     c6: f64,
@@ -130,7 +132,7 @@ fn shared_at(params: BrownConradyParams, point: Point) -> Shared
 }
 
 // The derivatives of distortion, u and v by x and y: c7 times each of the last four.
-#[derive(Drop)]
+#[derive(Clone, Copy)]
 pub struct Slopes {
     pub c7: f64,
     pub ux: f64,
@@ -209,7 +211,7 @@ pub fn dx_distort_params(params: BrownConradyParams, point: Point) -> Jacobian
 }
 
 // From one point to another: the Rust's f_xy and its step.
-#[derive(Drop)]
+#[derive(Clone, Copy)]
 pub struct Offset(pub f64, pub f64);
 
 // How far the lens misses `distorted` when it sends xy.
@@ -260,7 +262,7 @@ fn step_from(params: BrownConradyParams, distorted: Point, xy: Point) -> Offset
 pub const LIMIT: u32 = 50;
 
 // Where Newton is, after how many updates, and whether the last pass ended it.
-#[derive(Drop)]
+#[derive(Clone, Copy)]
 pub struct Search {
     pub xy: Point,
     pub updates: u32,

@@ -1,6 +1,8 @@
 // One of five cameras: its model's four operations with the refusals that stand before and behind them. This is where
 // nothing goes unanswered: whatever is handed in, there is a finite answer or a refusal's number, which the models' own
 // functions don't promise.
+#![tactic(auto)]
+
 ghost use Rattle.std.specs.Prelude.{◌≡◌, ◌&&◌};
 ghost use Rattle.std.specs.Float.Ieee.{eq};
 ghost use Rattle.std.specs.Float.Ieee.Scale.{finite};
@@ -21,7 +23,7 @@ use thin_prism::ThinPrismParams;
 pub mod numbers;
 
 // A camera: its model, with the model's parameters.
-#[derive(Drop)]
+#[derive(Clone, Copy)]
 pub enum Camera {
     Affine(AffineParams),
     EnhancedUnified(EnhancedUnifiedParams),
@@ -32,7 +34,7 @@ pub enum Camera {
 
 // What the derivatives answer: number 0 and a Jacobian, or a refusal's number and zeros. No enum, since an enum can't
 // hold the Jacobian's array.
-#[derive(Drop)]
+#[derive(Clone, Copy)]
 pub struct Differentiated {
     pub number: u8,
     pub jacobian: Jacobian,

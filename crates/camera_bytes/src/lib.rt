@@ -1,4 +1,6 @@
 // A camera out of a model's number and bytes: the parameters of its model, eight bytes each, the least first.
+#![tactic(auto)]
+
 ghost use Rattle.std.specs.Prelude.{◌≡◌, ◌+◌, ◌*◌, ◌%◌, ◌≤◌, length, replicate};
 ghost use Rattle.exact.specs.F64.{f64};
 ghost use Rattle.lens.specs.Constants.{zeros};
@@ -17,7 +19,7 @@ const SIGN: u64 = 0x8000_0000_0000_0000;
 const INFINITY: u64 = 0x7ff0_0000_0000_0000;
 
 // What a caller asks of: the camera of a model's number and its parameters' bytes, or why there is none.
-#[derive(Drop)]
+#[derive(Clone, Copy)]
 pub enum Asked {
     Of(Camera),
     Refused(Refusal),

@@ -1,5 +1,7 @@
 // The text of a camera file: a camera's name and size, and its parameters' bit patterns, as a program is handed them.
 // The code goes through the text once, a function for each field.
+#![tactic(auto)]
+
 ghost use Rattle.std.specs.Prelude.{◌≡◌};
 ghost use Rattle.decimal.specs.Text.{all};
 ghost use Rattle.params_line.specs.Params.{at, params_of};
@@ -18,7 +20,7 @@ use lens::Refusal;
 pub const LONGEST: usize = 4096;
 
 // What a camera file asks for, or why it asks for nothing: 14, then 1, then 3.
-#[derive(Drop)]
+#[derive(Clone, Copy)]
 pub enum Parsed {
     Asked {
         camera: Camera,
@@ -29,7 +31,7 @@ pub enum Parsed {
 }
 
 // What a name stands for: a model's number, or none.
-#[derive(Drop)]
+#[derive(Clone, Copy)]
 enum Named {
     Known(u8),
     Unknown,

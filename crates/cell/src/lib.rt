@@ -1,5 +1,7 @@
 // What one cell of a table holds: the pixel of its point, as two f32 or as two numbers of sixteen bits,
 // or why there is none.
+#![tactic(auto)]
+
 ghost use Rattle.std.specs.Prelude.{◌≡◌, cond, ◌&&◌};
 ghost use Rattle.std.specs.Float.Ieee.Scale.{finite};
 ghost use Rattle.lens.specs.Distorted.{finite_pixel};
@@ -12,14 +14,14 @@ use region::{Increments, Region};
 use thirty_seconds::Multiple;
 
 // What a cell of f32s holds, or why it holds nothing.
-#[derive(Drop)]
+#[derive(Clone, Copy)]
 pub enum Cell {
     Holds(f32, f32),
     Refused(Refusal),
 }
 
 // What a cell of sixteen-bit numbers holds, in thirty-seconds of a pixel, or why it holds nothing.
-#[derive(Drop)]
+#[derive(Clone, Copy)]
 pub enum Cell16 {
     Holds(i16, i16),
     Refused(Refusal),

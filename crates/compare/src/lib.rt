@@ -1,4 +1,6 @@
 // Two listings, line by line: whether each text is one, and what is printed of the two.
+#![tactic(auto)]
+
 ghost use Rattle.std.specs.Prelude.{◌≡◌};
 ghost use Rattle.put_text.specs.Placed.{written, each_placed};
 ghost use Rattle.compare.specs.Judged.{line_end, after_table, after_region, next_cell, after_cell, step, whole};
@@ -13,7 +15,7 @@ use listing_lines::{CellLine, RegionLine, TableLine};
 pub const LINE: usize = 96;
 
 // How far a text is judged.
-#[derive(Drop)]
+#[derive(Clone, Copy)]
 pub enum Judging {
     // the table's line comes next
     Start,
@@ -35,7 +37,7 @@ pub enum Judging {
 
 // What is told of two lines that stand at one place of two listings: nothing, both lines, or a cell whose bits differ,
 // with its old pair and its new.
-#[derive(Drop)]
+#[derive(Clone, Copy)]
 pub enum Difference {
     Same,
     Lines,

@@ -2,6 +2,8 @@
 // or one line that says which refusal. Both files are read through once to be judged, and once more to be compared; one
 // line of each is held at a time. What is no refusal (a file that can't be read, or that changes between the two
 // readings) is said on standard error, and then no count is printed.
+#![tactic(auto)]
+
 use compare::{Judging, LINE};
 use lens::{Judgement, Refusal};
 use libc::{STDERR_FILENO, STDOUT_FILENO};
@@ -14,7 +16,7 @@ const ROOM: usize = 3904;
 
 // A file that is being read: which bytes that were read ahead are still to be taken, how many the line has, and whether
 // a read failed. A line of no bytes says that there are no more.
-#[derive(Drop)]
+#[derive(Clone, Copy)]
 struct Reading {
     from: usize,
     end: usize,
@@ -135,7 +137,7 @@ fn judged_line(s: Judging, line: &[u8; LINE], n: usize) -> Judging {
 }
 
 // A file judged to its end, and whether a read failed.
-#[derive(Drop)]
+#[derive(Clone, Copy)]
 struct Through {
     state: Judging,
     failed: bool,
@@ -166,7 +168,7 @@ fn judge(fd: i32) -> Through {
 
 // What has been told: how many cells differ, how many bytes are gathered to be written, and whether all before them
 // are.
-#[derive(Drop)]
+#[derive(Clone, Copy)]
 struct Told {
     count: u64,
     at: usize,
@@ -224,7 +226,7 @@ fn flushed_out(out: &[u8; AHEAD], told: Told) -> Told {
 
 // How the second reading ended: whether a read failed, whether all was written, how many cells differ, and whether both
 // files were listings of one size this time too. If so, what was written is the report of what was read.
-#[derive(Drop)]
+#[derive(Clone, Copy)]
 struct Ending {
     old_failed: bool,
     new_failed: bool,

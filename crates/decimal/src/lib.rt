@@ -1,10 +1,12 @@
 // What our texts share: where a byte stands; and a number in decimal, 1 to 4 digits, the first not 0.
+#![tactic(auto)]
+
 ghost use Rattle.std.specs.Prelude.{◌≡◌, ◌≤◌, length};
 ghost use Rattle.decimal.specs.Text.{all, place};
 ghost use Rattle.decimal.specs.Decimal.{digit, number_in, said};
 
 // What a field says.
-#[derive(Drop)]
+#[derive(Clone, Copy)]
 pub enum Number {
     Is(usize),
     NotANumber,

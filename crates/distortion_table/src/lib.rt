@@ -1,6 +1,8 @@
 // distortion_table.rs: the lens table of a camera, built in turns. First the border of the image is undistorted, half a
 // pixel outside it, a sample at a time; twice the box around the points found is the table's region. Then each cell is
 // filled with the pixel of its point, row by row. A sample is a unit of work, and so is a cell.
+#![tactic(auto)]
+
 ghost use Rattle.std.specs.Prelude.{◌≡◌, ◌+◌, ◌≤◌};
 ghost use Rattle.region.specs.Size.{Sized};
 ghost use Rattle.plans.specs.Loops.{reached, after_run};
@@ -19,14 +21,14 @@ use lens::{Judgement, Refusal};
 use plans::Progress;
 
 // A cell's column and row.
-#[derive(Drop)]
+#[derive(Clone, Copy)]
 struct Place {
     pub u: usize,
     pub v: usize,
 }
 
 // How many cells a run filled, and what refused the next one if anything did.
-#[derive(Drop)]
+#[derive(Clone, Copy)]
 struct Filled {
     pub done: usize,
     pub refusal: Judgement,
@@ -34,7 +36,7 @@ struct Filled {
 
 // A turn's cells, once its border units are done: how far the build has come by then, all units of the table, the
 // number of the first cell, and how many.
-#[derive(Drop)]
+#[derive(Clone, Copy)]
 struct Run {
     pub at: Progress,
     pub all: usize,
@@ -43,21 +45,21 @@ struct Run {
 }
 
 // How a turn ends, and how far the build has come by then.
-#[derive(Drop)]
+#[derive(Clone, Copy)]
 struct Ended {
     pub status: Status,
     pub at: Progress,
 }
 
 // What is left of a turn when its border units are done: nothing, or cells.
-#[derive(Drop)]
+#[derive(Clone, Copy)]
 enum Due {
     Over(Ended),
     Cells(Run),
 }
 
 // What a turn says at its end.
-#[derive(Drop)]
+#[derive(Clone, Copy)]
 pub enum Status {
     Finished,
     Refused(Refusal),
@@ -65,7 +67,7 @@ pub enum Status {
 }
 
 // The status, and the record to hand to the next turn.
-#[derive(Drop)]
+#[derive(Clone, Copy)]
 pub struct Turned {
     pub status: Status,
     pub job: Job,

@@ -1,5 +1,7 @@
 // What finds the points and the pixels of a table: the camera itself, and for a bc camera whose k4, k5 and k6 are zeros
 // the short engine. A turn asks once which it is (`short_for`), so that no sample and no cell asks again.
+#![tactic(auto)]
+
 ghost use Rattle.std.specs.Prelude.{◌≡◌};
 ghost use Rattle.lens.specs.Undistorted.{told};
 ghost use Rattle.camera.specs.Camera.{finite_point};

@@ -38,9 +38,12 @@ above_lies (fin false zero e) h = absurd (false≢true (sym (not_above_plus e) �
 above_lies (fin false (suc m) e) h = refl
 
 pub lies_above : (x : Float) → Lies false x → lt zeros x ≡ true
+lies_above nan h = absurd h
 lies_above (inf true) h = absurd (false≢true h)
 lies_above (inf false) h = unfold lt of_bits in refl
+lies_above (fin true zero e) h = absurd h
 lies_above (fin true (suc m) e) h = absurd (false≢true h)
+lies_above (fin false zero e) h = absurd h
 lies_above (fin false (suc m) e) h = above_zero m e
 
 pub below_lies : (x : Float) → lt x zeros ≡ true → Lies true x
@@ -51,9 +54,12 @@ below_lies (fin true (suc m) e) h = refl
 below_lies (fin false m e) h = absurd (plus_not_below m e h)
 
 pub lies_below : (x : Float) → Lies true x → lt x zeros ≡ true
+lies_below nan h = absurd h
 lies_below (inf true) h = unfold lt of_bits in refl
 lies_below (inf false) h = absurd (true≢false h)
+lies_below (fin true zero e) h = absurd h
 lies_below (fin true (suc m) e) h = below_zero m e
+lies_below (fin false zero e) h = absurd h
 lies_below (fin false (suc m) e) h = absurd (true≢false h)
 
 -- ---- ≤ 0 is said of the numbers that aren't above 0
@@ -98,6 +104,9 @@ not_above (fin false (suc m) e) = (λ h. absurd (false≢true (sym (above_not_le
 -- ---- a rounded fraction has the sign it is given, and 0 rounds to a zero
 
 value_lies : (x : Float) (s t : Bool) (a c : ℕ) → HasValue x s a c → Lies t x → t ≡ s
+value_lies nan s t a c p h = absurd p
+value_lies (inf v) s t a c p h = absurd p
+value_lies (fin v zero e) s t a c p h = absurd h
 value_lies (fin v (suc m) e) s t a c p h = h ∙ p.0
 
 units_lies : (s t : Bool) (q k : ℕ) → Lies t (units binary64 s q k) → t ≡ s
@@ -125,9 +134,13 @@ turned_back false t false v p q = rw (p, ← q) refl
 pub quotient_lies : (x y : Float) (t u : Bool) → Lies u y → Lies t (x ⊘ y) → Lies (unlike t u) x
 unfolding div
 quotient_lies nan y t u g h = absurd h
+quotient_lies (inf s) nan t u g h = absurd g
 quotient_lies (inf s) (inf v) t u g h = absurd h
+quotient_lies (inf s) (fin v zero d) t u g h = absurd g
 quotient_lies (inf s) (fin v (suc n) d) t u g h = turned_back s t u v h g
+quotient_lies (fin s m e) nan t u g h = absurd g
 quotient_lies (fin s m e) (inf v) t u g h = absurd h
+quotient_lies (fin s m e) (fin v zero d) t u g h = absurd g
 quotient_lies (fin s zero e) (fin v (suc n) d) t u g h =
     absurd (round_none (unlike s v) t _ _ (nought (up e) (down d)) (size_pos n d e) (rw (eqb-suc-zero n) at h))
 quotient_lies (fin s (suc m) e) (fin v (suc n) d) t u g h =

@@ -1,6 +1,8 @@
 // enhanced_unified.rs: the ray bent towards a sphere (alpha) that may be stretched (beta). Its four operations, in the
 // Rust's order and by its names. Undistort refuses a ray that doesn't point forwards, where the Rust goes on.
 // What isn't finite is for the camera to judge. There is no other branch: not at alpha 0 and not near the axis.
+#![tactic(auto)]
+
 ghost use Rattle.std.specs.Prelude.{◌≡◌};
 ghost use Rattle.lens.specs.Undistorted.{told};
 ghost use Rattle.enhanced_unified.specs.EnhancedUnified.{rho_of, norm_of, distort, k_of, undistort, dnorm_of, turned, dx_distort_x, dx_distort_params};
@@ -8,7 +10,7 @@ ghost use Rattle.enhanced_unified.specs.EnhancedUnified.{rho_of, norm_of, distor
 use lens::{Jacobian, Pixel, Point, Refusal, Undistorted};
 
 // The six parameters, in the Rust's order.
-#[derive(Drop)]
+#[derive(Clone, Copy)]
 pub struct EnhancedUnifiedParams {
     pub fx: f64,
     pub fy: f64,

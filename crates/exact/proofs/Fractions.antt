@@ -372,6 +372,10 @@ less true true a u b v = (λ h. omega (arith, ltb→lt (b * u) (a * v) h), λ h.
 pub lt-≺ : (x y : Float) → T (finite x) → T (finite y) → T (lt x y) ↔ (exactly x ≺ exactly y)
 unfolding lt exactly
 lt-≺ (fin s m e) (fin t n d) p q = less s t (m * up e) (down e) (n * up d) (down d)
+lt-≺ nan y p q = elim p [ ]
+lt-≺ (inf _) y p q = elim p [ ]
+lt-≺ (fin s m e) nan p q = elim q [ ]
+lt-≺ (fin s m e) (inf _) p q = elim q [ ]
 
 equal : (x y : ℕ) → x ≡ y → T (eqb x y)
 equal x y e = rw (← e) (eqb_refl x)
@@ -393,6 +397,10 @@ alike true true a u b v = (λ h. omega (arith, (one_sign (a * v) (b * u)).0 h), 
 pub eq-≈ : (x y : Float) → T (finite x) → T (finite y) → T (eq x y) ↔ (exactly x ≈ exactly y)
 unfolding eq exactly
 eq-≈ (fin s m e) (fin t n d) p q = alike s t (m * up e) (down e) (n * up d) (down d)
+eq-≈ nan y p q = elim p [ ]
+eq-≈ (inf _) y p q = elim p [ ]
+eq-≈ (fin s m e) nan p q = elim q [ ]
+eq-≈ (fin s m e) (inf _) p q = elim q [ ]
 
 either : (p q : Bool) → T (p || q) ↔ (T p ⊎ T q)
 either true q = (λ h. inl tt, λ h. tt)

@@ -135,3 +135,7 @@ unfolding sub add neg
 singles_differ (fin s m e) (fin t n d) f g p q =
     small_sum s (not t) (m * up e * down d) (n * up d * down e) (down e * down d) (mul-pos (down_pos e) (down_pos d)) (single_under s m e (down d) f (down_pos d))
     (subst (λ (c : ℕ). n * up d * down e < 2 ^ 128 * c) (mul_comm (down d) (down e)) (single_under t n d (down e) g (down_pos e)))
+singles_differ nan y f g p q = elim p [ ]
+singles_differ (inf _) y f g p q = elim p [ ]
+singles_differ (fin s m e) nan f g p q = elim q [ ]
+singles_differ (fin s m e) (inf _) f g p q = elim q [ ]

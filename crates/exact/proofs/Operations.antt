@@ -42,6 +42,8 @@ sum_finite (fin s m e) (fin r n d) t = (tt, tt)
 pub neg_finite : (x : Float) → T (finite x) → T (finite (neg x))
 unfolding neg
 neg_finite (fin s m e) t = tt
+neg_finite nan t = elim t [ ]
+neg_finite (inf _) t = elim t [ ]
 
 pub minus_finite : (x : Float) → T (finite (neg x)) → T (finite x)
 unfolding neg
@@ -141,6 +143,10 @@ sum_rounds (fin s m e) (fin t n d) p q =
 
     twisted : (b c u : ℕ) → b * (c * u) ≡ b * c * u
     twisted b c u = omega arith
+sum_rounds nan y p q = elim p [ ]
+sum_rounds (inf _) y p q = elim p [ ]
+sum_rounds (fin s m e) nan p q = elim q [ ]
+sum_rounds (fin s m e) (inf _) p q = elim q [ ]
 
 pub difference_rounds : (x y : Float) → T (finite x) → T (finite y) → Rounds (x ⊖ y) (exactly x ⊟ exactly y)
 unfolding sub
@@ -157,6 +163,10 @@ pub product_rounds : (x y : Float) → T (finite x) → T (finite y) → Rounds 
 unfolding mul exactly
 product_rounds (fin s m e) (fin t n d) p q =
     rounds (unlike s t) (m * up e * (n * up d)) (down e * down d) (mul-pos (down_pos e) (down_pos d)) refl (product_signs s t (m * up e) (down e) (n * up d) (down d))
+product_rounds nan y p q = elim p [ ]
+product_rounds (inf _) y p q = elim p [ ]
+product_rounds (fin s m e) nan p q = elim q [ ]
+product_rounds (fin s m e) (inf _) p q = elim q [ ]
 
 -- by a number above zero
 quotient_signs : (s : Bool) (a c b d : ℕ) → signed s (over a c) ⧄ over b d ≈ signed (unlike s false) (over (a * d) (b * c))
@@ -178,6 +188,10 @@ quotient_rounds (fin s m e) (fin false (suc n) d) p q h =
     rounds (unlike s false) (m * up e * down d) (suc n * up d * down e) (mul-pos (mul-pos (zero-lt-suc n) (up_pos d)) (down_pos e))
     (ap (λ (b : Bool). cond b (cond (eqb m 0) nan (inf (unlike s false))) (round binary64 (unlike s false) (m * up e * down d) (suc n * up d * down e))) (eqb-suc-zero n))
     (quotient_signs s (m * up e) (down e) (suc n * up d) (down d))
+quotient_rounds x nan p q h = elim q [ ]
+quotient_rounds x (inf _) p q h = elim q [ ]
+quotient_rounds nan (fin false (suc n) d) p q h = elim p [ ]
+quotient_rounds (inf _) (fin false (suc n) d) p q h = elim p [ ]
 
 -- ---- how far a rounding goes, by a bound on the exact number
 
@@ -265,3 +279,5 @@ held_float (fin s m e) f p =
       small = units_small binary64 s m e f;
       is = value (fin s m e) s (u.digits * 2 ^ u.zeros) (2 ^ 1074) u.value;
     }
+held_float nan f p = elim p [ ]
+held_float (inf _) f p = elim p [ ]

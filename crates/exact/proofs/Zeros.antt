@@ -181,6 +181,8 @@ self_sum true a c C = rw (le-ltb a a (le_refl a)) (zero_rounds binary64 false (a
 pub self_less : (x : Float) → T (finite x) → x ⊖ x ≡ f64 0
 unfolding sub add neg of_bits
 self_less (fin s m e) p = self_sum s (m * up e * down e) (down e * down e) (downs_pos e e)
+self_less nan p = elim p [ ]
+self_less (inf _) p = elim p [ ]
 
 -- ---- products: a zero times a number is a zero
 
@@ -194,9 +196,13 @@ zero_right s e t n d = zero_rounded (unlike t s) (n * up d * (0 * up e)) (down d
 
 pub zero_times : (x y : Float) → is_zero x ≡ true → T (finite y) → is_zero (x ⊗ y) ≡ true
 zero_times x (fin t n d) p f = zero_elim (λ (x : Float). is_zero (x ⊗ fin t n d) ≡ true) (λ s e. zero_left s e t n d) x p
+zero_times x nan p f = elim f [ ]
+zero_times x (inf _) p f = elim f [ ]
 
 pub times_zero : (x y : Float) → T (finite x) → is_zero y ≡ true → is_zero (x ⊗ y) ≡ true
 times_zero (fin t n d) y f p = zero_elim (λ (y : Float). is_zero (fin t n d ⊗ y) ≡ true) (λ s e. zero_right s e t n d) y p
+times_zero nan y f p = elim f [ ]
+times_zero (inf _) y f p = elim f [ ]
 
 -- ---- quotients: a zero by what is none is a zero, of a NaN it is NaN
 
@@ -207,3 +213,5 @@ zero_over s e b n k = rw (eqb-suc-zero n) (zero_rounded (unlike s b) (0 * up e *
 pub zero_over_other : (x y : Float) → is_zero x ≡ true → T (finite y) → is_zero y ≡ false → is_zero (x ⊘ y) ≡ true
 zero_over_other x (fin b zero k) p t n = absurd (true≢false (sym (a_zero b k) ∙ n))
 zero_over_other x (fin b (suc m) k) p t n = zero_elim (λ (x : Float). is_zero (x ⊘ fin b (suc m) k) ≡ true) (λ s e. zero_over s e b m k) x p
+zero_over_other x nan p t n = elim t [ ]
+zero_over_other x (inf _) p t n = elim t [ ]

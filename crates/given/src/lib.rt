@@ -1,4 +1,6 @@
 // What a call over bytes gives back: a number, and what it was lent, written only if the number is 0.
+#![tactic(auto)]
+
 ghost use Rattle.std.specs.Prelude.{◌≡◌};
 ghost use Rattle.given.specs.Given.{flag_number, code};
 

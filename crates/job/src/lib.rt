@@ -1,5 +1,7 @@
 // The record of a table that is being built, as it is handed from turn to turn: a fresh one, and which records no turn
 // takes.
+#![tactic(auto)]
+
 ghost use Rattle.std.specs.Prelude.{◌≡◌, ◌||◌, ◌*◌, ◌^◌, ◌≤◌, ◌<◌, min, leb, eqb};
 ghost use Rattle.lens.specs.Judgement.{verdict};
 ghost use Rattle.region.specs.Region.{increments, wrong};
@@ -16,7 +18,7 @@ use region::Region;
 
 // A table that is being built: what it is for, whether it stops at a sample that didn't settle, and how far it has
 // come.
-#[derive(Drop)]
+#[derive(Clone, Copy)]
 pub struct Job {
     pub camera: Camera,
     pub width: usize,
@@ -26,7 +28,7 @@ pub struct Job {
 }
 
 // A fresh record, or why there is none.
-#[derive(Drop)]
+#[derive(Clone, Copy)]
 pub enum Started {
     With(Job),
     Refused(Refusal),

@@ -1,5 +1,7 @@
 // The record of a table that is being built, as bytes at fixed places: what C keeps between two turns. The last eight
 // are a check word over all others.
+#![tactic(auto)]
+
 ghost use Rattle.std.specs.Prelude.{◌≡◌, ◌≤◌, length};
 ghost use Rattle.little_endian.specs.Bytes.{half, put};
 ghost use Rattle.camera.specs.Numbers.{model_number};
@@ -48,7 +50,7 @@ pub const LENGTH: usize = CHECK + 8;
 const CHECK_START: u64 = 0x32424f4a534e454c;
 
 // The record that bytes hold, or why they hold none.
-#[derive(Drop)]
+#[derive(Clone, Copy)]
 pub enum Found {
     Of(Job),
     Refused(Refusal),

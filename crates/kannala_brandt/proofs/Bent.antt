@@ -4,9 +4,9 @@ use mathlib.Core.Bool.{true, false}
 use Prim.Native.Nat.{◌*◌, ◌^◌}
 use native.Mathlib.Nat.{mul-pos}
 use lib.Dec.{lit≤}
-use lib.IntN.{pos}
+use lib.IntN.{pos, negsuc}
 use lib.Pow.{pow_pos}
-use lib.Ieee.{Float, binary64, le, add, sub, mul, div, neg, of_bits, of_int}
+use lib.Ieee.{Float, fin, binary64, lt, le, add, sub, mul, div, neg, of_bits, of_int}
 use lib.Ieee.Fits.{div-fits, of_int-fits}
 use Rattle.exact.specs.F64.{minus, magnitude, ◌⊕◌, ◌⊗◌, ◌⊘◌}
 use Rattle.root.specs.Root.{root}
@@ -20,7 +20,7 @@ use Rattle.lens.specs.Radius.{squared_radius}
 use Rattle.lens.specs.declared.Pixel.{Pixel}
 use Rattle.lens.specs.declared.Undistorted.{Undistorted}
 use Rattle.lens.specs.declared.Undistorted.TheVariants.{At}
-use Rattle.kannala_brandt.specs.KannalaBrandt.{camera, powers, polynomial, d_thd_wtr_th, step_from, pass, limit, ended, newton, outward, un_of, vn_of, rth2, distort, undistort}
+use Rattle.kannala_brandt.specs.KannalaBrandt.{camera, powers, polynomial, d_thd_wtr_th, step_from, pass, limit, ended, newton, sign_of, flag, outward, un_of, vn_of, rth2, distort, undistort}
 use Rattle.kannala_brandt.specs.declared.KannalaBrandtParams.{KannalaBrandtParams}
 use Rattle.kannala_brandt.specs.declared.Reached.{Reached}
 
@@ -102,9 +102,47 @@ newton_ends = ap from root_of_quarter ∙ one_pass
 abbrev found : Float → Reached → Slope → Undistorted
 found rth at slope = outward slope at rth (un_of inwards centre) (vn_of inwards centre)
 
+upright : sign_of (quarters 3) ≡ ones
+unfolding le div of_bits of_int
+upright = refl
+
+one_over : un_of inwards centre ≡ fin false 1 (negsuc 1)
+unfolding sub div of_int
+one_over = refl
+
+three_quarters : quarters 3 ≡ fin false 3 (negsuc 1)
+unfolding div of_int
+three_quarters = refl
+
+a_quarter : quarters 1 ≡ fin false 1 (negsuc 1)
+unfolding div of_int
+a_quarter = refl
+
+kept : ones ⊗ fin false 3 (negsuc 1) ≡ fin false 3 (negsuc 1)
+unfolding mul of_bits
+kept = refl
+
+sixteenths : fin false 3 (negsuc 1) ⊗ fin false 1 (negsuc 1) ≡ fin false 3 (negsuc 3)
+unfolding mul
+sixteenths = refl
+
+back : fin false 3 (negsuc 3) ⊘ fin false 1 (negsuc 1) ≡ fin false 3 (negsuc 1)
+unfolding div
+back = refl
+
+across : ones ⊗ quarters 3 ⊗ un_of inwards centre ⊘ quarters 1 ≡ quarters 3
+across = rw (one_over, three_quarters, a_quarter, kept, sixteenths) back
+
+along : ones ⊗ quarters 3 ⊗ vn_of inwards centre ⊘ quarters 1 ≡ int 0
+unfolding sub mul div of_bits of_int
+along = refl
+
+above : flag there ≡ true
+unfolding lt div of_bits of_int
+above = refl
+
 unbent : found (quarters 1) there (Is (quarters 3)) ≡ At record { point = xy (quarters 3) (int 0); updates = 1; flag = true }
-unfolding le sub mul div of_bits of_int
-unbent = refl
+unbent = rw (upright, across, along, above) refl
 
 pub bent_undistorted :
     (g : Float → Slope) → g (halves 1) ≡ Is (quarters 3)

@@ -1,6 +1,8 @@
 // kannala_brandt.rs: the angle off the axis bent by a polynomial. Its four operations, in the Rust's order and by its
 // names. Near the axis the Rust selects a plain answer, here by a branch; undistort refuses an angle past the tangent's
 // limit. What isn't finite is for the camera to judge.
+#![tactic(auto)]
+
 ghost use Rattle.std.specs.Prelude.{◌≡◌, ◌<◌};
 ghost use Rattle.arctan.specs.Arctangent.{arctangent};
 ghost use Rattle.arctan.specs.Tangent.{tangent};
@@ -10,7 +12,7 @@ ghost use Rattle.kannala_brandt.specs.KannalaBrandt.{powers, polynomial, scaling
 use lens::{Jacobian, Pixel, Point, Refusal, Settled, Undistorted};
 
 // The eight parameters, in the Rust's order.
-#[derive(Drop)]
+#[derive(Clone, Copy)]
 pub struct KannalaBrandtParams {
     pub fx: f64,
     pub fy: f64,
@@ -23,7 +25,7 @@ pub struct KannalaBrandtParams {
 }
 
 // The even powers of an angle.
-#[derive(Drop)]
+#[derive(Clone, Copy)]
 pub struct EvenPowers {
     pub theta2: f64,
     pub theta4: f64,
@@ -32,7 +34,7 @@ pub struct EvenPowers {
 }
 
 // Where Newton stands: the angle, the updates made, and whether the last one was the last.
-#[derive(Drop)]
+#[derive(Clone, Copy)]
 pub struct Reached {
     pub th: f64,
     pub updates: u32,
@@ -187,7 +189,7 @@ pub fn undistort(params: KannalaBrandtParams, pixel: Pixel) -> Undistorted
 }
 
 // The polynomial's terms behind its 1, by the Rust's names: c13 and c17 both add them up, each in its own order.
-#[derive(Drop)]
+#[derive(Clone, Copy)]
 struct Terms {
     c7: f64,
     c9: f64,

@@ -1,5 +1,7 @@
 // The words that the lens models and all above them share: point, pixel, Jacobian, what distort and undistort answer,
 // judgement, refusal, EPS.
+#![tactic(auto)]
+
 ghost use Rattle.std.specs.Prelude.{◌≡◌, ◌&&◌, [], ◌∷◌, ◌++◌, get_or};
 ghost use Rattle.std.specs.Float.Ieee.Scale.{finite};
 ghost use Rattle.exact.specs.F64.{mark};
@@ -18,24 +20,24 @@ pub const EPS: f64 = 1e-6;
 pub const ENTRIES: usize = 32;
 
 // A point on the z=1 plane, x and y.
-#[derive(Drop)]
+#[derive(Clone, Copy)]
 pub struct Point(pub f64, pub f64);
 
 // Where a camera sees a point: u across, v down. A type of its own, so that neither can be passed where the other is
 // meant.
-#[derive(Drop)]
+#[derive(Clone, Copy)]
 pub struct Pixel(pub f64, pub f64);
 
 // A matrix of two rows, row by row: with n columns row 0 stands at 0..n and row 1 at n..2n. Every place after them
 // holds 0.0.
-#[derive(Drop)]
+#[derive(Clone, Copy)]
 pub struct Jacobian {
     pub entries: [f64; ENTRIES],
     pub columns: usize,
 }
 
 // Where an undistort ended, after how many updates, and whether it settled there.
-#[derive(Drop)]
+#[derive(Clone, Copy)]
 pub struct Settled {
     pub point: Point,
     pub updates: u32,
@@ -43,28 +45,28 @@ pub struct Settled {
 }
 
 // Whether a call is taken up.
-#[derive(Drop)]
+#[derive(Clone, Copy)]
 pub enum Judgement {
     Taken,
     Refused(Refusal),
 }
 
 // What distort answers, and a lookup in a table of its answers: a pixel, or why there is none.
-#[derive(Drop)]
+#[derive(Clone, Copy)]
 pub enum Distorted {
     At(Pixel),
     Refused(Refusal),
 }
 
 // An undistort's answer, or why there is none.
-#[derive(Drop)]
+#[derive(Clone, Copy)]
 pub enum Undistorted {
     At(Settled),
     Refused(Refusal),
 }
 
 // Why a call is refused, in the order of the numbers.
-#[derive(Drop)]
+#[derive(Clone, Copy)]
 pub enum Refusal {
     // no model goes by it
     UnknownModel,

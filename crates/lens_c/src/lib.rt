@@ -1,5 +1,7 @@
 // What C calls, each one call of a function with the same contract: numbers and bytes in, a number out, the answer's
 // bytes in a buffer that the caller lends. What is refused writes nothing.
+#![tactic(auto)]
+
 ghost use Rattle.std.specs.Prelude.{◌≡◌};
 ghost use Rattle.root.specs.Root.{root};
 ghost use Rattle.arctan.specs.Arctangent.{arctangent};

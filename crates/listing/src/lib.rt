@@ -1,4 +1,6 @@
 // A table's listing, line by line into a buffer that the caller lends.
+#![tactic(auto)]
+
 ghost use Rattle.std.specs.Prelude.{◌≡◌, ◌<◌, ◌^◌};
 ghost use Rattle.put_text.specs.Placed.{written, placed_all};
 ghost use Rattle.listing.specs.Listing.{across, down, cell_lines, listing_lines};

@@ -9,9 +9,9 @@ use lib.Dec.{ltb}
 use Rattle.io.specs.Digits.{hex_digit_ascii, last_digits}
 use Rattle.decimal.specs.Decimal.{places, decimal}
 use Rattle.decimal.proofs.Digits.{decimal_worth}
-use Rattle.hex.specs.Hex.{read, bits_of}
-use Rattle.hex.specs.declared.Bits.TheVariants.{Of}
-use Rattle.hex.proofs.Written.{read_digits}
+use Rattle.hexadecimal.specs.Hex.{read, bits_of}
+use Rattle.hexadecimal.specs.declared.Bits.TheVariants.{Of}
+use Rattle.hexadecimal.proofs.Written.{read_digits}
 use Rattle.listing_lines.specs.Line.{hex, line, word_table, word_region, word_cell, table_line, region_text, cell_text}
 use Rattle.listing_lines.specs.Read.{onto, fields, single, double, header_of, Edges, edges_text, fair_edges, edges_of, Cell, text_of_cell, cell_of}
 use Rattle.listing_lines.proofs.Reading.{both_true}

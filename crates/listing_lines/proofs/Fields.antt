@@ -11,8 +11,8 @@ use lib.ListN.{length, get_or}
 use Rattle.io.specs.Digits.{hex_digit_ascii, last_digits}
 use Rattle.decimal.specs.Decimal.{places, decimal}
 use Rattle.decimal.proofs.Digits.{length_digits, worth_between, decimal_worth, decimal_digits}
-use Rattle.hex.specs.Hex.{digit}
-use Rattle.hex.proofs.Written.{digit_glyph}
+use Rattle.hexadecimal.specs.Hex.{digit}
+use Rattle.hexadecimal.proofs.Written.{digit_glyph}
 use Rattle.listing_lines.specs.Line.{hex, line}
 use Rattle.listing_lines.specs.Numeral.{pushed, left_after, number_after, numeral}
 use Rattle.listing_lines.proofs.Back.{Plain, Plains}

@@ -52,6 +52,12 @@ module _ {z l₁ l₂ l₃ l₄ l₅ : List ℕ} {n₁ n₂ n₃ n₄ n₅ : ℕ
   unfolding line
   made3 g h i j k = on (on (on (on g.front h) i) j) k ∙ simp append_assoc
 
+three_fields :
+    (w b d e : List ℕ) →
+    (((w ++ (9 ∷ b)) ++ (9 ∷ d)) ++ (9 ∷ e)) ++ (10 ∷ []) ≡ line w (b ∷ d ∷ e ∷ [])
+unfolding line
+three_fields w b d e = simp append_assoc
+
 module _ {z l₁ l₂ l₃ l₄ l₅ l₆ : List ℕ} {n₁ n₂ n₃ n₄ n₅ n₆ : ℕ} {word a b d e : List ℕ} where
   made4 :
       Grown z 0 word l₁ n₁ →
@@ -62,7 +68,10 @@ module _ {z l₁ l₂ l₃ l₄ l₅ l₆ : List ℕ} {n₁ n₂ n₃ n₄ n₅ 
       Grown l₅ n₅ (10 ∷ []) l₆ n₆ →
       take n₆ l₆ ≡ line word (a ∷ b ∷ d ∷ e ∷ [])
   unfolding line
-  made4 g h i j k m = on (on (on (on (on g.front h) i) j) k) m ∙ simp append_assoc
+  made4 g h i j k m =
+      on (on (on (on (on g.front h) i) j) k) m ∙
+      three_fields (word ++ (9 ∷ a)) b d e ∙
+      append_assoc word (9 ∷ a) (line [] (b ∷ d ∷ e ∷ []))
 
 module _ {z l l' l'' : List ℕ} {n n' n'' : ℕ} where
   pub refused_made :

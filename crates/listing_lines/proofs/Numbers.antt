@@ -5,7 +5,7 @@ use native.Mathlib.Omega.{arith}
 use lib.ListN.{length}
 use Rattle.io.specs.Digits.{last_digits, IsDigitCount}
 use Rattle.decimal.proofs.Digits.{length_digits}
-use Rattle.hex.proofs.Written.{hex_places}
+use Rattle.hexadecimal.proofs.Written.{hex_places}
 use Rattle.listing_lines.specs.Line.{hex}
 
 pub hex_is : (w n k : ℕ) → n < 16 ^ w → IsDigitCount 16 w n k → last_digits 16 k n ≡ hex w n

@@ -10,7 +10,7 @@ use borrow.Author.Tests.{lt-ltb, le-ltb}
 use lib.Dec.{ltb}
 use lib.ListN.{length, get_or, drop, drop_of_length-le}
 use lib.Seq.{drop-cons}
-use Rattle.hex.specs.Hex.{digit}
+use Rattle.hexadecimal.specs.Hex.{digit}
 use Rattle.listing_lines.specs.Numeral.{pushed, left_after, number_after, numeral}
 
 -- ---- one byte

@@ -2,7 +2,7 @@
 -- Definitions only.
 use Rattle.std.specs.Prelude.{cond, ◌&&◌, List, [], ◌∷◌, ℕ, ◌+◌, ◌*◌, ◌-◌, ◌^◌, eqb, ltb}
 use Rattle.decimal.specs.Text.{tab}
-use Rattle.hex.specs.Hex.{digit}
+use Rattle.hexadecimal.specs.Hex.{digit}
 
 -- a number with a digit after it; a byte that is none leaves it, and so does a number with no room for one more
 unfoldable pub pushed : ℕ → ℕ → ℕ → ℕ

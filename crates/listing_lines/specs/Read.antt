@@ -4,8 +4,8 @@ use Rattle.std.specs.Prelude.{Bool, true, cond, ◌&&◌, List, [], ◌∷◌, �
 use Rattle.std.proofs.Math.Option.{Option, none, some}
 use Rattle.decimal.specs.Decimal.{worth}
 use Rattle.decimal.specs.Text.{tab, newline, same}
-use Rattle.hex.specs.Hex.{read, bits_of}
-use Rattle.hex.specs.declared.Bits.TheVariants.{Of}
+use Rattle.hexadecimal.specs.Hex.{read, bits_of}
+use Rattle.hexadecimal.specs.declared.Bits.TheVariants.{Of}
 use Rattle.listing_lines.specs.Line.{table_line, region_text, cell_text}
 use Rattle.listing_lines.specs.declared.TableLine.{TableLine}
 use Rattle.listing_lines.specs.declared.TableLine.TheVariants.{Table, NoTable}

@@ -1,4 +1,6 @@
 // The lines of a table's listing, each written into a buffer that the caller lends.
+#![tactic(auto)]
+
 ghost use Rattle.std.specs.Prelude.{◌≡◌, [], ◌∷◌, ◌+◌, ◌%◌, ◌^◌, ◌≤◌, length};
 ghost use Rattle.decimal.specs.Decimal.{decimal};
 ghost use Rattle.decimal.specs.Text.{same};
@@ -15,14 +17,14 @@ use lens::Refusal;
 use region::Region;
 
 // What a line tells of a cell: its place, across and down, and the bit patterns of its two numbers.
-#[derive(Drop)]
+#[derive(Clone, Copy)]
 pub enum CellLine {
     Cell { u: u32, v: u32, a: u32, b: u32 },
     NoCell,
 }
 
 // What it tells of a table: its size, and the updates that it took.
-#[derive(Drop)]
+#[derive(Clone, Copy)]
 pub enum TableLine {
     Table {
         width: u32,
@@ -33,7 +35,7 @@ pub enum TableLine {
 }
 
 // What it tells of a region: the bit patterns of lower x and y, upper x and y.
-#[derive(Drop)]
+#[derive(Clone, Copy)]
 pub enum RegionLine {
     Region {
         left: u64,
@@ -243,7 +245,7 @@ fn pushed(base: u64, n: u64, b: u8) -> u64
     requires { base ≤ 16 }
     ensures { result ≡ pushed base n b }
 {
-    let d = hex::digit(b);
+    let d = hexadecimal::digit(b);
     if d < 16 {
         if n < FULL {
             return n * base + d as u64;

@@ -1,4 +1,6 @@
 // Numbers as bytes, the least first: read out of any bytes, and put into a buffer that the caller lends, at any place.
+#![tactic(auto)]
+
 ghost use Rattle.std.specs.Prelude.{◌≡◌, ◌+◌, ◌-◌, ◌*◌, ◌^◌, ◌≤◌, ◌<◌, length, get_or, take, drop};
 ghost use Rattle.std.proofs.lemmas.List.Edits.{sets};
 ghost use Rattle.little_endian.specs.Bytes.{value, bytes, half, word, float, floats, put};

@@ -27,6 +27,8 @@ use Rattle.lookup.specs.Lookup.{index, whole_part}
 
 valued : (x : Float) (s : Bool) (a c : ℕ) → HasValue x s a c → Number x
 unfolding is_nan
+valued nan s a c h = elim h [ ]
+valued (inf _) s a c h = elim h [ ]
 valued (fin t m e) s a c h = tt
 
 infinite : (x : Float) (s : Bool) → x ≡ inf s → Number x
@@ -117,6 +119,8 @@ unfolding float of_int
 float_finite n h = go (round binary64 false n 1) (round_whole binary64 false n (le_trans h (lit≤ tt)))
   where
     go : (x : Float) → HasValue x false n 1 → T (finite x)
+    go nan v = elim v [ ]
+    go (inf _) v = elim v [ ]
     go (fin t m e) v = tt
 
 pub float_exactly : (n : ℕ) → n ≤ 4096 → exactly (float n) ≈ whole n
@@ -185,6 +189,8 @@ right_of false p h = h
 
 no_last : (x : Float) → T (finite x) → lt x (inf false) ≡ false → ⊥
 unfolding lt
+no_last nan f h = elim f [ ]
+no_last (inf _) f h = elim f [ ]
 no_last (fin s m e) f h = true≢false h
 
 pub cut : (i : Float) (cells : ℕ) → Inside i cells → Cut i cells

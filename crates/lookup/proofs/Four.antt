@@ -1,5 +1,5 @@
 -- Between four f64s by two fractions below 1, as it is rounded: no further than any of the four (`blended_inside`), and where they are one number it is that number (`blended_level`). Assumes nothing.
-use Rattle.std.proofs.Common.{◌≡◌, Bool, true, ◌&&◌, T, List, [], ◌∷◌, refl}
+use Rattle.std.proofs.Common.{◌≡◌, Bool, true, false, ◌&&◌, T, List, [], ◌∷◌, refl}
 use lib.Ieee.{Float, binary64, fits}
 use lib.Ieee.Scale.{finite}
 use Rattle.exact.specs.Alike.{◌≐◌}
@@ -11,6 +11,10 @@ use Rattle.lookup.proofs.Extremes.{Every, least-≼, ≼-greatest}
 use Rattle.lookup.proofs.Way.{Part, between_finite, between_fits, between_inside, between_level}
 
 all_four : (p q r s : Bool) → T p → T q → T r → T s → (p && (q && (r && (s && true)))) ≡ true
+all_four false q r s tp tq tr ts = elim tp [ ]
+all_four true false r s tp tq tr ts = elim tq [ ]
+all_four true true false s tp tq tr ts = elim tr [ ]
+all_four true true true false tp tq tr ts = elim ts [ ]
 all_four true true true true tp tq tr ts = refl
 
 module _ (c00 c10 c01 c11 a b : Float) where

@@ -31,6 +31,8 @@ number nan u h t = t
 number (inf s) u h t = go (float u) (float_finite u h) t
   where
     go : (x : Float) → T (finite x) → T (eq (inf s) x) → ⊥
+    go nan p t = elim p [ ]
+    go (inf _) p t = elim p [ ]
     go (fin r m e) p t = t
 number (fin s m e) u h t = tt
 
@@ -98,6 +100,8 @@ on i u cells f l h t =
     go i f (number i u few t) (same_number i u few t)
   where
     go : (i : Float) → T (fits binary64 i) → T (finite i) → exactly i ≈ whole u → On i u cells
+    go nan f p v = elim p [ ]
+    go (inf _) f p v = elim p [ ]
     go (fin false m e) f p v =
         let few : u ≤ 4096 = omega arith in
         let is = float_itself m e u few f ((over-≈ (m * up e) (down e) u 1).0 v) in
@@ -160,6 +164,8 @@ pub both_finite : (x y : Float) → T (finite x) → T (finite y) → (finite x 
 both_finite x y p q = go (finite x) (finite y) p q
   where
     go : (a b : Bool) → T a → T b → (a && b) ≡ true
+    go false b p q = elim p [ ]
+    go true false p q = elim q [ ]
     go true true p q = refl
 
 -- ---- the cell comes back

@@ -1,7 +1,7 @@
 -- The fraction of an index is the index without its whole part, exactly, from 0 to below 1 (`rest_part`). Assumes nothing.
 use Rattle.std.proofs.Common.{◌≡◌, ℕ, ◌+◌, ◌-◌, ◌*◌, ◌^◌, ◌<◌, ◌≤◌, Bool, true, false, T, ap, lt_of_lt_of_le, lt_of_mul-lt-mul_right, le_of_mul-le-mul_right, arith, lit≤, pow_pos}
 use native.Mathlib.Decide.{dec_le}
-use lib.Ieee.{Float, fin, binary64, fits}
+use lib.Ieee.{Float, nan, inf, fin, binary64, fits}
 use lib.Ieee.Fits.{sub-fits}
 use lib.Ieee.Scale.{finite}
 use Rattle.exact.specs.Fraction.{Fraction, ◌≼◌, ◌≺◌, ◌≈◌, over, whole, opposite, ◌⊞◌, ◌⊟◌, signed, exactly}
@@ -95,6 +95,8 @@ held_signed true q k w few h b = held_same (whole_proper 0) (no_units (q * 2 ^ k
 -- ---- a float without a whole number that it reaches, less than 1 above
 
 pub held_rest : (i : Float) (w : ℕ) → T (fits binary64 i) → T (finite i) → whole w ≼ exactly i → exactly i ≺ whole (w + 1) → Held (exactly i ⊟ whole w)
+held_rest nan w f t h b = elim t [ ]
+held_rest (inf _) w f t h b = elim t [ ]
 held_rest (fin s m e) w f t h b =
     let u = in_units binary64 s m e f in
     let q = u.digits in

@@ -1,6 +1,6 @@
 -- Between two f64s by a fraction below 1, as it is rounded: no further than either of the two (`between_inside`), and the first where both are one number (`between_level`). Assumes nothing.
 use Rattle.std.proofs.Common.{◌≡◌, ℕ, ◌+◌, ◌-◌, ◌*◌, ◌^◌, ◌<◌, ◌≤◌, Bool, true, false, T, ap, ◌∙◌, inl, inr, lt_of_lt_of_le, add-sub_of_le, lt_of_mul-lt-mul_right, mul-le-mul_left, mul-lt-mul_of_pos_right, mul-one, le_of_mul-le-mul_right, arith, lit≤, pow_pos}
-use lib.Ieee.{Float, fin, binary64, fits, neg, of_bits}
+use lib.Ieee.{Float, nan, inf, fin, binary64, fits, neg, of_bits}
 use lib.Ieee.Fits.{add-fits}
 use lib.Ieee.Scale.{finite}
 use Rattle.exact.specs.Alike.{◌≐◌}
@@ -95,6 +95,10 @@ few n g G h = lt_of_mul-lt-mul_right g (omega (arith, h.holds))
 
 pub small_held : (c d : Float) → T (fits binary64 c) → T (fits binary64 d) → T (finite c) → T (finite d)
     → whole 0 ≼ exactly d ⊟ exactly c → exactly d ⊟ exactly c ≺ over 1 (2 ^ 1021) → Held (exactly d ⊟ exactly c)
+small_held nan d f g p q h b = elim p [ ]
+small_held (inf _) d f g p q h b = elim p [ ]
+small_held (fin t n e) nan f g p q h b = elim q [ ]
+small_held (fin t n e) (inf _) f g p q h b = elim q [ ]
 small_held (fin t n e) (fin s m k) f g p q h b =
     let x = value_in_units binary64 s m k g in
     let y = value_in_units binary64 t n e f in

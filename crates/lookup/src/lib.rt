@@ -1,4 +1,6 @@
 // The pixel at a point between the cells of a lens table. It is ours: the Rust's works in f32, with other bits.
+#![tactic(auto)]
+
 ghost use Rattle.std.specs.Prelude.{◌≡◌, ◌+◌, ◌*◌, ◌<◌, length, ◌==◌};
 ghost use Rattle.lens.specs.Distorted.{told_pixel};
 ghost use Rattle.region.specs.Size.{Sized};
@@ -10,7 +12,7 @@ use region::Region;
 
 // Where an index lies, across or down: the cell of its whole part, that cell's neighbour, and how far it is from the
 // one to the other.
-#[derive(Drop)]
+#[derive(Clone, Copy)]
 struct Spot {
     first: usize,
     second: usize,

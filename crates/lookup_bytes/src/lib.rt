@@ -1,4 +1,6 @@
 // The lookup in a table, over bytes: the region as 32 bytes, the pixel in a buffer that the caller lends.
+#![tactic(auto)]
+
 ghost use Rattle.std.specs.Prelude.{◌≡◌};
 ghost use Rattle.given.specs.Given.{given};
 ghost use Rattle.lookup_bytes.specs.Lookup.{lookup_bytes};

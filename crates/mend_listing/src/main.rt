@@ -2,6 +2,8 @@
 // the listing's lines still give is kept, the rest is filled from a fresh build, and what was filled or differs is told
 // behind the listing. Or one line says why the camera file has no table. A listing may be of any length: it is read
 // once, a piece at a time. What can't be read is said on standard error, and then nothing is printed.
+#![tactic(auto)]
+
 use lens::Refusal;
 use libc::{STDERR_FILENO, STDOUT_FILENO};
 use mending::{LINE, MAP, OUTPUT};

@@ -28,7 +28,7 @@ use Rattle.mending.specs.Fed.{Fed, fed, feed_byte, feed, feed_pieces}
 pub fed_on : (width height : ℕ) (s : Fed) (t r : List ℕ) → feed width height s (t ++ r) ≡ feed width height (feed width height s t) r
 unfolding feed
 fed_on width height s [] r = refl
-fed_on width height s (b ∷ t) r = fed_on width height _ t r
+fed_on width height s (b ∷ t) r = fed_on width height (feed_byte width height s b) t r
 
 pub fed_each : (width height : ℕ) (s : Fed) (pieces : List (List ℕ)) → feed_pieces width height s pieces ≡ feed width height s (joined pieces)
 unfolding feed_pieces joined feed

@@ -1,4 +1,6 @@
 // A damaged listing mended: what its lines still give is kept, what they do not is filled from a fresh build.
+#![tactic(auto)]
+
 ghost use Rattle.std.specs.Prelude.{◌≡◌, ◌+◌, ◌*◌, ◌<◌, ◌≤◌, ◌^◌, length};
 ghost use Rattle.std.proofs.Math.Option.{none};
 ghost use Rattle.io.specs.Counts.{IsPrefixLen};
@@ -30,7 +32,7 @@ pub const LINE: usize = 64;
 pub const OUTPUT: usize = 212992;
 
 // What is told of a cell: its line, whether it was filled, whether what was given differs.
-#[derive(Drop)]
+#[derive(Clone, Copy)]
 enum Kind {
     Line,
     Filled,

@@ -39,6 +39,8 @@ rounds_itself (fin s m e) f t = record {
   is = sym (rounding_held binary64 s m e f);
   value = ≈-refl (signed s (over (m * up e) (down e)));
 }
+rounds_itself nan f t = elim t [ ]
+rounds_itself (inf _) f t = elim t [ ]
 
 turned_back : (x : Float) → neg (neg x) ≡ x
 unfolding neg
@@ -205,3 +207,5 @@ below_one (fin s m e) f t h =
     let is = value x s n (2 ^ 1074) u.value in
     let X = signed_proper s (over_proper n (2 ^ 1074) (pow_pos 1074)) in
     ≈-≼ X is (signed_below s u.digits u.zeros u.few (≼-≺-trans X (≈→≼ (≈-sym is)) h))
+below_one nan f t h = elim t [ ]
+below_one (inf _) f t h = elim t [ ]

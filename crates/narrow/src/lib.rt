@@ -1,5 +1,7 @@
 // The f32 nearest to an f64, by f64 operations that round where an f32 ends. The last of them gives a number that an
 // f32 holds, so that the cast loses nothing.
+#![tactic(auto)]
+
 ghost use Rattle.std.specs.Prelude.{◌≡◌};
 ghost use Rattle.narrow.specs.Narrow.{narrowed};
 

@@ -1,4 +1,6 @@
 // A function of one number that may refuse, over bytes: the tangent, its answer in a buffer that the caller lends.
+#![tactic(auto)]
+
 ghost use Rattle.std.specs.Prelude.{◌≡◌};
 ghost use Rattle.arctan.specs.Owed.{slope_number, Tangent};
 ghost use Rattle.arctan.specs.Tangent.{tangent};
@@ -9,7 +11,7 @@ use arctan::Slope;
 use lens::Refusal;
 
 // What the tangent tells: 0 and the slope, or 10 and zero.
-#[derive(Drop)]
+#[derive(Clone, Copy)]
 struct ToldSlope {
     number: u8,
     slope: f64,

@@ -1,5 +1,7 @@
 // A list of observations as C has it: an array of records of 40 bytes. Any bytes are a list, if they are of whole
 // records.
+#![tactic(auto)]
+
 ghost use Rattle.std.specs.Prelude.{◌≡◌, ◌+◌, ◌*◌, ◌%◌, ◌≤◌, eqb, length};
 ghost use Rattle.little_endian.specs.Bytes.{put};
 ghost use Rattle.given.specs.Given.{given, code};

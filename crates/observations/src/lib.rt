@@ -1,5 +1,7 @@
 // A list of observations, undistorted by one camera. The camera is judged once, and then each record by itself: a
 // refused record does not stop the next.
+#![tactic(auto)]
+
 ghost use Rattle.std.specs.Prelude.{◌≡◌};
 ghost use Rattle.lens.specs.Undistorted.{told};
 ghost use Rattle.observations.specs.Observations.{refusal_of, rounds, beside, found, seen, listed, observe_all};
@@ -8,7 +10,7 @@ use camera::Camera;
 use lens::{Pixel, Point, Refusal, Undistorted};
 
 // A pixel, and what undistort makes of it: number 0 with its answer and flag, or a refusal's number with zeros and no.
-#[derive(Drop)]
+#[derive(Clone, Copy)]
 pub struct Observation {
     pub pixel: Pixel,
     pub answer: Point,

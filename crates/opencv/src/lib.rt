@@ -1,6 +1,8 @@
 // A camera of ours as OpenCV's camera matrix and list of coefficients, and back: the text of the one in, the text of
 // the other out, or one line that says which refusal. The numbers are bit patterns all the way: none is worked out, and
 // so the bits that come out are those that went in.
+#![tactic(auto)]
+
 ghost use Rattle.std.specs.Prelude.{◌≡◌, ◌≤◌, length, drop};
 ghost use Rattle.io.specs.Counts.{IsPrefixLen};
 ghost use Rattle.lens.specs.Judgement.{verdict};
@@ -25,7 +27,7 @@ pub const OUTPUT: usize = 303;
 const ONE: u64 = 0x3ff0_0000_0000_0000;
 
 // A camera's numbers as bit patterns, by the names that both sides have for them.
-#[derive(Drop)]
+#[derive(Clone, Copy)]
 pub struct Twelve {
     pub fx: u64,
     pub fy: u64,

@@ -9,11 +9,11 @@ use borrow.Author.Tests.{lt-ltb, le-ltb}
 use lib.ListN.{length, get_or, take, drop, length-drop, get_or-eq_default}
 use lib.Seq.{take_all, take-take, drop-drop}
 use Rattle.decimal.specs.Text.{tab, newline, same}
-use Rattle.hex.specs.Hex.{after, is_bits, bits_of}
-use Rattle.hex.specs.declared.Bits.{Bits}
+use Rattle.hexadecimal.specs.Hex.{after, is_bits, bits_of}
+use Rattle.hexadecimal.specs.declared.Bits.{Bits}
 use Rattle.params_line.specs.Params.{field, fielded, patterns, many, is_line, params_of}
 
--- what `hex::after` finds in a part of at most 17 bytes
+-- what `hexadecimal::after` finds in a part of at most 17 bytes
 pub in_chunk : (chunk : List ℕ) → length chunk ≤ 17 → after (tab ∷ []) chunk ≡ field chunk
 in_chunk chunk h = ap (after (tab ∷ [])) (sym (take_all 17 chunk h))
 

@@ -12,7 +12,7 @@ use lib.Seq.{drop-cons}
 use Rattle.io.specs.Digits.{last_digits, IsDigitCount}
 use Rattle.decimal.specs.Text.{tab, newline}
 use Rattle.decimal.proofs.Digits.{length_digits}
-use Rattle.hex.proofs.Written.{hex_places}
+use Rattle.hexadecimal.proofs.Written.{hex_places}
 use Rattle.put_text.specs.Placed.{Written, written, with_text, placed}
 use Rattle.put_text.proofs.Putting.{is_placed, not_placed}
 use Rattle.put_text.proofs.Whole.{as_long, two_texts}

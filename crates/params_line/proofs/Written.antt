@@ -12,11 +12,11 @@ use Rattle.io.specs.Digits.{last_digits}
 use Rattle.decimal.specs.Text.{tab, newline, all, same}
 use Rattle.decimal.proofs.Bytes.{and_left, and_right, both, same_self, same_true}
 use Rattle.decimal.proofs.Digits.{length_digits}
-use Rattle.hex.specs.Hex.{spelled, after, is_bits, bits_of}
-use Rattle.hex.specs.declared.Bits.{Bits}
-use Rattle.hex.specs.declared.Bits.TheVariants.{Of, None}
-use Rattle.hex.proofs.Laws.{written_spelled, spelled_written, spelled_short, after_rest}
-use Rattle.hex.proofs.Written.{none_of}
+use Rattle.hexadecimal.specs.Hex.{spelled, after, is_bits, bits_of}
+use Rattle.hexadecimal.specs.declared.Bits.{Bits}
+use Rattle.hexadecimal.specs.declared.Bits.TheVariants.{Of, None}
+use Rattle.hexadecimal.proofs.Laws.{written_spelled, spelled_written, spelled_short, after_rest}
+use Rattle.hexadecimal.proofs.Written.{none_of}
 use Rattle.params_line.specs.Params.{pattern, fields, word_line, field, fielded, patterns, many, is_line, params_of}
 use Rattle.params_line.proofs.Params.{params_length}
 

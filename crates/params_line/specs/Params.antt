@@ -4,8 +4,8 @@ use Rattle.std.specs.Prelude.{Bool, ◌&&◌, List, [], ◌∷◌, ◌++◌, ℕ
 use Rattle.io.specs.Digits.{last_digits}
 use Rattle.exact.specs.F64.{f64}
 use Rattle.decimal.specs.Text.{tab, newline, same}
-use Rattle.hex.specs.Hex.{after, is_bits, bits_of}
-use Rattle.hex.specs.declared.Bits.{Bits}
+use Rattle.hexadecimal.specs.Hex.{after, is_bits, bits_of}
+use Rattle.hexadecimal.specs.declared.Bits.{Bits}
 
 -- `params`
 abbrev pub params_word : List ℕ

@@ -1,13 +1,15 @@
 // A line of bit patterns behind a word of six letters, as the second line of a camera file is, whose word is `params`:
 // read, and written. Reading makes no list of patterns: the k-th one stands at a fixed place.
+#![tactic(auto)]
+
 ghost use Rattle.std.specs.Prelude.{◌≡◌, ◌+◌, ◌*◌, ◌/◌, ◌≤◌, ◌<◌, ◌∷◌, leb, length, get_or};
 ghost use Rattle.io.specs.Digits.{last_digits};
 ghost use Rattle.put_text.specs.Placed.{written, with_text, placed};
 ghost use Rattle.decimal.specs.Text.{tab};
-ghost use Rattle.hex.specs.Hex.{is_bits};
+ghost use Rattle.hexadecimal.specs.Hex.{is_bits};
 ghost use Rattle.params_line.specs.Params.{fields, word_line, field, fielded, many, is_line, params_of, at};
 
-use hex::Bits;
+use hexadecimal::Bits;
 
 // The line's word has six letters, whichever it is; a field after it is a tab and 16 digits.
 const WORD: usize = 6;
@@ -19,7 +21,7 @@ fn is_field(chunk: &[u8]) -> bool
     requires { length chunk.now ≤ 17 }
     ensures { result ≡ is_bits (field chunk.now) }
 {
-    let bits = hex::after(b"\t", chunk);
+    let bits = hexadecimal::after(b"\t", chunk);
     match bits {
         Bits::Of(_) => true,
         Bits::None => false,
@@ -77,7 +79,7 @@ fn field_at(line: &[u8], k: usize) -> u64
 {
     let start = k * FIELD + WORD;
     let end = start + FIELD;
-    let bits = hex::after(b"\t", &line[start..end]);
+    let bits = hexadecimal::after(b"\t", &line[start..end]);
     match bits {
         Bits::Of(pattern) => pattern,
         Bits::None => 0,

@@ -1,10 +1,12 @@
 // What programs share beside the kit's io: the first bytes of a buffer, and the cases that a program which only tests
 // reads from standard input, part by part. A part is four bytes that tell its length, the least first, and so many
 // bytes.
+#![tactic(auto)]
+
 ghost use Rattle.std.specs.Prelude.{cond, ◌≡◌, ltb, length};
 ghost use Rattle.io.specs.Counts.{IsPrefixLen};
 
-use libc::STDIN_FILENO;
+const STDIN_FILENO: i32 = 0;
 
 // n, where buf has so many bytes, else 0. `&buf[..n]` then needs no proof.
 pub fn held(n: usize, buf: &[u8]) -> usize

@@ -1,5 +1,7 @@
 // What the table printer writes for an input, whatever the input: a camera file's table, or one line that says which
 // refusal. The table is built by a function of its own, for whoever wants it and not its listing.
+#![tactic(auto)]
+
 ghost use Rattle.std.specs.Prelude.{◌≡◌, ◌++◌, ◌*◌, ◌≤◌, length, take, drop};
 ghost use Rattle.region.specs.Size.{Sized};
 ghost use Rattle.io.specs.Counts.{IsPrefixLen};
@@ -26,7 +28,7 @@ pub const NUMBERS: usize = 8192;
 pub const OUTPUT: usize = 139264;
 
 // What a build answers: a table, whose numbers are the first 2·w·h of the room, or a refusal.
-#[derive(Drop)]
+#[derive(Clone, Copy)]
 pub enum Built {
     Table {
         width: usize,

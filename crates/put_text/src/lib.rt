@@ -1,4 +1,6 @@
 // Text put into a buffer that the caller lends: whole where it fits, else not at all.
+#![tactic(auto)]
+
 ghost use Rattle.std.specs.Prelude.{◌≡◌, ◌+◌, ◌≤◌, length};
 ghost use Rattle.put_text.specs.Placed.{written, with_text, placed};
 

@@ -1,5 +1,7 @@
 // The box that a table covers on the z=1 plane, its size in cells and how far apart their points lie: what building a
 // table and reading one share.
+#![tactic(auto)]
+
 ghost use Rattle.std.specs.Prelude.{◌≡◌, ◌-◌};
 ghost use Rattle.lens.specs.Finite.{all_finite};
 ghost use Rattle.lens.specs.Judgement.{verdict};
@@ -14,7 +16,7 @@ pub const LEAST: usize = 2;
 pub const MOST: usize = 4096;
 
 // A box on the z=1 plane: lower and upper x are left and right, lower and upper y top and bottom.
-#[derive(Drop)]
+#[derive(Clone, Copy)]
 pub struct Region {
     pub left: f64,
     pub top: f64,
@@ -23,7 +25,7 @@ pub struct Region {
 }
 
 // How far apart two cells' points are, across and down.
-#[derive(Drop)]
+#[derive(Clone, Copy)]
 pub struct Increments(pub f64, pub f64);
 
 // A count as an f64. One that a table has is cast: rounding two halves, as a larger one needs, costs three times as

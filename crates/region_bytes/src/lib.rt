@@ -1,5 +1,7 @@
 // A box as 32 bytes: left, top, right and bottom, one f64 after the other. A job has two, a lookup from C is handed
 // one.
+#![tactic(auto)]
+
 ghost use Rattle.std.specs.Prelude.{◌≡◌};
 ghost use Rattle.little_endian.specs.Bytes.{floats, put};
 ghost use Rattle.region.specs.Region.{four};

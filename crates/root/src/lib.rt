@@ -4,6 +4,8 @@
 // n has 53 digits. The first is 1, and the other 52 are found one by one, as in finding a root by
 // hand: a digit is 1 where the square then still fits. What the digits' square leaves of n says at
 // the end whether the root lies nearer to the next number.
+#![tactic(auto)]
+
 ghost use Rattle.std.specs.Prelude.{◌≡◌, ◌+◌, ◌*◌, ◌/◌, ◌^◌, ◌<◌};
 ghost use Rattle.exact.specs.F64.{f64};
 ghost use Rattle.root.specs.Root.{root};
@@ -16,7 +18,7 @@ const LEAD: u64 = 0x10_0000_0000_0000;
 
 // A root on its way. `twice` is two times the digits found so far, and `rest` is what their square
 // leaves of n, counted in steps of the last digit's weight, so that both stay below 2^56.
-#[derive(Drop)]
+#[derive(Clone, Copy)]
 pub struct Partial {
     pub rest: u64,
     pub twice: u64,
@@ -24,7 +26,7 @@ pub struct Partial {
 
 // A number above zero: its significand, less the leading digit, and the power of two that stands
 // beside the significand with 52 zeros after it.
-#[derive(Drop)]
+#[derive(Clone, Copy)]
 pub struct Scaled {
     pub tail: u64,
     pub power: u64,

@@ -5,6 +5,8 @@
 // Where a number on the way is NaN or infinite, the point is done again by brown_conrady. One test behind the work is
 // enough: a sum, a difference or a product with such a number is such a number. No bound is needed beside it: while
 // every number here is finite, those that only brown_conrady works out are ones, zeros and copies of these.
+#![tactic(auto)]
+
 ghost use Rattle.std.specs.Prelude.{◌≡◌, ◌<◌};
 ghost use Rattle.brown_conrady.specs.BrownConrady.{limit};
 ghost use Rattle.short_brown_conrady.specs.ShortBrownConrady.{no_quotient, distortion, distort, slopes_at, dx_distort_x, f_xy, step_from, pass, newton, undistort};
@@ -58,7 +60,7 @@ pub fn distort(params: BrownConradyParams, point: Point) -> Pixel
 }
 
 // The derivatives of distortion, u and v by x and y.
-#[derive(Drop)]
+#[derive(Clone, Copy)]
 struct Slopes {
     ux: f64,
     uy: f64,
@@ -117,7 +119,7 @@ fn f_xy(params: BrownConradyParams, distorted: Point, xy: Point) -> Offset
 }
 
 // Newton's step, and the determinant that it divides by.
-#[derive(Drop)]
+#[derive(Clone, Copy)]
 struct Step {
     by: Offset,
     det: f64,
@@ -141,7 +143,7 @@ fn step_from(params: BrownConradyParams, distorted: Point, xy: Point) -> Step
 }
 
 // Newton's search, and what is tested of its last pass: the determinant and the step's squared norm, added.
-#[derive(Drop)]
+#[derive(Clone, Copy)]
 struct Tracked {
     search: Search,
     last: f64,

@@ -1,5 +1,7 @@
 // The border of the image, a sample at a time: the edges of the points found, and behind the last sample the table's
 // region.
+#![tactic(auto)]
+
 ghost use Rattle.std.specs.Prelude.{◌≡◌, not, ◌&&◌, ◌+◌, ◌-◌, ◌*◌, ◌^◌, ◌≤◌, ◌<◌, min};
 ghost use Rattle.turns.specs.Turns.{turn, met};
 ghost use Rattle.border.specs.Border.{samples};
@@ -11,14 +13,14 @@ use lens::{Judgement, Refusal, Settled, Undistorted};
 use plans::Progress;
 
 // What a border unit makes of a progress.
-#[derive(Drop)]
+#[derive(Clone, Copy)]
 enum Swept {
     To(Progress),
     Refused(Refusal),
 }
 
 // Where a run of border units stopped, and what refused the next one if anything did.
-#[derive(Drop)]
+#[derive(Clone, Copy)]
 pub struct Stop {
     pub at: Progress,
     pub refusal: Judgement,

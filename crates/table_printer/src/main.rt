@@ -1,5 +1,9 @@
 // The table printer: a camera file in, the listing of its table out, or one line that says which refusal.
-use libc::{STDIN_FILENO, STDOUT_FILENO};
+#![tactic(auto)]
+
+const STDIN_FILENO: i32 = 0;
+
+const STDOUT_FILENO: i32 = 1;
 
 // One byte more than a camera file may have: a longer one is seen to be longer and refused, not cut.
 const INPUT: usize = 4097;

@@ -6,14 +6,19 @@
 // bit pattern. Its first two fields are written again with a tab and a verdict: `within`, `outside`,
 // `nan` or `refused`. A line that is not of that form is answered by `bad`. The last line says how many
 // were answered.
+#![tactic(auto)]
+
 ghost use Rattle.std.specs.Prelude.{◌<◌, ◌≤◌, length};
 
 use arctan::Slope;
-use hex::Bits;
-use libc::{STDIN_FILENO, STDOUT_FILENO};
+use hexadecimal::Bits;
+
+const STDIN_FILENO: i32 = 0;
+
+const STDOUT_FILENO: i32 = 1;
 
 // A question by its bit patterns: the argument, and the least and the largest answer.
-#[derive(Drop)]
+#[derive(Clone, Copy)]
 struct Question {
     argument: u64,
     low: u64,
@@ -21,14 +26,14 @@ struct Question {
 }
 
 // What a line asks, if it asks anything.
-#[derive(Drop)]
+#[derive(Clone, Copy)]
 enum Asks {
     Of(Question),
     Nothing,
 }
 
 // What became of a question.
-#[derive(Drop)]
+#[derive(Clone, Copy)]
 enum Verdict {
     Within,
     Outside,
@@ -44,13 +49,13 @@ fn asked(word: &[u8], line: &[u8]) -> Asks {
     }
     let low_at = n - 34;
     let high_at = n - 17;
-    let Bits::Of(argument) = hex::after(word, &line[0..low_at]) else {
+    let Bits::Of(argument) = hexadecimal::after(word, &line[0..low_at]) else {
         return Asks::Nothing;
     };
-    let Bits::Of(low) = hex::after(b"\t", &line[low_at..high_at]) else {
+    let Bits::Of(low) = hexadecimal::after(b"\t", &line[low_at..high_at]) else {
         return Asks::Nothing;
     };
-    let Bits::Of(high) = hex::after(b"\t", &line[high_at..]) else {
+    let Bits::Of(high) = hexadecimal::after(b"\t", &line[high_at..]) else {
         return Asks::Nothing;
     };
     Asks::Of(Question {

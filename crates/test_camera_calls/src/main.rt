@@ -20,9 +20,13 @@
 // before. Where a refused call changed a byte, or another one a byte that was not lent, the line has `touched`. A
 // line that starts with # is a heading, written as it is; any other is answered by `bad`. The last line says how
 // many there were.
+#![tactic(auto)]
+
 ghost use Rattle.std.specs.Prelude.{◌≤◌};
 
-use libc::{STDIN_FILENO, STDOUT_FILENO};
+const STDIN_FILENO: i32 = 0;
+
+const STDOUT_FILENO: i32 = 1;
 
 // The fields of a line, and its bytes: a field has 16 digits, and a tab or the line's end after them.
 const FIELDS: usize = 22;
@@ -50,7 +54,7 @@ const FILL: u8 = 0xa5;
 const NO_CALL: u8 = 255;
 
 // What a call is given beside its numbers. The bytes that are lent start at one of all.
-#[derive(Drop)]
+#[derive(Clone, Copy)]
 struct Call {
     model: u8,
     handed: usize,
@@ -278,7 +282,7 @@ fn answer_line(line: &[u8; LINE], lent: &mut [u8; LENT]) {
     let mut numbers: [u64; FIELDS] = [0; FIELDS];
     if line[0] == b'#' {
         say(line);
-    } else if hex::fields(line, &mut numbers) {
+    } else if hexadecimal::fields(line, &mut numbers) {
         answer_question(&numbers, lent);
     } else {
         refuse();

@@ -20,9 +20,13 @@
 // line for each bit of the bytes lent, from the lowest of the first byte on: one turn with that bit flipped and no
 // other; and then a line with how many there were. A line that starts with # is a heading, written as it is; any other
 // is answered by `bad`.
+#![tactic(auto)]
+
 ghost use Rattle.std.specs.Prelude.{◌≤◌, ◌<◌};
 
-use libc::{STDIN_FILENO, STDOUT_FILENO};
+const STDIN_FILENO: i32 = 0;
+
+const STDOUT_FILENO: i32 = 1;
 
 // The fields of a line, and its bytes: a field has 16 digits, and a tab or the line's end after them.
 const FIELDS: usize = 12;
@@ -434,7 +438,7 @@ fn answer_line(
     let mut numbers: [u64; FIELDS] = [0; FIELDS];
     if line[0] == b'#' {
         say(line);
-    } else if hex::fields(line, &mut numbers) {
+    } else if hexadecimal::fields(line, &mut numbers) {
         answer_question(&numbers, read, lent, table, table16);
     } else {
         say(b"bad\n");

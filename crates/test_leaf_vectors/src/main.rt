@@ -6,10 +6,16 @@
 // digits of an f64's bit pattern. It is written again with a tab and the answer's bit pattern; a number
 // of thirty-seconds is written as an f64, or as `too far`. A line that is not of that form is answered
 // by `bad`. The last line says how many were answered.
+#![tactic(auto)]
+
 ghost use Rattle.std.specs.Prelude.{◌<◌, ◌≤◌, length};
 
-use hex::Bits;
-use libc::{STDIN_FILENO, STDOUT_FILENO};
+use hexadecimal::Bits;
+
+const STDIN_FILENO: i32 = 0;
+
+const STDOUT_FILENO: i32 = 1;
+
 use thirty_seconds::Multiple;
 
 // Writes the question's line again, with its answer in width digits.
@@ -51,11 +57,11 @@ fn answer_thirty_seconds(line: &[u8], bits: u64) {
 
 // Answers one line, given without its end.
 fn answer(line: &[u8]) {
-    if let Bits::Of(bits) = hex::after(b"root\t", line) {
+    if let Bits::Of(bits) = hexadecimal::after(b"root\t", line) {
         say(line, root_of(bits), 16);
-    } else if let Bits::Of(bits) = hex::after(b"narrow\t", line) {
+    } else if let Bits::Of(bits) = hexadecimal::after(b"narrow\t", line) {
         say(line, narrowed(bits), 8);
-    } else if let Bits::Of(bits) = hex::after(b"thirty_seconds\t", line) {
+    } else if let Bits::Of(bits) = hexadecimal::after(b"thirty_seconds\t", line) {
         answer_thirty_seconds(line, bits);
     } else {
         refuse();

@@ -5,8 +5,12 @@
 // A case is some parts: the line to write above its answer, the camera file, and the listing, which is mended at once.
 // Or that is empty, and the pieces follow that the listing is handed over in, and then an empty one. What a part is
 // stands in crates/parts.
+#![tactic(auto)]
+
 use lens::Refusal;
-use libc::STDOUT_FILENO;
+
+const STDOUT_FILENO: i32 = 1;
+
 use mending::{LINE, MAP, OUTPUT};
 use printer::{Built, NUMBERS};
 use region::Region;

@@ -7,10 +7,16 @@
 // and 24 numbers that are f32s, of which the table has as many as it has places. The answer is 0, u and v with tabs
 // between, or the refusal's number. A line that is not of that form, or has more than 24 places, is answered by
 // `bad`. The last line says how many were answered.
+#![tactic(auto)]
+
 ghost use Rattle.std.specs.Prelude.{◌≡◌, length};
 
 use lens::{Distorted, Point};
-use libc::{STDIN_FILENO, STDOUT_FILENO};
+
+const STDIN_FILENO: i32 = 0;
+
+const STDOUT_FILENO: i32 = 1;
+
 use region::Region;
 
 // The fields of a line, and its bytes: a field has 16 digits, and a tab or the line's end after them.
@@ -97,7 +103,7 @@ fn answer_question(q: &[u64; FIELDS]) {
 // Answers one line.
 fn answer(line: &[u8; LINE]) {
     let mut numbers: [u64; FIELDS] = [0; FIELDS];
-    if hex::fields(line, &mut numbers) {
+    if hexadecimal::fields(line, &mut numbers) {
         answer_question(&numbers);
     } else {
         refuse();

@@ -13,12 +13,18 @@
 // bits is written as an f32: 41800000, which is 16, where none was written.
 // A line that is not of that form, or asks for more cells than there is room for, is answered by `bad`.
 // The last line says how many were answered.
+#![tactic(auto)]
+
 ghost use Rattle.std.specs.Prelude.{◌≡◌, ◌≤◌, length};
 
 use distortion_table::{Status, Turned};
 use job::{Job, Started};
 use lens::Refusal;
-use libc::{STDIN_FILENO, STDOUT_FILENO};
+
+const STDIN_FILENO: i32 = 0;
+
+const STDOUT_FILENO: i32 = 1;
+
 use region::Region;
 
 // The fields of a line, and its bytes: a field has 16 digits, and a tab or the line's end after them.
@@ -47,7 +53,7 @@ const BEFORE: f32 = 0.5;
 const BEFORE16: i16 = 16;
 
 // The record after a turn, and whether another turn follows.
-#[derive(Drop)]
+#[derive(Clone, Copy)]
 struct Stepped {
     more: bool,
     job: Job,
@@ -331,7 +337,7 @@ fn answer_numbers(q: &[u64; FIELDS]) {
 // Answers one line.
 fn answer(line: &[u8; LINE]) {
     let mut numbers: [u64; FIELDS] = [0; FIELDS];
-    if hex::fields(line, &mut numbers) {
+    if hexadecimal::fields(line, &mut numbers) {
         answer_numbers(&numbers);
     } else {
         refuse();

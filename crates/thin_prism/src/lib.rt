@@ -1,6 +1,8 @@
 // OpenCV's twelve-coefficient model, bc12: Brown-Conrady, and a thin prism that shifts what it gives. The Rust has no
 // such model, so the order of operations is ours: specs/ThinPrism.antt has it. Everything that isn't the prism's is
 // bc's. None refuses: what isn't finite is for the camera to judge.
+#![tactic(auto)]
+
 ghost use Rattle.std.specs.Prelude.{◌≡◌};
 ghost use Rattle.thin_prism.specs.ThinPrism.{distortion, distort, prism_slopes_at, dx_distort_x, dx_distort_params, f_xy, step_from, newton, undistort};
 
@@ -9,7 +11,7 @@ use lens::{Jacobian, Pixel, Point, Settled};
 
 // The sixteen parameters: bc's twelve, then the prism's four. What goes with r² stands together, and what goes with r⁴,
 // so that the processor takes both coordinates' in one load; a file and C have s1, s2, s3, s4.
-#[derive(Drop)]
+#[derive(Clone, Copy)]
 pub struct ThinPrismParams {
     pub bc: BrownConradyParams,
     pub s1: f64,
@@ -42,7 +44,7 @@ pub fn distort(params: ThinPrismParams, point: Point) -> Pixel
 }
 
 // The derivatives of what the prism adds, by x and y.
-#[derive(Drop)]
+#[derive(Clone, Copy)]
 struct PrismSlopes {
     ux: f64,
     uy: f64,

@@ -80,6 +80,8 @@ nearest_32nd (fin s m e) n i = subst (Nearest (fin s m e)) (held_is s (closest (
 -- Every finite x has a nearest multiple, and only one number is its number.
 pub nearest_some : (x : Float) → T (finite x) → (n : ℤ) × Nearest x n
 nearest_some (fin s m e) t = (number s (closest (32 * (m * up e)) (down e)), rounded s m e)
+nearest_some nan t = elim t [ ]
+nearest_some (inf _) t = elim t [ ]
 
 pub nearest_one : {x : Float} {k n : ℤ} → Nearest x k → Nearest x n → k ≡ n
 nearest_one = only_one

@@ -1,9 +1,11 @@
 // A number of pixels counted in thirty-seconds, for cells of sixteen bits.
+#![tactic(auto)]
+
 ghost use Rattle.std.specs.Prelude.{◌≡◌};
 ghost use Rattle.thirty_seconds.specs.Multiple.{nearest_multiple};
 
 // Which multiple of 1/32 it is, or that sixteen bits don't hold its number.
-#[derive(Drop)]
+#[derive(Clone, Copy)]
 pub enum Multiple {
     Is(i16),
     TooFar,

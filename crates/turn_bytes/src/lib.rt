@@ -1,5 +1,7 @@
 // One turn of a table over bytes: the record, the table and the answer are lent by the caller. A call that is refused
 // before any unit writes nothing.
+#![tactic(auto)]
+
 ghost use Rattle.std.specs.Prelude.{◌≡◌, length};
 ghost use Rattle.lens.specs.Judgement.{verdict};
 ghost use Rattle.region.specs.Size.{Sized};
@@ -21,7 +23,7 @@ use lens::{Judgement, Refusal};
 use plans::Progress;
 
 // How a call starts: with a record, or refused with a number that isn't 0.
-#[derive(Drop)]
+#[derive(Clone, Copy)]
 enum Start {
     With(Job),
     Not(u8),

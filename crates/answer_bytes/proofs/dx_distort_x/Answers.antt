@@ -1,0 +1,17 @@
+-- `answer_bytes::dx_distort_x` meets its contract. Assumes nothing.
+use mathlib.Core.Path.{refl}
+use Rattle.answer_bytes.specs.Answer.{slopes, dx_distort_x_bytes}
+use Rattle.camera_bytes.specs.Reading.{read}
+use Rattle.camera_bytes.specs.declared.Asked.{Asked}
+use Rattle.answer_bytes.proofs.Entries.{slopes_finite}
+use Rattle.answer_bytes.proofs.Giving.{jacobian_call}
+use borrow.Author.Rules.{rules}
+use Rattle.answer_bytes.proofs.dx_distort_x.Goals as goal
+
+pub give_jacobian-requires : goal.give_jacobian-requires
+give_jacobian-requires c =
+    slopes_finite (read c.args.model c.args.params.now) record { 0 = c.args.x; 1 = c.args.y } c.slopes-told.ensures
+
+pub returns : goal.returns
+unfolding dx_distort_x_bytes
+returns c = jacobian_call (λ (a : Asked). slopes a record { 0 = c.args.x; 1 = c.args.y }) (read c.args.model c.args.params.now) _ _ _ _ c.give_jacobian.ensures c.slopes-told.ensures refl

@@ -1,0 +1,15 @@
+-- `brown_conrady::newton` meets its contract. The loop's invariant: the passes that are left from here lead where all of them lead from the start. The measure is how many are left. Assumes nothing.
+use mathlib.Core.Path.{◌≡◌, refl, sym, ap, ◌∙◌}
+use Prim.Native.Nat.{◌-◌}
+use native.Mathlib.Omega.{arith}
+use Rattle.lens.specs.Passes.{passes}
+use Rattle.lens.proofs.Passes.{ends_there, goes_on, none_left}
+use Rattle.brown_conrady.specs.BrownConrady.{step_from, pass, limit, ended, newton}
+use Rattle.brown_conrady.proofs.Steps.{updates, updated}
+use Rattle.brown_conrady.proofs.newton.Given as goal
+
+abbrev pub invariant-loop-at : goal.invariant-loop-at
+invariant-loop-at l = passes (pass l.params l.distorted) ended (limit - updates l.at) l.at ≡ newton l.params l.distorted
+
+abbrev pub decreases-loop-at : goal.decreases-loop-at
+decreases-loop-at l = limit - updates l.at

@@ -1,0 +1,16 @@
+-- `camera_bytes::numbers` meets its contract. The loop's invariant: so many numbers are the bytes'. Assumes nothing.
+use mathlib.Core.Path.{◌≡◌, refl, ◌∙◌}
+use Prim.Native.Nat.{◌-◌, ◌≤◌}
+use native.Mathlib.Omega.{arith}
+use borrow.Author.Rules.{rules}
+use lib.ListN.{length, length-set}
+use Rattle.camera.specs.Numbers.{most}
+use Rattle.camera_bytes.specs.Putting.{SameTo}
+use Rattle.camera_bytes.proofs.Patterns.{one_more}
+use Rattle.camera_bytes.proofs.numbers.Given as goal
+
+abbrev pub invariant-loop-i : goal.invariant-loop-i
+invariant-loop-i l = (l.i ≤ most) × (length l.n ≡ most) × SameTo l.i l.params l.n
+
+abbrev pub decreases-loop-i : goal.decreases-loop-i
+decreases-loop-i l = most - l.i

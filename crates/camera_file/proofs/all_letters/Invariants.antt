@@ -1,0 +1,16 @@
+-- `camera_file::all_letters` meets its contract. The loop's invariant: the bytes from i on decide. Assumes nothing.
+use mathlib.Core.Path.{◌≡◌, refl, ◌∙◌}
+use Prim.Native.Nat.{◌-◌, ◌≤◌}
+use native.Mathlib.Omega.{arith}
+use lib.ListN.{length, drop}
+use Rattle.decimal.specs.Text.{all}
+use Rattle.decimal.proofs.Bytes.{ends, goes_on, at_end}
+use Rattle.camera_file.specs.Text.{letter}
+use borrow.Author.Rules.{rules}
+use Rattle.camera_file.proofs.all_letters.Given as goal
+
+abbrev pub invariant-loop-i : goal.invariant-loop-i
+invariant-loop-i l = (l.i ≤ length l.field) × (all letter (drop l.i l.field) ≡ all letter l.field)
+
+abbrev pub decreases-loop-i : goal.decreases-loop-i
+decreases-loop-i l = length l.field - l.i

@@ -1,0 +1,21 @@
+-- `compare::line_end` meets its contract. Assumes nothing.
+use Prim.Native.Nat.{◌-◌}
+use borrow.Author.Rules.{rules}
+use lib.ListN.{length}
+use Rattle.compare.proofs.Ahead.{Passed, none_passed, one_passed, full, ended, all_passed}
+use Rattle.compare.proofs.line_end.Goals as goal
+
+pub loop-i-init : goal.loop-i-init
+loop-i-init c = none_passed _ _
+
+pub returns-then-i-room : goal.returns-then-i-room
+returns-then-i-room c = full _ _ _ c.loop-i.invariant c.if-i-room.true
+
+pub returns-then-text-i-eq10 : goal.returns-then-text-i-eq10
+returns-then-text-i-eq10 c = ended _ _ _ c.loop-i.invariant c.loop-i-test.true c.if-i-room.false c.if-text-i-eq10.true
+
+pub loop-i-preserved : goal.loop-i-preserved
+loop-i-preserved c = one_passed _ _ _ c.loop-i.invariant c.loop-i-test.true c.if-i-room.false c.if-text-i-eq10.false
+
+pub returns : goal.returns
+returns c = all_passed _ _ _ c.loop-i.invariant c.loop-i-test.false

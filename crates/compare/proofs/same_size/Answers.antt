@@ -1,0 +1,6 @@
+-- `compare::same_size` meets its contract. Assumes nothing.
+use borrow.Author.Rules.{rules}
+use Rattle.compare.proofs.same_size.Goals as goal
+
+pub returns-in-Cells : goal.returns-in-Cells
+returns-in-Cells c = simp c.in-Cells.is c.is_size.ensures

@@ -1,0 +1,22 @@
+-- `distortion_table::end` meets its contract. Assumes nothing.
+use mathlib.Core.Path.{sym, ap, ◌∙◌}
+use Prim.Native.Nat.{◌+◌}
+use native.Mathlib.Omega.{arith}
+use borrow.Author.Rules.{rules}
+use Rattle.lens.specs.declared.Judgement.{Judgement}
+use Rattle.plans.specs.Loops.{reached, after_run}
+use Rattle.sweep.specs.Sweep.{told_refusal}
+use Rattle.distortion_table.proofs.end.Goals as goal
+
+pub overflow_add-done : goal.overflow_add-done
+overflow_add-done c = omega (arith, c.requires)
+
+pub returns-in-Refused : goal.returns-in-Refused
+returns-in-Refused c =
+    let a = c.args in
+    (c.with_done-after.ensures, sym (ap (λ (j : Judgement). after_run (told_refusal j) (reached (a.run.at.done + a.filled.done) a.run.all)) c.in-Refused.is))
+
+pub returns-in-Taken : goal.returns-in-Taken
+returns-in-Taken c =
+    let a = c.args in
+    (c.with_done-after.ensures, c.reached-status.ensures ∙ sym (ap (λ (j : Judgement). after_run (told_refusal j) (reached (a.run.at.done + a.filled.done) a.run.all)) c.in-Taken.is))

@@ -1,0 +1,33 @@
+-- `engine::undistort` meets its contract: each call gives its definition's answer. Assumes nothing.
+use mathlib.Core.Logic.{inl, inr}
+use mathlib.Core.Path.{◌≡◌, sym, ap, ◌∙◌}
+use borrow.Author.Rules.{rules}
+use Rattle.lens.specs.Undistorted.{told}
+use Rattle.lens.specs.declared.Pixel.{Pixel}
+use Rattle.lens.specs.declared.Settled.{Settled}
+use Rattle.lens.specs.declared.Undistorted.{Undistorted}
+use Rattle.lens.specs.declared.Undistorted.TheVariants.{At}
+use Rattle.brown_conrady.specs.declared.BrownConradyParams.{BrownConradyParams}
+use Rattle.short_brown_conrady.specs.ShortBrownConrady as short
+use Rattle.camera.specs.Camera.{finite_point, undistort_judged}
+use Rattle.engine.specs.Engine.{undistort}
+use Rattle.engine.proofs.Others.{with_mark, without}
+use Rattle.engine.proofs.undistort.Goals as goal
+
+abbrev by_short : Pixel → BrownConradyParams → Undistorted
+by_short pixel params = finite_point (At (short.undistort params pixel))
+
+pub returns-in-BrownConrady : goal.returns-in-BrownConrady
+returns-in-BrownConrady c =
+    let m = c in
+    rw (m.in-BrownConrady.is, m.if-short.true) (ap told (c.finite.ensures ∙ ap (λ (s : Settled). finite_point (At s)) c.undistort.ensures))
+
+pub returns : goal.returns
+returns c =
+    let a = c.args in
+    let own = undistort_judged a.camera a.pixel in
+    let is : undistort a.camera a.short a.pixel ≡ own = elim c.if-short.branch [
+      | inl h ↦ with_mark (by_short a.pixel) own a.camera h.0.taken h.1.keys2
+      | inr h ↦ without (by_short a.pixel) own a.camera h.left
+    ] in
+    c.undistort_judged.ensures ∙ ap told (sym is)

@@ -1,0 +1,13 @@
+-- `job_bytes::known_mark` meets its contract. Assumes nothing.
+use Rattle.std.proofs.Common.{refl, rules, le-leb}
+use borrow.Author.Tests.{lt-leb}
+use Rattle.job_bytes.proofs.known_mark.Goals as goal
+
+pub returns-then-mark-le1 : goal.returns-then-mark-le1
+returns-then-mark-le1 c = rw (c.in-With.is, le-leb _ 1 c.if-mark-le1.true) refl
+
+pub returns-else-mark-le1 : goal.returns-else-mark-le1
+returns-else-mark-le1 c = rw (c.in-With.is, lt-leb _ 1 c.if-mark-le1.false) refl
+
+pub returns-in-Refused : goal.returns-in-Refused
+returns-in-Refused c = rw c.in-Refused.is refl

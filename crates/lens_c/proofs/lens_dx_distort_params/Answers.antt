@@ -1,0 +1,6 @@
+-- `lens_c::lens_dx_distort_params` meets its contract. Assumes nothing.
+use borrow.Author.Rules.{rules}
+use Rattle.lens_c.proofs.lens_dx_distort_params.Goals as goal
+
+pub returns : goal.returns
+returns c = c.dx_distort_params.ensures

@@ -1,0 +1,16 @@
+-- `listing_lines::count_line` meets its contract. Assumes nothing.
+use mathlib.Core.Path.{sym}
+use borrow.Author.Rules.{rules}
+use native.Mathlib.Omega.{arith}
+use lib.Seq.{length-take-le}
+use Rattle.put_text.proofs.Putting.{put_same}
+use Rattle.listing_lines.proofs.Lines.{count_made}
+use Rattle.listing_lines.proofs.count_line.Goals as goal
+
+pub slice_bounds-put-end : goal.slice_bounds-put-end
+slice_bounds-put-end c = sym (length-take-le _ _ (omega (arith, c.grow-end.ensures.long)))
+
+pub returns : goal.returns
+returns c =
+    put_same _ _ _ _ c.put.ensures
+    (count_made _ c.grow-word.ensures c.grow_decimal-first.ensures c.grow-end.ensures)

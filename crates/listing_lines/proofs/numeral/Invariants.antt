@@ -1,0 +1,12 @@
+-- `listing_lines::numeral` meets its contract. Assumes nothing.
+use Prim.Native.Nat.{◌-◌}
+use borrow.Author.Rules.{rules}
+use lib.ListN.{length}
+use Rattle.listing_lines.proofs.Passing.{Passed, none_passed, one_passed, all_passed}
+use Rattle.listing_lines.proofs.numeral.Given as goal
+
+abbrev pub invariant-loop-i : goal.invariant-loop-i
+invariant-loop-i l = Passed l.base l.field l.text l.left l.n l.i
+
+abbrev pub decreases-loop-i : goal.decreases-loop-i
+decreases-loop-i l = length l.text - l.i

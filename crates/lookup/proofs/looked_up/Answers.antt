@@ -1,0 +1,39 @@
+-- `lookup::looked_up` meets its contract. Assumes nothing.
+use Rattle.std.proofs.Common.{sym, refl, ap, ◌∙◌, ap₂, ⊎_elim, rules}
+use Rattle.lens.specs.Distorted.{finite_pixel}
+use Rattle.lens.proofs.Laws.{told_pixel_one_to_one}
+use Rattle.lookup.specs.Lookup.{pixel_at}
+use Rattle.lookup.proofs.Steps.{looked_up_so, inside_wide, inside_high, reaches}
+use Rattle.lookup.proofs.looked_up.Goals as goal
+
+pub returns-then-outside : goal.returns-then-outside
+returns-then-outside c =
+    ⊎_elim (λ w. looked_up_so _ _ _ _ _ (sym w.taken ∙ c.outside.ensures) refl refl)
+    (λ w. looked_up_so _ _ _ _ _ (sym w.0.left ∙ c.outside.ensures) (sym w.2.taken ∙ w.1.ensures) refl) c.then-outside.branch
+
+pub spot_of-requires : goal.spot_of-requires
+spot_of-requires c =
+    let p = c.requires in
+    inside_wide p.0 _ p.1 (sym c.outside.ensures ∙ c.if-outside.false)
+
+pub spot_of-requires-2 : goal.spot_of-requires-2
+spot_of-requires-2 c =
+    let p = c.requires in
+    inside_high p.0 _ p.2 (sym c.outside-else-outside.ensures ∙ c.if-outside-2.false)
+
+pub pixel_at-requires : goal.pixel_at-requires
+pixel_at-requires c =
+    let p = c.requires in
+    let i = inside_wide p.0 _ p.1 (sym c.outside.ensures ∙ c.if-outside.false) in
+    let j = inside_high p.0 _ p.2 (sym c.outside-else-outside.ensures ∙ c.if-outside-2.false) in
+    rw (c.spot_of-2.ensures, c.spot_of_lem.ensures) (reaches p.0 i j)
+
+pub returns : goal.returns
+returns c =
+    let a = c.args in
+    let at = c.pixel_at.result in
+    looked_up_so _ _ _ _ _
+    (sym c.if-outside.false ∙ c.outside.ensures)
+    (sym c.if-outside-2.false ∙ c.outside-else-outside.ensures)
+    (told_pixel_one_to_one c.finite_pixel.result (finite_pixel at) c.finite_pixel.ensures
+    ∙ ap finite_pixel (c.pixel_at.ensures ∙ ap₂ (pixel_at a.table.now a.width) c.spot_of_lem.ensures c.spot_of-2.ensures))

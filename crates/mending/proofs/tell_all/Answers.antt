@@ -1,0 +1,25 @@
+-- `mending::tell_all` meets its contract. The loop's invariant: what is put of the cells that are left is what is put
+-- of all. Assumes nothing.
+use Prim.Native.Nat.{◌-◌, ◌*◌}
+use borrow.Author.Rules.{rules}
+use lib.ListN.{length}
+use Rattle.put_text.specs.Placed.{written}
+use Rattle.mending.proofs.Telling.{Passed, none_passed, one_passed, all_passed}
+use Rattle.mending.proofs.tell_all.Goals as goal
+
+pub loop-k-init : goal.loop-k-init
+loop-k-init c = none_passed _ _ _ _ _
+
+pub loop-k-preserved : goal.loop-k-preserved
+loop-k-preserved c =
+    one_passed _ _ _ _ _ _ _ c.loop-k.invariant c.requires.some c.loop-k-test.true _ _ _
+    c.tell-next.ensures
+    c.to_bits32-a.ensures
+    c.to_bits32-b.ensures
+    c.tell-next.new.out
+
+pub shape_of-out : goal.shape_of-out
+shape_of-out c = c.loop-k.invariant.long
+
+pub returns : goal.returns
+returns c = all_passed _ _ _ _ _ _ _ c.loop-k.invariant c.loop-k-test.false

@@ -1,0 +1,15 @@
+-- `mending::tell_given` meets its contract. Assumes nothing.
+use borrow.Author.Rules.{rules}
+use Rattle.put_text.specs.Placed.{each_placed}
+use Rattle.mending.proofs.tell_given.Goals as goal
+
+pub returns-in-Line : goal.returns-in-Line
+unfolding each_placed
+returns-in-Line c = simp c.in-Line.is c.cell_text.ensures
+
+pub returns-in-Filled : goal.returns-in-Filled
+unfolding each_placed
+returns-in-Filled c = simp c.in-Filled.is
+
+pub returns-in-Differs : goal.returns-in-Differs
+returns-in-Differs c = simp c.in-Differs.is c.tell_differing.ensures

@@ -1,0 +1,13 @@
+-- `number_bytes::tangent` meets its contract. Assumes nothing.
+use mathlib.Core.Path.{ap, ap₂, ◌∙◌, subst}
+use Prim.Native.Nat.{ℕ}
+use lib.Ieee.{Float}
+use Rattle.arctan.specs.Owed.{slope_number, Tangent}
+use Rattle.arctan.specs.declared.Slope.{Slope}
+use Rattle.number_bytes.specs.Number.{give_slope, slope_value, tangent_bytes}
+use borrow.Author.Rules.{rules}
+use Rattle.number_bytes.proofs.tangent.Goals as goal
+
+pub returns : goal.returns
+unfolding tangent_bytes
+returns c = let lent = c.args.answer.now in let is = c.tangent.ensures in (c.give_slope.ensures ∙ ap₂ (λ (n : ℕ) (t : Float). give_slope n t lent) c.told_slope-told.ensures.0 c.told_slope-told.ensures.1 ∙ ap (λ (s : Slope). give_slope (slope_number s) (slope_value s) lent) is.0, subst (Tangent c.args.theta) is.0 is.1)

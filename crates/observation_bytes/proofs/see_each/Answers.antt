@@ -1,0 +1,30 @@
+-- `observation_bytes::see_each` meets its contract. The measure is how many records are left. Assumes nothing.
+use Prim.Native.Nat.{◌-◌}
+use native.Mathlib.Omega.{arith}
+use Rattle.lens.specs.declared.Pixel.{Pixel}
+use Rattle.camera.specs.declared.Camera.{Camera}
+use Rattle.observations.specs.Observations.{seen}
+use Rattle.observations.specs.declared.Observation.{Observation}
+use Rattle.observation_bytes.specs.Parts.{blank}
+use Rattle.observation_bytes.proofs.Pass.{Recordwise, none, as_long, next, all}
+use borrow.Author.Rules.{rules}
+use Rattle.observation_bytes.proofs.see_each.Invariants.{find}
+use Rattle.observation_bytes.proofs.see_each.Goals as goal
+
+pub loop-i-init : goal.loop-i-init
+loop-i-init c = none _ _ _ c.requires
+
+pub overflow_mul-i : goal.overflow_mul-i
+overflow_mul-i c = omega (arith, c.loop-i.invariant.room, c.loop-i-test.true)
+
+pub see-requires : goal.see-requires
+see-requires c = omega (arith, c.loop-i.invariant.room, c.loop-i-test.true, as_long _ _ _ _ _ c.loop-i.invariant)
+
+pub loop-i-preserved : goal.loop-i-preserved
+loop-i-preserved c = next _ _ _ _ _ c.loop-i.invariant c.loop-i-test.true _ c.see.ensures
+
+pub shape_of-list : goal.shape_of-list
+shape_of-list c = as_long _ _ _ _ _ c.loop-i.invariant
+
+pub returns : goal.returns
+returns c = all _ _ _ _ _ c.loop-i.invariant c.loop-i-test.false

@@ -1,0 +1,20 @@
+-- `observation_bytes::see_each` meets its contract. The measure is how many records are left. Assumes nothing.
+use Prim.Native.Nat.{◌-◌}
+use native.Mathlib.Omega.{arith}
+use Rattle.lens.specs.declared.Pixel.{Pixel}
+use Rattle.camera.specs.declared.Camera.{Camera}
+use Rattle.observations.specs.Observations.{seen}
+use Rattle.observations.specs.declared.Observation.{Observation}
+use Rattle.observation_bytes.specs.Parts.{blank}
+use Rattle.observation_bytes.proofs.Pass.{Recordwise, none, as_long, next, all}
+use borrow.Author.Rules.{rules}
+use Rattle.observation_bytes.proofs.see_each.Given as goal
+
+abbrev pub find : Camera → Pixel → Observation
+find camera pixel = seen camera (blank pixel)
+
+abbrev pub invariant-loop-i : goal.invariant-loop-i
+invariant-loop-i l = Recordwise (find l.camera) l.initial.list l.count l.list l.i
+
+abbrev pub decreases-loop-i : goal.decreases-loop-i
+decreases-loop-i l = l.count - l.i

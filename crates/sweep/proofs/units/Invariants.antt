@@ -1,0 +1,23 @@
+-- `sweep::units` meets its contract. The loop's invariant: the units left from here meet what all of them meet. Assumes nothing.
+use mathlib.Core.Path.{◌≡◌, refl, sym, ap, ◌∙◌}
+use Prim.Native.Nat.{ℕ, ◌+◌, ◌*◌, ◌^◌, ◌≤◌, ◌<◌}
+use native.Mathlib.Omega.{arith}
+use borrow.Author.Rules.{rules}
+use Rattle.lens.specs.Undistorted.{told}
+use Rattle.engine.specs.Engine.{undistort}
+use Rattle.engine.proofs.Laws.{most_updates}
+use Rattle.turns.specs.Turns.{turn, met}
+use Rattle.turns.proofs.Laws.{met_none, met_refused, met_done}
+use Rattle.border.specs.Border.{border_at}
+use Rattle.plans.specs.Plan.{swept}
+use Rattle.plans.proofs.AtBorder.{swept_counts}
+use Rattle.plans.proofs.Tallies.{at_most_one}
+use Rattle.sweep.specs.Sweep.{by_mark, told_swept}
+use Rattle.sweep.proofs.units.Given as goal
+
+abbrev pub invariant-loop-left : goal.invariant-loop-left
+invariant-loop-left l = (l.at.done + l.left ≡ l.initial.at.done + l.initial.left) × (l.left ≤ l.initial.left) × (l.at.updates + 50 * l.left < 2 ^ 32) × (l.at.unsettled + l.left < 2 ^ 32)
+    × (met (turn (swept (by_mark l.camera l.short l.width l.height l.strict)) l.left l.at) ≡ met (turn (swept (by_mark l.camera l.short l.width l.height l.strict)) l.initial.left l.initial.at))
+
+abbrev pub decreases-loop-left : goal.decreases-loop-left
+decreases-loop-left l = l.left

@@ -1,0 +1,6 @@
+-- `turn_bytes::verdict` meets its contract. Assumes nothing.
+use borrow.Author.Rules.{rules}
+use Rattle.turn_bytes.proofs.verdict.Goals as goal
+
+pub returns-in-Refused : goal.returns-in-Refused
+returns-in-Refused c = rw c.in-Refused.is c.number.ensures
