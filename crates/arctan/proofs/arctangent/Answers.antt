@@ -7,8 +7,11 @@ use Rattle.arctan.proofs.Near.{arctangent_near, when_below, when_not_below, when
 use Rattle.arctan.proofs.arctangent.Goals as goal
 
 -- what is the definition's is near the series
-both : (x r : Float) → T (fits binary64 x) → r ≡ arctangent x → (r ≡ arctangent x) × Arctangent x r
-both x r f e = (e, subst (λ (y : Float). Arctangent x y) (sym e) (arctangent_near x f))
+abbrev Both : Float → Float → Type 0
+Both x r = record { is : r ≡ arctangent x; near : Arctangent x r }
+
+both : (x r : Float) → T (fits binary64 x) → r ≡ arctangent x → Both x r
+both x r f e = record { is = e; near = subst (λ (y : Float). Arctangent x y) (sym e) (arctangent_near x f) }
 
 pub forward-requires : goal.forward-requires
 forward-requires c = minus_above c.args.x c.if-x.true

@@ -6,7 +6,7 @@ use Rattle.arctan.proofs.Counts.{counted_near}
 use Rattle.arctan.proofs.counted.Goals as goal
 
 pub truncating_f64_to_u64-requires : goal.truncating_f64_to_u64-requires
-truncating_f64_to_u64-requires c = let r = counted_near c.args.z (subst T (sym c.well_formed.0.1) tt) c.requires.number c.requires.low c.requires.high in (r.above, r.under)
+truncating_f64_to_u64-requires c = let r = counted_near c.args.z (subst T (sym c.well_formed.0.1) tt) c.requires.number c.requires.low c.requires.high in record { lower_bound = r.above; upper_bound = r.under }
 
 pub returns : goal.returns
 unfolding counted

@@ -1,5 +1,5 @@
 -- `arctan::high` meets its contract: each product of two halves fits, and so do the sums (proofs/Wide.antt). Assumes nothing.
-use Rattle.std.proofs.Common.{ℕ, ◌*◌, ◌/◌, ◌%◌, ◌^◌, ◌≤◌, arith}
+use Rattle.std.proofs.Common.{ℕ, ◌*◌, ◌/◌, ◌%◌, ◌^◌, ◌<◌, ◌≤◌, arith}
 use Rattle.arctan.proofs.Wide.{fits, upper}
 use Rattle.arctan.proofs.high.Goals as goal
 

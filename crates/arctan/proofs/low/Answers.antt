@@ -27,4 +27,4 @@ pub overflow_mul-a0 : goal.overflow_mul-a0
 overflow_mul-a0 c = omega (arith, small c.requires)
 
 pub returns : goal.returns
-returns c = c.wrapping_add_u64.ensures ∙ lower c.args.a c.args.b
+returns c = c.wrapping_add_u64.ensures.value ∙ lower c.args.a c.args.b

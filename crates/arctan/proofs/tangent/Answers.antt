@@ -12,8 +12,11 @@ use Rattle.arctan.proofs.Answers.{number_between, between, tangent_near}
 use Rattle.arctan.proofs.tangent.Goals as goal
 
 -- what is the definition's owes what it owes
-both : (theta : Float) (r : Slope) → T (fits binary64 theta) → r ≡ tangent theta → (r ≡ tangent theta) × Tangent theta r
-both theta r f e = (e, subst (λ (s : Slope). Tangent theta s) (sym e) (tangent_near theta f))
+abbrev Both : Float → Slope → Type 0
+Both theta r = record { is : r ≡ tangent theta; near : Tangent theta r }
+
+both : (theta : Float) (r : Slope) → T (fits binary64 theta) → r ≡ tangent theta → Both theta r
+both theta r f e = record { is = e; near = subst (λ (s : Slope). Tangent theta s) (sym e) (tangent_near theta f) }
 
 -- the tests are the size's
 below : (x y : Float) {b : Bool} → x ≡ y → lt x tiny ≡ b → lt y tiny ≡ b

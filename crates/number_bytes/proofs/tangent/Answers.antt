@@ -10,4 +10,4 @@ use Rattle.number_bytes.proofs.tangent.Goals as goal
 
 pub returns : goal.returns
 unfolding tangent_bytes
-returns c = let lent = c.args.answer.now in let is = c.tangent.ensures in (c.give_slope.ensures ∙ ap₂ (λ (n : ℕ) (t : Float). give_slope n t lent) c.told_slope-told.ensures.0 c.told_slope-told.ensures.1 ∙ ap (λ (s : Slope). give_slope (slope_number s) (slope_value s) lent) is.0, subst (Tangent c.args.theta) is.0 is.1)
+returns c = let lent = c.args.answer.now in let is = c.tangent.ensures in record { is = c.give_slope.ensures ∙ ap₂ (λ (n : ℕ) (t : Float). give_slope n t lent) c.told_slope-told.ensures.0 c.told_slope-told.ensures.1 ∙ ap (λ (s : Slope). give_slope (slope_number s) (slope_value s) lent) is.is; near = subst (Tangent c.args.theta) is.is is.near }

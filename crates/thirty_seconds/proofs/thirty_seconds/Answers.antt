@@ -11,8 +11,6 @@ use Rattle.exact.specs.F64.{◌⊕◌}
 use Rattle.thirty_seconds.specs.declared.Multiple.TheVariants.{Is}
 use Rattle.thirty_seconds.proofs.Shifted.{shift}
 use Rattle.thirty_seconds.proofs.Answers.{Found, found, too_low, too_high}
-use Rattle.thirty_seconds.proofs.thirty_seconds.Reads as reads
-use Rattle.thirty_seconds.proofs.thirty_seconds.Lts as lts
 use Rattle.thirty_seconds.proofs.thirty_seconds.Goals as goal
 
 -- the pattern read as signed, less the shift's, is the number; and 64 bits hold it, and 16
@@ -26,28 +24,30 @@ module _ {x : Float} (f : Found x) where
   narrow : SFits w16 f.n
   narrow = record { sfits = f.small }
 
--- both tests passed
-at : (c : lts.Then2 reads.Pre reads.Post) → Found c.before.before.args.x
-at c = found c.before.before.args.x c.before.if1.true c.if2.true
-
+-- where both tests passed the number is found
 pub float_to_bits-pattern : goal.float_to_bits-pattern
-float_to_bits-pattern c = (at c).number
+float_to_bits-pattern c = (found c.args.x c.if-x.true c.if-x-2.true).number
 
 pub overflow_cast-pattern : goal.overflow_cast-pattern
-overflow_cast-pattern c = record { sfits = (at c).bits }
+overflow_cast-pattern c = record { sfits = (found c.args.x c.if-x.true c.if-x-2.true).bits }
 
 pub overflow_sub-number : goal.overflow_sub-number
-overflow_sub-number c = subst (SFits w64) (sym (read (at c))) (wide (at c))
+overflow_sub-number c =
+    let f = found c.args.x c.if-x.true c.if-x-2.true in
+    subst (SFits w64) (sym (read f)) (wide f)
 
 pub overflow_cast-number : goal.overflow_cast-number
-overflow_cast-number c = subst (SFits w16) (sym (ap (λ (z : ℤ). to_z w64 (of_z w64 z)) (read (at c)) ∙ to_z-of_z w64 (at c).n (wide (at c)))) (narrow (at c))
+overflow_cast-number c =
+    let f = found c.args.x c.if-x.true c.if-x-2.true in
+    subst (SFits w16) (sym (ap (λ (z : ℤ). to_z w64 (of_z w64 z)) (read f) ∙ to_z-of_z w64 f.n (wide f))) (narrow f)
 
 pub returns-then-x-2 : goal.returns-then-x-2
 returns-then-x-2 c =
-    ap (λ (z : ℤ). Is (to_z w16 (of_z w16 (to_z w64 (of_z w64 z))))) (read (at c))
-    ∙ ap (λ (z : ℤ). Is (to_z w16 (of_z w16 z))) (to_z-of_z w64 (at c).n (wide (at c)))
-    ∙ ap Is (to_z-of_z w16 (at c).n (narrow (at c)))
-    ∙ sym (at c).is
+    let f = found c.args.x c.if-x.true c.if-x-2.true in
+    ap (λ (z : ℤ). Is (to_z w16 (of_z w16 (to_z w64 (of_z w64 z))))) (read f)
+    ∙ ap (λ (z : ℤ). Is (to_z w16 (of_z w16 z))) (to_z-of_z w64 f.n (wide f))
+    ∙ ap Is (to_z-of_z w16 f.n (narrow f))
+    ∙ sym f.is
 
 pub returns-else-x-2 : goal.returns-else-x-2
 returns-else-x-2 c = too_high c.args.x c.if-x-2.false
