@@ -22,13 +22,13 @@ pub returns-then-v-height : goal.returns-then-v-height
 returns-then-v-height c = rows_passed _ _ _ _ _ _ _ _ c.loop-i.invariant c.loop-i-test.true c.if-v-height.true
 
 pub shape_of-out-then-behind-next : goal.shape_of-out-then-behind-next
-shape_of-out-then-behind-next c = c.cell_line-behind.new.out ∙ c.loop-i.invariant.long
+shape_of-out-then-behind-next c = c.cell_line-behind.auto.out ∙ c.loop-i.invariant.long
 
 pub returns-then-behind-next : goal.returns-then-behind-next
 returns-then-behind-next c = no_room _ _ _ _ _ _ _ _ c.loop-i.invariant c.loop-i-test.true c.if-v-height.false _ _ c.cell_line-behind.ensures c.if-behind-next.true
 
 pub loop-i-preserved : goal.loop-i-preserved
-loop-i-preserved c = one_passed _ _ _ _ _ _ _ _ c.loop-i.invariant c.loop-i-test.true c.if-v-height.false _ _ c.cell_line-behind.ensures _ _ c.cell_line-behind.new.out c.if-behind-next.false c.across-u.ensures c.down-v.ensures
+loop-i-preserved c = one_passed _ _ _ _ _ _ _ _ c.loop-i.invariant c.loop-i-test.true c.if-v-height.false _ _ c.cell_line-behind.ensures _ _ c.cell_line-behind.auto.out c.if-behind-next.false c.across-u.ensures c.down-v.ensures
 
 pub shape_of-out : goal.shape_of-out
 shape_of-out c = c.loop-i.invariant.long

@@ -10,7 +10,7 @@ pub returns : goal.returns
 returns c =
     field_grown _ _ _ _ _ _ _ _ _
     c.grow-next.ensures
-    c.put.new.out
+    c.put.auto.out
     c.requires
     (fewest_short _ _ 20 (omega arith) (omega arith) c.decimal-k.ensures.len)
     (c.decimal-k.ensures.digits ∙ decimal_is _ _ c.decimal-k.ensures.len)

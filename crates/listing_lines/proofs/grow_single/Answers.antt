@@ -9,5 +9,5 @@ use Rattle.listing_lines.proofs.grow_single.Goals as goal
 
 pub returns : goal.returns
 returns c =
-    let g = field_grown _ _ _ _ _ _ _ _ _ c.grow-next.ensures c.put.new.out c.requires (hex_short 8 _ _ (omega arith) (omega arith) c.hex-k.ensures.len) (c.hex-k.ensures.digits ∙ hex_is 8 _ _ (omega arith) c.hex-k.ensures.len) c.put.ensures in
-    (g, nine _ g)
+    let g = field_grown _ _ _ _ _ _ _ _ _ c.grow-next.ensures c.put.auto.out c.requires (hex_short 8 _ _ (omega arith) (omega arith) c.hex-k.ensures.len) (c.hex-k.ensures.digits ∙ hex_is 8 _ _ (omega arith) c.hex-k.ensures.len) c.put.ensures in
+    record { grown = g; upper_bound = nine _ g }

@@ -14,7 +14,7 @@ pub slice_bounds-feed-end-2 : goal.slice_bounds-feed-end-2
 slice_bounds-feed-end-2 c = sym (length-replicate {A = ℕ} 64 0)
 
 pub slice_bounds-write_mended-end : goal.slice_bounds-write_mended-end
-slice_bounds-write_mended-end c = sym (c.feed.new.map ∙ length-replicate {A = ℕ} 12288 0)
+slice_bounds-write_mended-end c = sym (c.feed.auto.map ∙ length-replicate {A = ℕ} 12288 0)
 
 pub returns : goal.returns
 returns c =
@@ -28,6 +28,6 @@ returns c =
     c.feed.ensures
     (omega arith)
     (omega arith)
-    (c.feed.new.map ∙ length-replicate {A = ℕ} 12288 0)
+    (c.feed.auto.map ∙ length-replicate {A = ℕ} 12288 0)
     (omega (arith, c.requires.1.0, c.requires.0.1))
     c.requires.1.1

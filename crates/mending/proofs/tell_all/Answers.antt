@@ -16,7 +16,7 @@ loop-k-preserved c =
     c.tell-next.ensures
     c.to_bits32-a.ensures
     c.to_bits32-b.ensures
-    c.tell-next.new.out
+    c.tell-next.auto.out
 
 pub shape_of-out : goal.shape_of-out
 shape_of-out c = c.loop-k.invariant.long
