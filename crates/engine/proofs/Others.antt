@@ -1,24 +1,20 @@
--- The camera's own way: without the mark, and of a camera that isn't bc, by the tag that a match tells. Assumes nothing.
+-- The camera's own way: without the mark, and of a camera that isn't bc. Assumes nothing.
 use mathlib.Core.Path.{◌≡◌, refl, ap, ◌∙◌}
 use mathlib.Core.Bool.{Bool, true, false, cond}
-use mathlib.Core.List.{[], ◌∷◌}
-use denote.Enum.Declared.{tag_of}
-use types.Run.{OneOf, miss}
 use Rattle.brown_conrady.specs.declared.BrownConradyParams.{BrownConradyParams}
-use Rattle.camera.specs.contracts.Camera.{the_type}
 use Rattle.camera.specs.declared.Camera.{Camera}
 use Rattle.camera.specs.declared.Camera.TheVariants.{Affine, EnhancedUnified, KannalaBrandt, BrownConrady, ThinPrism}
 use Rattle.engine.specs.Engine.{for_bc}
 
-pub any_other : {A : Type 0} (bc : BrownConradyParams → A) (other : A) (camera : Camera) → OneOf (0 ∷ 1 ∷ 2 ∷ 4 ∷ []) (tag_of the_type camera) → for_bc bc other camera ≡ other
+pub any_other : {A : Type 0} (bc : BrownConradyParams → A) (other : A) (camera : Camera) → ((p : BrownConradyParams) → camera ≡ BrownConrady p → ⊥) → for_bc bc other camera ≡ other
 any_other bc other (Affine p) h = refl
 any_other bc other (EnhancedUnified p) h = refl
 any_other bc other (KannalaBrandt p) h = refl
 any_other bc other (ThinPrism p) h = refl
-any_other bc other (BrownConrady p) h = absurd (miss (0 ∷ 1 ∷ 2 ∷ 4 ∷ []) 3 tt h)
+any_other bc other (BrownConrady p) h = absurd (h p refl)
 
 -- the mark is set and the camera isn't bc, or the mark isn't set
-pub with_mark : {A : Type 0} (bc : BrownConradyParams → A) (other : A) (camera : Camera) {mark : Bool} → mark ≡ true → OneOf (0 ∷ 1 ∷ 2 ∷ 4 ∷ []) (tag_of the_type camera) → cond mark (for_bc bc other camera) other ≡ other
+pub with_mark : {A : Type 0} (bc : BrownConradyParams → A) (other : A) (camera : Camera) {mark : Bool} → mark ≡ true → ((p : BrownConradyParams) → camera ≡ BrownConrady p → ⊥) → cond mark (for_bc bc other camera) other ≡ other
 with_mark bc other camera e h = ap (λ (b : Bool). cond b (for_bc bc other camera) other) e ∙ any_other bc other camera h
 
 pub without : {A : Type 0} (bc : BrownConradyParams → A) (other : A) (camera : Camera) {mark : Bool} → mark ≡ false → cond mark (for_bc bc other camera) other ≡ other

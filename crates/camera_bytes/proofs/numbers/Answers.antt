@@ -30,4 +30,4 @@ loop-i-preserved c =
     (omega arith, length-set l.n l.i _ ∙ l.invariant.1, one_more c.args.params.now l.n l.i (omega (arith, l.invariant.1)) c.float.ensures l.invariant.2)
 
 pub returns : goal.returns
-returns c = c.loop-i.invariant.2 k (omega (arith, h, c.loop-i-test.false))
+returns c = λ k h. c.loop-i.invariant.2 k (omega (arith, h, c.loop-i-test.false))

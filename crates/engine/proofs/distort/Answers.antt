@@ -1,7 +1,6 @@
 -- `engine::distort` meets its contract: each model's call gives its definition's pixel. Assumes nothing.
 use mathlib.Core.Path.{◌≡◌}
 use mathlib.Core.Bool.{Bool, true, false, cond}
-use borrow.Author.Rules.{rules}
 use Rattle.lens.specs.declared.Pixel.{Pixel}
 use Rattle.engine.proofs.distort.Goals as goal
 

@@ -1,7 +1,5 @@
 -- `engine::undistort` meets its contract: each call gives its definition's answer. Assumes nothing.
-use mathlib.Core.Logic.{inl, inr}
 use mathlib.Core.Path.{◌≡◌, sym, ap, ◌∙◌}
-use borrow.Author.Rules.{rules}
 use Rattle.lens.specs.Undistorted.{told}
 use Rattle.lens.specs.declared.Pixel.{Pixel}
 use Rattle.lens.specs.declared.Settled.{Settled}
@@ -13,6 +11,7 @@ use Rattle.camera.specs.Camera.{finite_point, undistort_judged}
 use Rattle.engine.specs.Engine.{undistort}
 use Rattle.engine.proofs.Others.{with_mark, without}
 use Rattle.engine.proofs.undistort.Goals as goal
+use Rattle.engine.proofs.undistort.Goals.{then-short+in_default, else-short}
 
 abbrev by_short : Pixel → BrownConradyParams → Undistorted
 by_short pixel params = finite_point (At (short.undistort params pixel))
@@ -27,7 +26,7 @@ returns c =
     let a = c.args in
     let own = undistort_judged a.camera a.pixel in
     let is : undistort a.camera a.short a.pixel ≡ own = elim c.if-short.branch [
-      | inl h ↦ with_mark (by_short a.pixel) own a.camera h.0.taken h.1.keys2
-      | inr h ↦ without (by_short a.pixel) own a.camera h.left
+      | then-short+in_default w ↦ with_mark (by_short a.pixel) own a.camera w.if-short.true w.in_default.not-BrownConrady
+      | else-short w ↦ without (by_short a.pixel) own a.camera w.if-short.false
     ] in
     c.undistort_judged.ensures ∙ ap told (sym is)
