@@ -1,5 +1,5 @@
 -- A cell of any kind is made from its point (`by_point`), and from the pixel that the cell holds as it is (`made`). Assumes nothing.
-use mathlib.Core.Path.{◌≡◌, refl, sym, ap, ◌∙◌}
+use mathlib.Core.Path.{◌≡◌, refl, ◌∙◌}
 use mathlib.Core.Bool.{Bool, true, false, cond, ◌&&◌}
 use Prim.Native.Nat.{ℕ}
 use lib.Ieee.Scale.{finite}

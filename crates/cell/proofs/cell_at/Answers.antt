@@ -1,6 +1,5 @@
 -- `cell::cell_at` meets its contract: the cell is made from its point (`by_point`). Assumes nothing.
 use mathlib.Core.Path.{refl, sym, ap, ◌∙◌}
-use borrow.Author.Rules.{rules}
 use Rattle.lens.specs.Distorted.{finite_pixel}
 use Rattle.lens.specs.declared.Pixel.{Pixel}
 use Rattle.engine.specs.Engine.{pixel_by}

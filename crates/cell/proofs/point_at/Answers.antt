@@ -1,7 +1,6 @@
 -- `cell::point_at` meets its contract: each call gives its definition's number. Assumes nothing.
 use mathlib.Core.Path.{◌≡◌, refl}
 use Prim.Native.Nat.{ℕ}
-use borrow.Author.Rules.{rules}
 use lib.Ieee.{Float}
 use Rattle.exact.specs.F64.{◌⊕◌, ◌⊗◌}
 use Rattle.lens.specs.declared.Point.{Point}

@@ -1,7 +1,6 @@
 -- `cell::refusal_of` meets its contract. Assumes nothing.
-use mathlib.Core.Path.{◌≡◌, sym, ap, ◌∙◌}
+use mathlib.Core.Path.{sym, ap, ◌∙◌}
 use mathlib.Core.Bool.{Bool, cond}
-use borrow.Author.Rules.{rules}
 use Rattle.lens.specs.declared.Refusal.{Refusal}
 use Rattle.lens.specs.declared.Refusal.TheVariants.{AnswerNotFinite}
 use Rattle.cell.proofs.refusal_of.Goals as goal
