@@ -5,7 +5,7 @@ use Rattle.lookup.proofs.Among.{cut}
 use Rattle.lookup.proofs.spot_of.Goals as goal
 
 pub truncating_f64_to_u64-first-requires : goal.truncating_f64_to_u64-first-requires
-truncating_f64_to_u64-first-requires c = let r = cut c.args.i c.args.cells c.requires in (r.above, r.under)
+truncating_f64_to_u64-first-requires c = let r = cut c.args.i c.args.cells c.requires in record { lower_bound = r.above; upper_bound = r.under }
 
 pub neighbour-requires : goal.neighbour-requires
 neighbour-requires c =

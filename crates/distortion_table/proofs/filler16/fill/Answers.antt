@@ -64,7 +64,7 @@ loop-i-preserved c =
     let p = c.next_place-place in
     one_filled c.loop-i.invariant c.loop-i-test.true _ _
     (sym c.cell_at16.ensures ∙ ap told16 c.in-Holds.is
-    ∙ sym (ap₂ numbers (to_z-of_z w16 c.in-Holds.a (record { sfits = c.known_told-in-Holds-1.given.0.1 })) (to_z-of_z w16 c.in-Holds.b (record { sfits = c.known_told-in-Holds-1.given.1.0.1 }))))
+    ∙ sym (ap₂ numbers (to_z-of_z w16 c.in-Holds.a (record { sfits = c.in-Holds.known_told-in-Holds-1-own.given.0.1 })) (to_z-of_z w16 c.in-Holds.b (record { sfits = c.in-Holds.known_told-in-Holds-1-own.given.1.0.1 }))))
     p.result.u p.result.v p.ensures.0 p.ensures.1
 
 pub returns : goal.returns
