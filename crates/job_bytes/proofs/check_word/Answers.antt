@@ -17,7 +17,7 @@ pub loop-i-smaller : goal.loop-i-smaller
 loop-i-smaller c = omega arith
 
 pub loop-i-preserved : goal.loop-i-preserved
-loop-i-preserved c = next_word _ _ _ _ _ c.loop-i.invariant (omega (arith, c.loop-i-test.true)) c.word.ensures c.wrapping_add_u64-sum.ensures
+loop-i-preserved c = next_word _ _ _ _ _ c.loop-i.invariant (omega (arith, c.loop-i-test.true)) c.word.ensures c.wrapping_add_u64-sum.ensures.value
 
 pub returns : goal.returns
 returns c = every_word _ _ _ c.loop-i.invariant (omega (arith, c.loop-i-test.false))
