@@ -1,12 +1,12 @@
 -- From 2 ^ 128 - 2 ^ 103 on the nearest f32 is the infinity, and so is the f64 times 2 ^ 925. Assumes nothing.
 use mathlib.Core.Path.{◌≡◌, refl, sym, ap, ◌∙◌, subst}
 use mathlib.Core.Bool.{Bool, true, false, not}
-use Prim.Native.Nat.{ℕ, ◌*◌, ◌^◌, ◌≤◌, ◌<◌}
+use Prim.Native.Nat.{ℕ, ◌*◌, ◌^◌, ◌≤◌}
 use native.Mathlib.Nat.{le_trans, mul-pos, mul-le-mul_right}
 use lib.IntN.{pos}
 use lib.Dec.{T, lit<, lit≤}
 use lib.Pow.{pow_pos}
-use lib.Ieee.{Float, inf, fin, binary32, binary64, round, mul, is_nan}
+use lib.Ieee.{Float, inf, fin, binary32, binary64, mul, is_nan}
 use lib.Ieee.Exact.{HasValue}
 use Rattle.exact.specs.F64.{◌⊗◌}
 use Rattle.exact.proofs.Laws.{rounding_infinite}

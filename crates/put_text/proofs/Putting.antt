@@ -1,15 +1,14 @@
 -- A text copied into a buffer byte by byte, and put where it fits. Assumes nothing.
-use mathlib.Core.Path.{◌≡◌, refl, sym, ap, ap₂, ◌∙◌}
+use mathlib.Core.Path.{◌≡◌, refl, sym, ap, ◌∙◌}
 use mathlib.Core.Bool.{Bool, true, false, cond}
-use mathlib.Core.List.{List, [], ◌∷◌, ◌++◌, append_assoc}
-use Prim.Native.Nat.{ℕ, suc, ◌+◌, ◌≤◌, ◌<◌}
-use native.Mathlib.Nat.{le_refl}
+use mathlib.Core.List.{List, ◌∷◌, ◌++◌}
+use Prim.Native.Nat.{ℕ, ◌+◌, ◌≤◌, ◌<◌}
 use native.Mathlib.Numerals.{add-one}
 use native.Mathlib.Omega.{arith}
 use borrow.Author.Tests.{le-leb, lt-leb}
 use lib.Dec.{leb}
-use lib.ListN.{length, take, drop, get_or, set, length-set, length-append, length-take}
-use lib.Seq.{paste, paste-zero, paste-suc, take-length, take_all, take_at, length-take-le}
+use lib.ListN.{length, take, drop, get_or, set, length-set}
+use lib.Seq.{paste, paste-zero, paste-suc, take-length}
 use Rattle.put_text.specs.Placed.{Written, written, with_text, placed, placed_all}
 
 -- ---- copying

@@ -1,12 +1,12 @@
 -- Texts that fit are put as one text. Assumes nothing.
 use mathlib.Core.Path.{◌≡◌, refl, sym, ap, ap₂, ◌∙◌}
 use mathlib.Core.List.{List, [], ◌∷◌, ◌++◌, append_assoc, append-nil}
-use Prim.Native.Nat.{ℕ, ◌+◌, ◌-◌, ◌≤◌, ◌<◌}
+use Prim.Native.Nat.{ℕ, ◌+◌, ◌≤◌}
 use native.Mathlib.Nat.{add-zero}
 use native.Mathlib.Omega.{arith}
 use borrow.Author.Tests.{le-leb}
 use lib.ListN.{length, take, drop, length-append, length-drop, take-append-drop}
-use lib.Seq.{take_at, drop_at, drop-drop, length-take-le, drop-append-le}
+use lib.Seq.{take_at, drop_at, drop-drop, length-take-le}
 use Rattle.put_text.specs.Placed.{Written, written, with_text, placed, placed_all, each_placed, joined}
 use Rattle.put_text.proofs.Putting.{is_placed}
 

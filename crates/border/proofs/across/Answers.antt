@@ -1,7 +1,6 @@
 -- `border::across` meets its contract. Assumes nothing.
 use mathlib.Core.Path.{refl}
 use borrow.Author.Tests.{ne_eqb}
-use borrow.Author.Rules.{rules}
 use Rattle.border.proofs.across.Goals as goal
 
 pub returns-then-n-eq0 : goal.returns-then-n-eq0

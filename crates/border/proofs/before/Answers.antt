@@ -1,6 +1,5 @@
 -- `border::before` meets its contract. Assumes nothing.
 use mathlib.Core.Path.{refl}
-use borrow.Author.Rules.{rules}
 use Rattle.border.proofs.before.Goals as goal
 
 pub returns : goal.returns

@@ -1,7 +1,6 @@
 -- `border::border_pixel` meets its contract. Assumes nothing.
 use mathlib.Core.Path.{sym}
 use native.Mathlib.Omega.{arith}
-use borrow.Author.Rules.{rules}
 use Rattle.border.proofs.Sides.{first_sides, other_sides, no_side}
 use Rattle.border.proofs.border_pixel.Goals as goal
 

@@ -1,7 +1,6 @@
 -- `border::edges_after` meets its contract. Assumes nothing.
 use mathlib.Core.Path.{refl}
 use borrow.Author.Tests.{ne_eqb}
-use borrow.Author.Rules.{rules}
 use Rattle.border.specs.Edges.{edges_after}
 use Rattle.border.proofs.edges_after.Goals as goal
 

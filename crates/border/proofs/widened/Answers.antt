@@ -1,6 +1,5 @@
 -- `border::widened` meets its contract. Assumes nothing.
 use mathlib.Core.Path.{refl}
-use borrow.Author.Rules.{rules}
 use Rattle.border.specs.Edges.{widened}
 use Rattle.border.proofs.widened.Goals as goal
 

@@ -1,6 +1,5 @@
 -- `decimal::number_in` meets its contract, test by test. Assumes nothing.
 use mathlib.Core.Path.{◌∙◌}
-use borrow.Author.Rules.{rules}
 use Rattle.decimal.proofs.Numbers.{number_read, number_zero, number_long, number_empty}
 use Rattle.decimal.proofs.number_in.Goals as goal
 

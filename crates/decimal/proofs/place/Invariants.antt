@@ -1,11 +1,8 @@
 -- `decimal::place` meets its contract. The loop's invariant: the first b stands i bytes after the first of what is left. Assumes nothing.
 use mathlib.Core.Path.{◌≡◌}
 use Prim.Native.Nat.{◌+◌, ◌-◌, ◌≤◌}
-use native.Mathlib.Omega.{arith}
 use lib.ListN.{length, drop}
 use Rattle.decimal.specs.Text.{place}
-use Rattle.decimal.proofs.Parts.{place_here, place_on, place_none}
-use borrow.Author.Rules.{rules}
 use Rattle.decimal.proofs.place.Given as goal
 
 abbrev pub invariant-loop-i : goal.invariant-loop-i

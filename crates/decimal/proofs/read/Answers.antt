@@ -1,11 +1,8 @@
 -- `decimal::read` meets its contract. The loop's invariant says of the bytes passed that they are digits, and what they are worth. Assumes nothing.
 use mathlib.Core.Bool.{not}
 use mathlib.Core.Path.{ap}
-use Prim.Native.Nat.{◌-◌}
 use native.Mathlib.Omega.{arith}
-use borrow.Author.Rules.{rules}
-use lib.ListN.{length}
-use Rattle.decimal.proofs.Numbers.{Passed, none_passed, small, no_digit, a_digit, one_passed, all_passed}
+use Rattle.decimal.proofs.Numbers.{none_passed, small, no_digit, a_digit, one_passed, all_passed}
 use Rattle.decimal.proofs.read.Goals as goal
 
 pub loop-i-init : goal.loop-i-init

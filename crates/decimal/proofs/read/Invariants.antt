@@ -1,9 +1,7 @@
 -- `decimal::read` meets its contract. The loop's invariant says of the bytes passed that they are digits, and what they are worth. Assumes nothing.
 use Prim.Native.Nat.{◌-◌}
-use native.Mathlib.Omega.{arith}
-use borrow.Author.Rules.{rules}
 use lib.ListN.{length}
-use Rattle.decimal.proofs.Numbers.{Passed, none_passed, small, no_digit, a_digit, one_passed, all_passed}
+use Rattle.decimal.proofs.Numbers.{Passed}
 use Rattle.decimal.proofs.read.Given as goal
 
 abbrev pub invariant-loop-i : goal.invariant-loop-i

@@ -2,7 +2,6 @@
 use mathlib.Core.Path.{ap, ◌∙◌}
 use lib.Ieee.{Float, eq}
 use lib.Ieee.Scale.{finite}
-use borrow.Author.Rules.{rules}
 use Rattle.exact.proofs.Marks.{mark_itself}
 use Rattle.exact.proofs.is_finite.Goals as goal
 

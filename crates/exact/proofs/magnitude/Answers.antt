@@ -1,7 +1,6 @@
 -- `exact::magnitude` meets its contract: one lemma for each of its three answers. Assumes nothing.
 use mathlib.Core.Path.{sym, ◌∙◌, subst}
 use lib.Dec.{T}
-use lib.Ieee.{binary64, fits}
 use Rattle.exact.proofs.Tests.{is_zero_lem, turned, zeroed, unturned}
 use Rattle.exact.proofs.magnitude.Goals as goal
 

@@ -1,5 +1,4 @@
 -- `exact::of_bits` meets its contract: a pattern above the infinity's, its sign aside, is a NaN's. Assumes nothing.
-use borrow.Author.Rules.{rules}
 use lib.Ieee.{of_bits, div}
 use Rattle.exact.proofs.Tests.{nan_pattern, number_pattern}
 use Rattle.exact.proofs.of_bits.Goals as goal

@@ -1,6 +1,5 @@
 -- `exact::to_bits` meets its contract: what differs from itself is the NaN. Assumes nothing.
 use mathlib.Core.Path.{ap}
-use borrow.Author.Rules.{rules}
 use lib.Ieee.{binary64, to_bits}
 use Rattle.exact.proofs.Tests.{no_nan, is_nan_lem}
 use Rattle.exact.proofs.to_bits.Goals as goal

@@ -1,7 +1,6 @@
 -- `hexadecimal::after` meets its contract. Assumes nothing.
 use mathlib.Core.Path.{sym, ◌∙◌}
 use mathlib.Core.Bool.{true≢false}
-use borrow.Author.Rules.{rules}
 use native.Mathlib.Omega.{arith}
 use lib.ListN.{length, length-take}
 use Rattle.hexadecimal.proofs.Word.{after_word, after_other, after_short}

@@ -1,5 +1,4 @@
 -- `hexadecimal::digit` meets its contract: the code's four tests are the definition's. Assumes nothing.
-use borrow.Author.Rules.{rules}
 use borrow.Author.Tests.{lt-ltb, le-ltb}
 use native.Mathlib.Omega.{arith}
 use Rattle.hexadecimal.specs.Hex.{digit}

@@ -1,5 +1,4 @@
 -- `hexadecimal::ends` meets its contract, by how much is left. Assumes nothing.
-use borrow.Author.Rules.{rules}
 use Rattle.hexadecimal.proofs.OneField.{ends_none, ends_last, ends_more}
 use Rattle.hexadecimal.proofs.ends.Goals as goal
 

@@ -1,6 +1,5 @@
 -- `hexadecimal::field` meets its contract. Assumes nothing.
 use mathlib.Core.Path.{◌∙◌}
-use borrow.Author.Rules.{rules}
 use Rattle.hexadecimal.proofs.OneField.{field_there, field_open, field_past}
 use Rattle.hexadecimal.proofs.field.Goals as goal
 

@@ -1,9 +1,8 @@
 -- `hexadecimal::fields` meets its contract. The loop's invariant says what the places hold once the fields that are left are read too; the measure is how many are left.
 -- Assumes nothing.
 use Prim.Native.Nat.{◌-◌}
-use borrow.Author.Rules.{rules}
 use lib.ListN.{length}
-use Rattle.hexadecimal.proofs.Filling.{Filled, none_filled, one_filled, all_filled, all_judged}
+use Rattle.hexadecimal.proofs.Filling.{Filled}
 use Rattle.hexadecimal.proofs.fields.Given as goal
 
 abbrev pub invariant-loop-i : goal.invariant-loop-i

@@ -1,9 +1,6 @@
 -- `hexadecimal::spelled` meets its contract. The loop's invariant says of the bytes passed what they spell; the measure is what is left of the text.
 -- Assumes nothing.
-use Prim.Native.Nat.{◌-◌}
-use borrow.Author.Rules.{rules}
-use lib.ListN.{length}
-use Rattle.hexadecimal.proofs.Reading.{Passed, none_passed, room, one_passed, all_passed, no_number}
+use Rattle.hexadecimal.proofs.Reading.{none_passed, room, one_passed, all_passed, no_number}
 use Rattle.hexadecimal.proofs.spelled.Goals as goal
 
 pub returns-then-text-ne16 : goal.returns-then-text-ne16

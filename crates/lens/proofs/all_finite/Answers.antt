@@ -1,6 +1,5 @@
 -- `lens::all_finite` meets its contract. Assumes nothing.
 use mathlib.Core.Path.{ap, ◌∙◌}
-use borrow.Author.Rules.{rules}
 use lib.Ieee.{Float, eq}
 use Rattle.exact.proofs.Marks.{mark_itself}
 use Rattle.lens.specs.Finite.{all_finite}

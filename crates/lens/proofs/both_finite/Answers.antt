@@ -1,10 +1,8 @@
 -- `lens::both_finite` meets its contract. Assumes nothing.
 use mathlib.Core.Path.{ap, ◌∙◌}
 use mathlib.Core.Bool.{◌&&◌}
-use borrow.Author.Rules.{rules}
 use lib.Ieee.{Float, eq}
 use lib.Ieee.Scale.{finite}
-use Rattle.exact.specs.F64.{◌⊕◌}
 use Rattle.exact.proofs.Marks.{marks_add, mark_itself}
 use Rattle.lens.proofs.both_finite.Goals as goal
 

@@ -1,7 +1,6 @@
 -- `lens::finite_pixel` meets its contract. Assumes nothing.
 use mathlib.Core.Path.{sym, ap, ◌∙◌}
 use mathlib.Core.Bool.{Bool, cond}
-use borrow.Author.Rules.{rules}
 use Rattle.lens.specs.Distorted.{ToldPixel, told_pixel}
 use Rattle.lens.specs.declared.Distorted.TheVariants.{At, Refused}
 use Rattle.lens.specs.declared.Pixel.{Pixel}

@@ -1,17 +1,11 @@
 -- `lens::marks` meets its contract. The loop's invariant: both sums are marks, and they and the numbers from i on decide. Assumes nothing.
-use mathlib.Core.Path.{◌≡◌, refl, sym, ap, ◌∙◌}
-use mathlib.Core.Bool.{Bool, true, false, ◌&&◌}
+use mathlib.Core.Path.{◌≡◌}
+use mathlib.Core.Bool.{Bool, ◌&&◌}
 use mathlib.Core.List.{List}
-use Prim.Native.Nat.{ℕ, ◌+◌, ◌-◌, ◌≤◌, ◌<◌}
-use native.Mathlib.Numerals.{add-one}
-use native.Mathlib.Omega.{arith}
-use borrow.Author.Rules.{rules}
-use lib.Ieee.{Float, nan}
-use lib.Ieee.Scale.{finite}
-use lib.ListN.{length, get_or, drop, drop_of_length-le}
-use lib.Seq.{drop-cons}
-use Rattle.exact.specs.F64.{◌⊕◌, mark}
-use Rattle.exact.proofs.Marks.{marks_add}
+use Prim.Native.Nat.{ℕ, ◌-◌, ◌≤◌}
+use lib.Ieee.{Float}
+use lib.ListN.{length, drop}
+use Rattle.exact.specs.F64.{mark}
 use Rattle.lens.specs.Finite.{all_finite}
 use Rattle.lens.proofs.marks.Given as goal
 

@@ -1,6 +1,5 @@
 -- `lens::number` meets its contract. Assumes nothing.
 use mathlib.Core.Path.{refl}
-use borrow.Author.Rules.{rules}
 use Rattle.lens.proofs.number.Goals as goal
 
 pub returns-in-UnknownModel : goal.returns-in-UnknownModel

@@ -1,5 +1,4 @@
 -- `lens::placed` meets its contract: the tests say in which of the two rows place i lies, or that it lies past them. Assumes nothing.
-use borrow.Author.Rules.{rules}
 use lib.Ieee.{nan}
 use Rattle.lens.specs.Constants.{zeros}
 use Rattle.lens.proofs.Rows.{in_top, in_bottom, past_both}

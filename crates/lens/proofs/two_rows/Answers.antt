@@ -1,13 +1,11 @@
 -- `lens::two_rows` meets its contract. The loop's invariant: the first i numbers are the definition's, and the list keeps its length. Assumes nothing.
-use Prim.Native.Nat.{◌≤◌, ◌-◌}
-use mathlib.Core.Path.{◌≡◌, refl, ap, ◌∙◌}
+use mathlib.Core.Path.{refl, ap, ◌∙◌}
 use mathlib.Core.List.{List, ◌++◌}
 use native.Mathlib.Numerals.{add-one}
 use native.Mathlib.Omega.{arith}
 use borrow.Author.Rules.{rules}
 use lib.Ieee.{Float}
-use lib.ListN.{length, take, length-set}
-use Rattle.lens.specs.Jacobian as spec
+use lib.ListN.{length, length-set}
 use Rattle.lens.proofs.Rows.{one_more, filled}
 use Rattle.lens.proofs.two_rows.Goals as goal
 

@@ -1,7 +1,6 @@
 -- `little_endian::byte` meets its contract. Assumes nothing.
 use mathlib.Core.Path.{sym}
 use lib.Seq.{get_or-drop}
-use borrow.Author.Rules.{rules}
 use Rattle.little_endian.proofs.byte.Goals as goal
 
 pub returns : goal.returns

@@ -1,7 +1,6 @@
 -- `little_endian::float` meets its contract. Assumes nothing.
 use mathlib.Core.Path.{ap, ◌∙◌}
 use Rattle.exact.specs.F64.{f64}
-use borrow.Author.Rules.{rules}
 use Rattle.little_endian.proofs.float.Goals as goal
 
 pub returns : goal.returns

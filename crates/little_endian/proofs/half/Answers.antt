@@ -5,7 +5,6 @@ use native.Mathlib.Nat.{pow-le-pow_right}
 use native.Mathlib.Omega.{arith}
 use lib.ListN.{length}
 use Rattle.little_endian.proofs.Reading.{taken, past}
-use borrow.Author.Rules.{rules}
 use Rattle.little_endian.proofs.half.Goals as goal
 
 pub overflow_cast-result-then-at-bytes : goal.overflow_cast-result-then-at-bytes

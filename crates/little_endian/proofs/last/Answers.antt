@@ -1,8 +1,7 @@
 -- `little_endian::last` meets its contract. The measure is how many bytes are left. Assumes nothing.
 use Prim.Native.Nat.{◌-◌}
 use native.Mathlib.Omega.{arith}
-use Rattle.little_endian.proofs.Reading.{Backwards, none_read, next_read, all_read, room}
-use borrow.Author.Rules.{rules}
+use Rattle.little_endian.proofs.Reading.{none_read, next_read, all_read, room}
 use Rattle.little_endian.proofs.last.Goals as goal
 
 pub loop-i-init : goal.loop-i-init

@@ -1,8 +1,5 @@
 -- `little_endian::last` meets its contract. The measure is how many bytes are left. Assumes nothing.
-use Prim.Native.Nat.{◌-◌}
-use native.Mathlib.Omega.{arith}
-use Rattle.little_endian.proofs.Reading.{Backwards, none_read, next_read, all_read, room}
-use borrow.Author.Rules.{rules}
+use Rattle.little_endian.proofs.Reading.{Backwards}
 use Rattle.little_endian.proofs.last.Given as goal
 
 abbrev pub invariant-loop-i : goal.invariant-loop-i

@@ -2,8 +2,7 @@
 use mathlib.Core.Path.{refl}
 use native.Mathlib.Omega.{arith}
 use Rattle.little_endian.specs.Bytes.{bytes}
-use Rattle.little_endian.proofs.Writing.{length_bytes, fitting, not_fitting, counted}
-use borrow.Author.Rules.{rules}
+use Rattle.little_endian.proofs.Writing.{length_bytes, not_fitting, counted}
 use Rattle.little_endian.proofs.put.Goals as goal
 
 pub returns-then-count-eq8 : goal.returns-then-count-eq8

@@ -3,7 +3,6 @@ use mathlib.Core.Path.{sym, ◌∙◌}
 use native.Mathlib.Omega.{arith}
 use Rattle.little_endian.specs.Bytes.{floats}
 use Rattle.little_endian.proofs.Writing.{length_floats, fitting, not_fitting}
-use borrow.Author.Rules.{rules}
 use Rattle.little_endian.proofs.put_floats.Goals as goal
 
 pub returns-then-numbers-out : goal.returns-then-numbers-out

@@ -3,7 +3,6 @@ use mathlib.Core.Path.{◌∙◌}
 use native.Mathlib.Omega.{arith}
 use lib.ListN.{drop}
 use Rattle.little_endian.proofs.Reading.{word_is, taken, past}
-use borrow.Author.Rules.{rules}
 use Rattle.little_endian.proofs.word.Goals as goal
 
 pub returns-then-bytes-at-ge8 : goal.returns-then-bytes-at-ge8

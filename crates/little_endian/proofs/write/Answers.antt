@@ -1,7 +1,6 @@
 -- `little_endian::write` meets its contract. The measure is how many bytes are left. Assumes nothing.
-use Prim.Native.Nat.{◌-◌}
 use native.Mathlib.Omega.{arith}
-use Rattle.little_endian.proofs.Writing.{Bytewise, no_byte, next_byte, every_byte}
+use Rattle.little_endian.proofs.Writing.{no_byte, next_byte, every_byte}
 use Rattle.little_endian.proofs.write.Goals as goal
 
 pub loop-i-init : goal.loop-i-init

@@ -1,6 +1,5 @@
 -- `little_endian::write_eight` meets its contract. Assumes nothing.
 use Rattle.little_endian.proofs.Writing.{eight_set}
-use borrow.Author.Rules.{rules}
 use Rattle.little_endian.proofs.write_eight.Goals as goal
 
 pub returns : goal.returns

@@ -1,9 +1,6 @@
 -- `little_endian::write_floats` meets its contract. The measure is how many numbers are left. Assumes nothing.
-use Prim.Native.Nat.{◌-◌}
 use native.Mathlib.Omega.{arith}
-use lib.ListN.{length}
-use Rattle.little_endian.proofs.Writing.{Floatwise, no_float, next_float, every_float}
-use borrow.Author.Rules.{rules}
+use Rattle.little_endian.proofs.Writing.{no_float, next_float, every_float}
 use Rattle.little_endian.proofs.write_floats.Goals as goal
 
 pub loop-i-init : goal.loop-i-init

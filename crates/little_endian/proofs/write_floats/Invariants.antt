@@ -1,9 +1,7 @@
 -- `little_endian::write_floats` meets its contract. The measure is how many numbers are left. Assumes nothing.
 use Prim.Native.Nat.{◌-◌}
-use native.Mathlib.Omega.{arith}
 use lib.ListN.{length}
-use Rattle.little_endian.proofs.Writing.{Floatwise, no_float, next_float, every_float}
-use borrow.Author.Rules.{rules}
+use Rattle.little_endian.proofs.Writing.{Floatwise}
 use Rattle.little_endian.proofs.write_floats.Given as goal
 
 abbrev pub invariant-loop-i : goal.invariant-loop-i

@@ -5,7 +5,6 @@ use Prim.Native.Nat.{ℕ, ◌+◌, ◌/◌, ◌%◌}
 use native.Mathlib.Omega.{arith}
 use lib.ListN.{length, set, length-set}
 use Rattle.little_endian.proofs.Writing.{four_set}
-use borrow.Author.Rules.{rules}
 use Rattle.little_endian.proofs.write_four.Goals as goal
 
 module _ (out : List ℕ) (at a b d : ℕ) where

@@ -1,7 +1,7 @@
 -- `narrow::narrow` meets its contract: each of its ways gives the nearest f32, by the tests that lead there. Assumes nothing.
 use mathlib.Core.Path.{sym, ap, subst}
 use lib.Dec.{T}
-use lib.Ieee.{binary64, fits, div, of_bits}
+use lib.Ieee.{div, of_bits}
 use Rattle.exact.proofs.Tests.{no_nan, is_nan_lem}
 use Rattle.narrow.specs.Narrow.{narrowed}
 use Rattle.narrow.proofs.Ways.{as_usual, as_past, as_small}

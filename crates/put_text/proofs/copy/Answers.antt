@@ -1,8 +1,6 @@
 -- `put_text::copy` meets its contract. The loop's invariant: the first i bytes are in place. The measure is what is left of the text. Assumes nothing.
-use Prim.Native.Nat.{◌-◌}
 use native.Mathlib.Omega.{arith}
-use lib.ListN.{length}
-use Rattle.put_text.proofs.Putting.{Copied, none_copied, one_copied, all_copied}
+use Rattle.put_text.proofs.Putting.{none_copied, one_copied, all_copied}
 use Rattle.put_text.proofs.copy.Goals as goal
 
 pub loop-i-init : goal.loop-i-init

@@ -1,8 +1,7 @@
 -- `put_text::copy` meets its contract. The loop's invariant: the first i bytes are in place. The measure is what is left of the text. Assumes nothing.
 use Prim.Native.Nat.{◌-◌}
-use native.Mathlib.Omega.{arith}
 use lib.ListN.{length}
-use Rattle.put_text.proofs.Putting.{Copied, none_copied, one_copied, all_copied}
+use Rattle.put_text.proofs.Putting.{Copied}
 use Rattle.put_text.proofs.copy.Given as goal
 
 abbrev pub invariant-loop-i : goal.invariant-loop-i

@@ -1,5 +1,4 @@
 -- `put_text::put` meets its contract: a text that does not fit is not copied. Assumes nothing.
-use borrow.Author.Rules.{rules}
 use native.Mathlib.Omega.{arith}
 use Rattle.put_text.proofs.Putting.{not_placed, copy_placed}
 use Rattle.put_text.proofs.put.Goals as goal

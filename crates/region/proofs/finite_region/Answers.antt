@@ -1,5 +1,4 @@
 -- `region::finite_region` meets its contract. Assumes nothing.
-use Rattle.std.proofs.Common.{rules}
 use Rattle.region.proofs.finite_region.Goals as goal
 
 pub returns : goal.returns

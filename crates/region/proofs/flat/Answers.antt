@@ -1,5 +1,5 @@
 -- `region::flat` meets its contract. Assumes nothing.
-use Rattle.std.proofs.Common.{refl, rules}
+use Rattle.std.proofs.Common.{refl}
 use Rattle.region.proofs.flat.Goals as goal
 
 pub returns-then-is_finite : goal.returns-then-is_finite

@@ -1,5 +1,5 @@
 -- `region::increments_of` meets its contract. Assumes nothing.
-use Rattle.std.proofs.Common.{refl, rules}
+use Rattle.std.proofs.Common.{refl}
 use Rattle.region.specs.Region.{increments}
 use Rattle.region.proofs.increments_of.Goals as goal
 

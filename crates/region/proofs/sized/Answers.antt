@@ -1,5 +1,5 @@
 -- `region::sized` meets its contract. Assumes nothing.
-use Rattle.std.proofs.Common.{◌≡◌, ℕ, Bool, ◌&&◌, sym, refl, ◌∙◌, rules}
+use Rattle.std.proofs.Common.{◌≡◌, ℕ, Bool, ◌&&◌, sym, refl, ◌∙◌}
 use Rattle.region.specs.Size.{within, sized}
 use Rattle.region.proofs.sized.Goals as goal
 

@@ -1,5 +1,5 @@
 -- `region::steps` meets its contract. Assumes nothing.
-use Rattle.std.proofs.Common.{refl, arith, rules}
+use Rattle.std.proofs.Common.{refl, arith}
 use Rattle.region.proofs.steps.Goals as goal
 
 pub returns-then-n-eq0 : goal.returns-then-n-eq0

@@ -1,5 +1,5 @@
 -- `region::wrong` meets its contract. Assumes nothing.
-use Rattle.std.proofs.Common.{◌≡◌, Bool, cond, ◌&&◌, ◌||◌, sym, refl, ◌∙◌, ⊎_elim, rules}
+use Rattle.std.proofs.Common.{◌≡◌, Bool, cond, ◌&&◌, ◌||◌, sym, refl, ◌∙◌}
 use lib.Ieee.Scale.{finite}
 use Rattle.lens.specs.Judgement.{verdict}
 use Rattle.lens.specs.declared.Judgement.TheVariants.{Taken, Refused}

@@ -2,10 +2,9 @@
 use mathlib.Core.Path.{◌≡◌, ap, ◌∙◌}
 use Prim.Native.Nat.{ℕ, ◌+◌, ◌*◌, ◌/◌, ◌%◌, ◌^◌, ◌<◌}
 use native.Mathlib.Omega.{arith}
-use borrow.Author.Rules.{rules}
 use lib.Ieee.{binary64, of_bits}
 use Rattle.exact.proofs.Tests.{number_pattern}
-use Rattle.root.proofs.Whole.{Result, result, root_is}
+use Rattle.root.proofs.Whole.{result, root_is}
 use Rattle.root.proofs.above_zero.Goals as goal
 
 -- the power has few digits, so none is shifted out

@@ -1,11 +1,7 @@
 -- `root::digits` meets its contract. The loop's invariant: the weight is 16 times a power of 256, and all digits down to it are found. The measure is the weight. Assumes nothing.
-use mathlib.Core.Path.{◌≡◌, refl, sym, ap, ◌∙◌, subst}
-use mathlib.Core.Logic.{◌⊎◌, inl, inr}
-use Prim.Native.Nat.{ℕ, zero, suc, ◌+◌, ◌*◌, ◌/◌, ◌^◌, ◌≤◌, ◌<◌}
-use native.Mathlib.Nat.{pow-suc, one-le-pow}
-use native.Mathlib.Omega.{arith}
-use lib.Dec.{lit≤}
-use Rattle.root.specs.Digits.{number, Found, Finer}
+use mathlib.Core.Path.{◌≡◌}
+use Prim.Native.Nat.{ℕ, ◌+◌, ◌*◌, ◌^◌}
+use Rattle.root.specs.Digits.{Finer}
 use Rattle.root.proofs.digits.Given as goal
 
 abbrev pub Weight : ℕ → Type 0

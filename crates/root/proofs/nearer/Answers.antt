@@ -1,7 +1,6 @@
 -- `root::nearer` meets its contract: its two answers are the two cases. Assumes nothing.
 use mathlib.Core.Path.{refl}
 use mathlib.Core.Logic.{inl, inr}
-use borrow.Author.Rules.{rules}
 use Rattle.root.proofs.nearer.Goals as goal
 
 pub returns-then-q-p : goal.returns-then-q-p

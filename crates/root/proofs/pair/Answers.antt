@@ -1,8 +1,7 @@
 -- `root::pair` meets its contract: one law for each of its two digits (proofs/Step.antt). Assumes nothing.
 use native.Mathlib.Omega.{arith}
-use borrow.Author.Rules.{rules}
 use Rattle.root.specs.Digits.{number}
-use Rattle.root.proofs.Step.{Half, first, second}
+use Rattle.root.proofs.Step.{first, second}
 use Rattle.root.proofs.pair.Goals as goal
 
 pub overflow_add-cost : goal.overflow_add-cost

@@ -1,7 +1,7 @@
 -- `root::root` meets its contract: one lemma of proofs/Signs.antt for each way through its tests. Assumes nothing.
 use mathlib.Core.Path.{sym, ap, ◌∙◌, subst}
 use lib.Dec.{T}
-use lib.Ieee.{binary64, fits, of_bits, div}
+use lib.Ieee.{binary64, of_bits, div}
 use lib.Ieee.Bits.{of_bits-to_bits}
 use Rattle.root.specs.Root.{root}
 use Rattle.root.proofs.Signs.{above_no_nan, above_bits, above_all, below, neither}

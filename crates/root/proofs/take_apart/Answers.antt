@@ -2,9 +2,8 @@
 use mathlib.Core.Path.{◌≡◌, refl, ap, ◌∙◌}
 use Prim.Native.Nat.{ℕ, ◌-◌, ◌*◌, ◌%◌, ◌^◌, ◌<◌}
 use native.Mathlib.Omega.{arith}
-use borrow.Author.Rules.{rules}
 use lib.Count.{count_leading_zeros}
-use Rattle.root.proofs.Apart.{Up, up_of, low, mid}
+use Rattle.root.proofs.Apart.{up_of, low, mid}
 use Rattle.root.proofs.take_apart.Goals as goal
 
 pub overflow_cast-zeros : goal.overflow_cast-zeros
