@@ -1,6 +1,5 @@
 -- `arctan::angle` meets its contract. Assumes nothing.
-use Rattle.std.proofs.Common.{ℕ, ◌^◌, ◌≤◌, T, sym, ap, ◌∙◌, subst, le_trans, rules}
-use lib.Ieee.{binary64, fits}
+use Rattle.std.proofs.Common.{ℕ, ◌^◌, ◌≤◌, T, sym, ap, ◌∙◌, subst, le_trans}
 use Rattle.arctan.specs.Whole.{series}
 use Rattle.arctan.specs.Arctangent.{counted}
 use Rattle.arctan.proofs.Counts.{counted_near}

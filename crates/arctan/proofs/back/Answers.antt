@@ -1,5 +1,5 @@
 -- `arctan::back` meets its contract. Assumes nothing.
-use Rattle.std.proofs.Common.{ap, rules}
+use Rattle.std.proofs.Common.{ap}
 use lib.Ieee.{Float}
 use Rattle.exact.specs.F64.{◌⊗◌}
 use Rattle.arctan.specs.Arctangent.{back, unit}

@@ -1,6 +1,5 @@
 -- `arctan::counted` meets its contract: what is counted is from 0 to 2 ^ 59, as the truncation asks. Assumes nothing.
 use Rattle.std.proofs.Common.{T, sym, subst}
-use lib.Ieee.{binary64, fits}
 use Rattle.arctan.specs.Arctangent.{counted}
 use Rattle.arctan.proofs.Counts.{counted_near}
 use Rattle.arctan.proofs.counted.Goals as goal

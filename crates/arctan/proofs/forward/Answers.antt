@@ -1,6 +1,5 @@
 -- `arctan::forward` meets its contract: each way through its tests is one case of the definition (proofs/Ways.antt). Assumes nothing.
-use Rattle.std.proofs.Common.{ℕ, ◌+◌, ◌-◌, T, sym, ap, ◌∙◌, subst, rules}
-use lib.Ieee.{binary64, fits}
+use Rattle.std.proofs.Common.{ℕ, ◌+◌, ◌-◌, T, sym, ap, ◌∙◌, subst}
 use Rattle.arctan.specs.Whole.{quarter, half}
 use Rattle.arctan.specs.Arctangent.{back}
 use Rattle.arctan.proofs.Ways.{ready_first, ready_second, ready_fourth, ready_far, is_tiny, is_first, is_second, is_fourth, is_far}

@@ -1,5 +1,4 @@
 -- `arctan::leaving` meets its contract. Assumes nothing.
-use Rattle.std.proofs.Common.{rules}
 use Rattle.arctan.specs.Tangent.{leaving}
 use Rattle.arctan.proofs.leaving.Goals as goal
 

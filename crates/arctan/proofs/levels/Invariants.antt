@@ -1,9 +1,7 @@
 -- `arctan::levels` meets its contract. The loop's invariant: h is the nested sum over the coefficients from the k-th on. The measure is k.
 -- h is at most 2 ^ 60, and y of it at most the coefficient before it (proofs/Bounds.antt). Assumes nothing.
-use Rattle.std.proofs.Common.{◌≡◌, ℕ, suc, ◌-◌, ◌^◌, ◌<◌, ◌≤◌, ◌∷◌, length, get_or, drop, ◌∙◌, arith, lit≤, drop-cons}
-use Rattle.arctan.specs.Whole.{product, nested, reciprocals}
-use Rattle.arctan.proofs.Table.{from}
-use Rattle.arctan.proofs.Bounds.{nested_one, taken}
+use Rattle.std.proofs.Common.{◌≡◌, ◌≤◌, drop}
+use Rattle.arctan.specs.Whole.{nested, reciprocals}
 use Rattle.arctan.proofs.levels.Given as goal
 
 abbrev pub invariant-loop-k : goal.invariant-loop-k

@@ -1,5 +1,5 @@
 -- `arctan::low` meets its contract (proofs/Wide.antt). Assumes nothing.
-use Rattle.std.proofs.Common.{ℕ, ◌*◌, ◌/◌, ◌%◌, ◌^◌, ◌≤◌, ◌∙◌, mul-le-mul, arith, rules}
+use Rattle.std.proofs.Common.{ℕ, ◌*◌, ◌/◌, ◌%◌, ◌^◌, ◌≤◌, ◌∙◌, mul-le-mul, arith}
 use Rattle.arctan.proofs.Wide.{fits, lower}
 use Rattle.arctan.proofs.low.Goals as goal
 

@@ -1,6 +1,5 @@
 -- `arctan::lower` meets its contract: what is counted is at most 13/32, as proofs/Solving.antt says. Assumes nothing.
-use Rattle.std.proofs.Common.{ℕ, T, sym, ap, ◌∙◌, subst, rules}
-use lib.Ieee.{binary64, fits}
+use Rattle.std.proofs.Common.{ℕ, T, sym, ap, ◌∙◌, subst}
 use Rattle.arctan.specs.Tangent.{solution, ratio, leaving, unity, two_fifths_cut, three_sevenths_cut}
 use Rattle.arctan.proofs.Choice.{so, so_not, lower_first, lower_second}
 use Rattle.arctan.proofs.Solving.{ready_low, few_low, ready_high, few_high}

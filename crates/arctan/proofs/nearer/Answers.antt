@@ -1,5 +1,5 @@
 -- `arctan::nearer` meets its contract: where the series is not below n, nothing is stretched to nothing (proofs/Newton.antt). Assumes nothing.
-use Rattle.std.proofs.Common.{◌≡◌, ℕ, ◌+◌, ◌-◌, ◌^◌, ◌≤◌, ap, ◌∙◌, arith, rules}
+use Rattle.std.proofs.Common.{◌≡◌, ℕ, ◌+◌, ◌-◌, ◌^◌, ◌≤◌, ap, ◌∙◌, arith}
 use Rattle.arctan.specs.Whole.{series}
 use Rattle.arctan.specs.Tangent.{stretched, nearer}
 use Rattle.arctan.proofs.Newton.{stretched_most}

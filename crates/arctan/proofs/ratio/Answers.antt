@@ -1,5 +1,5 @@
 -- `arctan::ratio` meets its contract. Assumes nothing.
-use Rattle.std.proofs.Common.{pos, ap, ◌∙◌, rules}
+use Rattle.std.proofs.Common.{pos, ap, ◌∙◌}
 use lib.Ieee.{Float, binary64, of_int}
 use Rattle.exact.specs.F64.{◌⊘◌}
 use Rattle.arctan.specs.Tangent.{ratio}

@@ -1,7 +1,7 @@
 -- `arctan::refined` meets its contract. The loop's invariant: after k rounds what is left to refine is what was, and w is as near as proofs/Newton.antt says. The measure is the rounds left. Assumes nothing.
 use Rattle.std.proofs.Common.{◌≡◌, ℕ, suc, ◌+◌, ◌-◌, ◌<◌, ◌≤◌, refl, ap, ◌∙◌, le_trans, add-one, arith, lit≤}
 use Rattle.arctan.specs.Tangent.{nearer, rounds, refined}
-use Rattle.arctan.proofs.Newton.{Stage, highs, shorts, highs_few, start, next}
+use Rattle.arctan.proofs.Newton.{highs_few, start, next}
 use Rattle.arctan.proofs.refined.Goals as goal
 
 -- one round more

@@ -1,5 +1,5 @@
 -- `arctan::solution` meets its contract. Assumes nothing.
-use Rattle.std.proofs.Common.{◌≡◌, ℕ, ◌≤◌, min, sym, ap, ◌∙◌, le_of_lt, arith, rules}
+use Rattle.std.proofs.Common.{◌≡◌, ℕ, ◌≤◌, min, sym, ap, ◌∙◌, le_of_lt, arith}
 use native.Mathlib.Nat.{min-eq_left, min-eq_right}
 use Rattle.arctan.specs.Tangent.{rounds, refined, solution}
 use Rattle.arctan.proofs.solution.Goals as goal

@@ -1,6 +1,6 @@
 -- `arctan::solved` meets its contract: the angle that `lower` is asked for lies between 0 and a quarter of pi (proofs/Solving.antt). Assumes nothing.
 use Rattle.std.proofs.Common.{T, sym, ap, ◌∙◌, subst}
-use lib.Ieee.{Float, binary64, fits}
+use lib.Ieee.{Float}
 use Rattle.exact.specs.F64.{◌⊘◌}
 use Rattle.arctan.specs.Arctangent.{one}
 use Rattle.arctan.proofs.Choice.{so, so_not, solved_first, solved_second}

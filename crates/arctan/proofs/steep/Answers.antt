@@ -1,8 +1,8 @@
 -- `arctan::steep` meets its contract. Assumes nothing.
-use Rattle.std.proofs.Common.{◌≡◌, sym, ap, ◌∙◌, rules}
+use Rattle.std.proofs.Common.{◌≡◌, sym, ap, ◌∙◌}
 use lib.Ieee.{Float}
 use Rattle.exact.specs.F64.{◌⊘◌}
-use Rattle.arctan.specs.Tangent.{sine, cosine, close, solved}
+use Rattle.arctan.specs.Tangent.{sine, cosine, close}
 use Rattle.arctan.proofs.Choice.{steep_guess, steep_solved}
 use Rattle.arctan.proofs.steep.Goals as goal
 

@@ -1,5 +1,5 @@
 -- `arctan::stretched` meets its contract: w * w is at most 2 ^ 59, and a product at most its second factor (proofs/Bounds.antt). Assumes nothing.
-use Rattle.std.proofs.Common.{◌≡◌, ℕ, ◌+◌, ◌^◌, ◌≤◌, ap, ◌∙◌, le_trans, arith, rules}
+use Rattle.std.proofs.Common.{ℕ, ◌+◌, ◌^◌, ◌≤◌, ap, ◌∙◌, le_trans, arith}
 use Rattle.arctan.specs.Whole.{product}
 use Rattle.arctan.specs.Tangent.{stretched}
 use Rattle.arctan.proofs.Bounds.{product_left, product_right}

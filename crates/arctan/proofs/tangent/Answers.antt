@@ -1,5 +1,5 @@
 -- `arctan::tangent` meets its contract: it is the definition by the same tests, and the definition owes what specs/Owed.antt says (proofs/Answers.antt). Assumes nothing.
-use Rattle.std.proofs.Common.{◌≡◌, Bool, false, T, sym, refl, ap, ◌∙◌, subst, rules}
+use Rattle.std.proofs.Common.{◌≡◌, Bool, T, sym, refl, ap, ◌∙◌, subst}
 use lib.Ieee.{Float, nan, binary64, fits, neg, lt, le, div, of_bits}
 use Rattle.exact.specs.F64.{f64, magnitude, ◌⊘◌}
 use Rattle.arctan.specs.Arctangent.{tiny}

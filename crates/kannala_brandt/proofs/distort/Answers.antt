@@ -1,6 +1,5 @@
 -- `kannala_brandt::distort` meets its contract. Assumes nothing.
 use mathlib.Core.Path.{refl}
-use borrow.Author.Rules.{rules}
 use Rattle.kannala_brandt.proofs.distort.Goals as goal
 
 pub returns : goal.returns

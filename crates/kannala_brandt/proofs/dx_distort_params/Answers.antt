@@ -1,6 +1,5 @@
 -- `kannala_brandt::dx_distort_params` meets its contract. Assumes nothing.
 use mathlib.Core.Path.{refl}
-use borrow.Author.Rules.{rules}
 use Rattle.kannala_brandt.proofs.dx_distort_params.Goals as goal
 
 pub returns : goal.returns

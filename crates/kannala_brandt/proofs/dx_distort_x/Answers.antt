@@ -1,6 +1,5 @@
 -- `kannala_brandt::dx_distort_x` meets its contract. Assumes nothing.
 use mathlib.Core.Path.{refl}
-use borrow.Author.Rules.{rules}
 use Rattle.kannala_brandt.proofs.dx_distort_x.Goals as goal
 
 pub returns-then-c2 : goal.returns-then-c2

@@ -1,6 +1,5 @@
 -- `kannala_brandt::flag` meets its contract. Assumes nothing.
 use mathlib.Core.Path.{refl}
-use borrow.Author.Rules.{rules}
 use Rattle.kannala_brandt.proofs.flag.Goals as goal
 
 pub returns-then-at : goal.returns-then-at

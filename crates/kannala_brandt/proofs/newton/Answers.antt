@@ -1,8 +1,6 @@
 -- `kannala_brandt::newton` meets its contract. The loop's invariant: the passes left from here find what newton finds. Assumes nothing.
-use mathlib.Core.Path.{◌≡◌, refl, ap}
-use Prim.Native.Nat.{◌-◌}
+use mathlib.Core.Path.{refl, ap}
 use native.Mathlib.Omega.{arith}
-use Rattle.lens.specs.Passes.{passes}
 use Rattle.lens.proofs.Passes.{ends_there, goes_on, none_left}
 use Rattle.kannala_brandt.specs.KannalaBrandt.{limit, pass, ended, newton}
 use Rattle.kannala_brandt.proofs.Updates.{updates, one_update}

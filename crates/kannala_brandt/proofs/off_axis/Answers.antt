@@ -1,7 +1,6 @@
 -- `kannala_brandt::off_axis` meets its contract. Assumes nothing.
 use mathlib.Core.Path.{refl}
 use Rattle.kannala_brandt.specs.KannalaBrandt.{off_axis}
-use borrow.Author.Rules.{rules}
 use Rattle.kannala_brandt.proofs.off_axis.Goals as goal
 
 pub returns : goal.returns

@@ -2,7 +2,6 @@
 use mathlib.Core.Path.{sym, ap, ◌∙◌}
 use Rattle.arctan.specs.declared.Slope.{Slope}
 use Rattle.kannala_brandt.specs.KannalaBrandt.{outward}
-use borrow.Author.Rules.{rules}
 use Rattle.kannala_brandt.proofs.outward.Goals as goal
 
 pub returns-in-TooSteep : goal.returns-in-TooSteep

@@ -1,7 +1,6 @@
 -- `kannala_brandt::pass` meets its contract. Assumes nothing.
 use mathlib.Core.Path.{refl}
 use Rattle.kannala_brandt.specs.KannalaBrandt.{pass}
-use borrow.Author.Rules.{rules}
 use Rattle.kannala_brandt.proofs.pass.Goals as goal
 
 pub returns : goal.returns

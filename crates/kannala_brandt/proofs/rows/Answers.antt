@@ -2,7 +2,6 @@
 use mathlib.Core.Path.{refl}
 use lib.Ieee.{of_bits, of_int}
 use Rattle.kannala_brandt.specs.KannalaBrandt.{rows}
-use borrow.Author.Rules.{rules}
 use Rattle.kannala_brandt.proofs.rows.Goals as goal
 
 pub returns : goal.returns

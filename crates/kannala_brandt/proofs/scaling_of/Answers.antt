@@ -1,6 +1,5 @@
 -- `kannala_brandt::scaling_of` meets its contract. Assumes nothing.
 use mathlib.Core.Path.{refl}
-use borrow.Author.Rules.{rules}
 use Rattle.kannala_brandt.proofs.scaling_of.Goals as goal
 
 pub returns-then-radius_sq : goal.returns-then-radius_sq

@@ -1,7 +1,6 @@
 -- `kannala_brandt::step_from` meets its contract. Assumes nothing.
 use mathlib.Core.Path.{refl}
 use Rattle.kannala_brandt.specs.KannalaBrandt.{step_from}
-use borrow.Author.Rules.{rules}
 use Rattle.kannala_brandt.proofs.step_from.Goals as goal
 
 pub returns : goal.returns

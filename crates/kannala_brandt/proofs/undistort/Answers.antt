@@ -4,7 +4,6 @@ use mathlib.Core.Bool.{true}
 use lib.Ieee.{Float, le}
 use Rattle.lens.specs.Constants.{eps}
 use Rattle.kannala_brandt.specs.KannalaBrandt.{rth2}
-use borrow.Author.Rules.{rules}
 use Rattle.kannala_brandt.proofs.undistort.Goals as goal
 
 pub returns-then-rth2 : goal.returns-then-rth2
