@@ -43,7 +43,7 @@ use Rattle.observations.proofs.seen.Reads as seen-contract
 abbrev Post : (κ : Lfts 1) → Args observe-all-contract.signature κ → Res observe-all-contract.signature κ → AtExit observe-all-contract.ended κ → Type 0
 Post κ a r s = listed r s.1.0.now ≡ observe_all a.0 a.1.0.now
 
--- `Post` is the contract's own: of a function that is proved by hand the check makes no `Reads`, so it is held to the clause here.
+-- `Post` is the contract's own: it is held to the clause here.
 pub post_is :
     {M :
     Type 1} {𝓤 : Ura M} (𝓛 : Logic 𝓤) (mem : Memory → SProp 𝓤) (run : Routine

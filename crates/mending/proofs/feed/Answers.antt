@@ -12,7 +12,7 @@ loop-i-init c = none_passed _ _ _ _
 
 pub loop-i-preserved : goal.loop-i-preserved
 loop-i-preserved c =
-    one_passed _ _ _ _ _ _ c.loop-i.invariant c.loop-i-test.true _ c.feed_byte-held.ensures c.feed_byte-held.auto.map c.feed_byte-held.auto.line.0
+    one_passed _ _ _ _ _ _ c.loop-i.invariant c.loop-i-test.true _ c.feed_byte-held.ensures c.feed_byte-held.auto.map c.feed_byte-held.auto.line
 
 pub shape_of-map : goal.shape_of-map
 shape_of-map c = c.loop-i.invariant.map_long

@@ -20,8 +20,8 @@ pub returns : goal.returns
 returns c =
     c.write_mended.ensures.result_after
     ∙ table_mended c.args.width c.args.height c.args.updates c.args.region c.args.table.now c.args.text.now c.args.out.now
-    c.requires.0.0
-    c.requires.0.1
+    c.requires.sized.0
+    c.requires.sized.1
     12288
     64
     _ _ _
@@ -29,5 +29,5 @@ returns c =
     (omega arith)
     (omega arith)
     (c.feed.auto.map ∙ length-replicate {A = ℕ} 12288 0)
-    (omega (arith, c.requires.1.0, c.requires.0.1))
-    c.requires.1.1
+    (omega (arith, c.requires.table_len.0, c.requires.sized.1))
+    c.requires.table_len.1

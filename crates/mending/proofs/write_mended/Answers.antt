@@ -11,12 +11,12 @@ use Rattle.mending.proofs.write_mended.Goals as goal
 pub returns-then-out-lt-OUTPUT : goal.returns-then-out-lt-OUTPUT
 returns-then-out-lt-OUTPUT c =
     let e = no_room c.args.width c.args.height c.args.updates c.args.region c.args.table.now c.args.map.now c.args.out.now c.if-out-lt-OUTPUT.true in
-    (e, counts c.args.width c.args.height c.args.updates c.args.region c.args.table.now c.args.map.now c.args.out.now (search rules) _ _ e)
+    record { result_after = e; prefix_len = counts c.args.width c.args.height c.args.updates c.args.region c.args.table.now c.args.map.now c.args.out.now (search rules) _ _ e }
 
 pub returns-then-not-ready : goal.returns-then-not-ready
 returns-then-not-ready c =
     let e = not_ready c.args.width c.args.height c.args.updates c.args.region c.args.table.now c.args.map.now c.args.out.now (sym c.ready.ensures ∙ c.if-not-ready.true) in
-    (e, counts c.args.width c.args.height c.args.updates c.args.region c.args.table.now c.args.map.now c.args.out.now (search rules) _ _ e)
+    record { result_after = e; prefix_len = counts c.args.width c.args.height c.args.updates c.args.region c.args.table.now c.args.map.now c.args.out.now (search rules) _ _ e }
 
 pub overflow_mul-n : goal.overflow_mul-n
 overflow_mul-n c = omega (arith, (is_ready c.args.width c.args.height (length c.args.table.now) (length c.args.map.now) (sym c.ready.ensures ∙ c.if-not-ready.false)).few)
@@ -33,4 +33,4 @@ tell_lines-requires c = parts_matched c.args.width c.args.height c.args.updates 
 pub returns : goal.returns
 returns c =
     let e = c.tell_lines.ensures ∙ all_written c.args.width c.args.height c.args.updates c.args.region c.args.table.now c.args.map.now c.args.out.now (sym c.ready.ensures ∙ c.if-not-ready.false) c.if-out-lt-OUTPUT.false (search rules) in
-    (e, counts c.args.width c.args.height c.args.updates c.args.region c.args.table.now c.args.map.now c.args.out.now (search rules) _ _ e)
+    record { result_after = e; prefix_len = counts c.args.width c.args.height c.args.updates c.args.region c.args.table.now c.args.map.now c.args.out.now (search rules) _ _ e }

@@ -5,7 +5,7 @@ use borrow.Author.Rules.{rules}
 use Rattle.opencv.proofs.convert.Goals as goal
 
 pub returns-then-out-lt-OUTPUT : goal.returns-then-out-lt-OUTPUT
-returns-then-out-lt-OUTPUT c = let e = no_room c.args.text.now c.args.out.now c.if-out-lt-OUTPUT.true in (e, counts c.args.text.now c.args.out.now _ _ e)
+returns-then-out-lt-OUTPUT c = let e = no_room c.args.text.now c.args.out.now c.if-out-lt-OUTPUT.true in record { result_after = e; prefix_len = counts c.args.text.now c.args.out.now _ _ e }
 
 pub returns : goal.returns
-returns c = let e = c.answer.ensures ∙ all_room c.args.text.now c.args.out.now c.if-out-lt-OUTPUT.false in (e, counts c.args.text.now c.args.out.now _ _ e)
+returns c = let e = c.answer.ensures ∙ all_room c.args.text.now c.args.out.now c.if-out-lt-OUTPUT.false in record { result_after = e; prefix_len = counts c.args.text.now c.args.out.now _ _ e }

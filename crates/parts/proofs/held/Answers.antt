@@ -9,9 +9,12 @@ use Rattle.parts.proofs.held.Goals as goal
 pub returns-then-buf-n : goal.returns-then-buf-n
 returns-then-buf-n c =
     let h = lt-ltb (length c.args.buf.now) c.args.n (omega (arith, c.if-buf-n.true)) in
-    (simp h, (omega arith, refl))
+    record { value = simp h; prefix_len = (omega arith, refl) }
 
 pub returns-else-buf-n : goal.returns-else-buf-n
 returns-else-buf-n c =
     let h = le-ltb (length c.args.buf.now) c.args.n (omega (arith, c.if-buf-n.false)) in
-    (simp h, (omega (arith, c.if-buf-n.false), sym (length-take-le _ _ (omega (arith, c.if-buf-n.false)))))
+    record {
+      value = simp h;
+      prefix_len = (omega (arith, c.if-buf-n.false), sym (length-take-le _ _ (omega (arith, c.if-buf-n.false))));
+    }

@@ -14,7 +14,7 @@ slice_bounds-read_full-end-3 c =
 
 pub returns : goal.returns
 returns c =
-    let ys = c.read_full-2.new.1.0 in
+    let ys = c.read_full-2.new.buf in
     let rest = drop c.length_of-n.result c.args.part.now in
     let h : c.read_full-2.result ≤ length (ys ++ rest) = omega (arith, length-append ys rest, c.read_full-2.ensures.0) in
     (h, sym (length-take-le c.read_full-2.result (ys ++ rest) h))

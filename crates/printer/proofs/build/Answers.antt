@@ -13,4 +13,8 @@ returns c =
     let a = c.args in
     let same = told_file_one_to_one c.parse.result (parsed a.input.now) c.parse.ensures in
     let e = c.build_parsed.ensures ∙ ap (build_parsed a.room.now) same in
-    (e, (subst (λ (b : InRoom). HasRoom b.outcome) (sym e) (has_room a.input.now a.room.now), search rules))
+    record {
+      room_after = e;
+      has_room = subst (λ (b : InRoom). HasRoom b.outcome) (sym e) (has_room a.input.now a.room.now);
+      room_len = search rules;
+    }

@@ -17,10 +17,11 @@ slice_bounds-distort_table-end-2 c =
 pub returns : goal.returns
 returns c =
     let a = c.args in
-    let ys = c.distort_table.new.1.1.1.0 in
+    let ys = c.distort_table.new.table in
     let rest = drop a.n a.room.now in
     let long : length ys ≡ a.n = omega (arith, length-take-le a.n a.room.now c.requires) in
-    let front = take_at ys rest a.n long in (
-      ap (told_turned c.distort_table.result) front ∙ c.distort_table.ensures,
-      ap (λ (l : List Float). l ++ rest) (sym front),
-    )
+    let front = take_at ys rest a.n long in
+    record {
+      room_after = ap (told_turned c.distort_table.result) front ∙ c.distort_table.ensures;
+      room_after_2 = ap (λ (l : List Float). l ++ rest) (sym front);
+    }

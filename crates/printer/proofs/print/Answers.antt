@@ -21,17 +21,20 @@ pub returns-then-out-lt-OUTPUT : goal.returns-then-out-lt-OUTPUT
 returns-then-out-lt-OUTPUT c =
     let a = c.args in
     let e = no_room a.input.now a.out.now c.if-out-lt-OUTPUT.true in
-    (e, counts a.input.now a.out.now _ _ e)
+    record { result_after = e; prefix_len = counts a.input.now a.out.now _ _ e }
 
 pub slice_bounds-show-end : goal.slice_bounds-show-end
-slice_bounds-show-end c = sym c.build-built.ensures.has_room.1
+slice_bounds-show-end c = sym c.build-built.ensures.room_len
 
 pub show-requires : goal.show-requires
 show-requires c =
     let a = c.args in
     let same = shown a.input.now _ _ c.build-built.ensures.room_after in
     let room = fits a.input.now a.out.now c.if-out-lt-OUTPUT.false in
-    ((c.build-built.ensures.has_room.0, omega (arith, c.build-built.ensures.has_room.1)), subst (λ (t : List ℕ). length t ≤ length a.out.now) (sym same) (omega (arith, room)))
+    record {
+      has_room = (c.build-built.ensures.has_room, omega (arith, c.build-built.ensures.room_len));
+      room_in_bounds = subst (λ (t : List ℕ). length t ≤ length a.out.now) (sym same) (omega (arith, room));
+    }
 
 pub returns : goal.returns
 returns c =
@@ -41,4 +44,4 @@ returns c =
     c.show.ensures
     ∙ ap (with_text (written a.out.now 0)) same
     ∙ all_put a.input.now a.out.now c.if-out-lt-OUTPUT.false in
-    (e, counts a.input.now a.out.now _ _ e)
+    record { result_after = e; prefix_len = counts a.input.now a.out.now _ _ e }

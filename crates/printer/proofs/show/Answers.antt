@@ -72,20 +72,20 @@ few : (built : Built) (width height updates : ℕ) (region : Region) → built �
 few built width height updates region same h = let room = subst (λ (b : Built). HasRoom (told_built b)) same h in room.1
 
 pub overflow_mul-n : goal.overflow_mul-n
-overflow_mul-n c = omega (arith, few _ _ _ _ _ c.in-Table.is c.requires.0.0)
+overflow_mul-n c = omega (arith, few _ _ _ _ _ c.in-Table.is c.requires.has_room.0)
 
 pub overflow_mul-n-in-Table : goal.overflow_mul-n-in-Table
-overflow_mul-n-in-Table c = omega (arith, few _ _ _ _ _ c.in-Table.is c.requires.0.0)
+overflow_mul-n-in-Table c = omega (arith, few _ _ _ _ _ c.in-Table.is c.requires.has_room.0)
 
 pub slice_bounds-write_listing-end : goal.slice_bounds-write_listing-end
-slice_bounds-write_listing-end c = sym (length-take-le _ _ (omega (arith, few _ _ _ _ _ c.in-Table.is c.requires.0.0, c.requires.0.1)))
+slice_bounds-write_listing-end c = sym (length-take-le _ _ (omega (arith, few _ _ _ _ _ c.in-Table.is c.requires.has_room.0, c.requires.has_room.1)))
 
 pub returns-in-Refused : goal.returns-in-Refused
 returns-in-Refused c =
     let a = c.args in
-    refusal_shown a.out.now a.room.now a.built _ _ c.in-Refused.is c.requires.1 c.refused_line.ensures
+    refusal_shown a.out.now a.room.now a.built _ _ c.in-Refused.is c.requires.room_in_bounds c.refused_line.ensures
 
 pub returns-in-Table : goal.returns-in-Table
 returns-in-Table c =
     let a = c.args in
-    table_shown a.out.now a.room.now a.built _ _ _ _ _ c.in-Table.is c.requires.1 c.write_listing.ensures
+    table_shown a.out.now a.room.now a.built _ _ _ _ _ c.in-Table.is c.requires.room_in_bounds c.write_listing.ensures
