@@ -1,7 +1,7 @@
 -- What a caller may rely on, of the definitions of specs/ and of the contracts of src/. Assumes nothing.
 use mathlib.Core.Path.{◌≡◌, refl, sym, ap, ◌∙◌, subst}
 use mathlib.Core.Logic.{◌↔◌}
-use mathlib.Core.Bool.{Bool, true, false, cond, true≢false}
+use mathlib.Core.Bool.{Bool, true, false, cond}
 use Prim.Native.Nat.{ℕ, ◌*◌, ◌^◌}
 use native.Mathlib.Nat.{mul-pos}
 use native.Mathlib.Omega.{arith}
@@ -17,7 +17,7 @@ use Rattle.root.proofs.Laws.{root_exact}
 use Rattle.lens.specs.ByHand.{halves, xy, uv}
 use Rattle.lens.specs.Constants.{zeros, ones, int}
 use Rattle.lens.specs.Radius.{squared_radius}
-use Rattle.lens.specs.Undistorted.{Told, direct, told}
+use Rattle.lens.specs.Undistorted.{direct, told}
 use Rattle.lens.specs.declared.Pixel.{Pixel}
 use Rattle.lens.specs.declared.Point.{Point}
 use Rattle.lens.specs.declared.Refusal.{Refusal}

@@ -5,7 +5,7 @@ use mathlib.Core.Logic.{◌↔◌}
 use mathlib.Core.Bool.{Bool, true, false, cond, ◌||◌, true≢false, false≢true}
 use Prim.Native.Nat.{ℕ, zero, suc, ◌+◌, ◌*◌, ◌^◌, ◌<◌}
 use native.Mathlib.Nat.{zero-mul, mul-zero, mul-pos}
-use lib.IntN.{ℤ, pos}
+use lib.IntN.{ℤ}
 use lib.Dec.{ltb, eqb-suc-zero}
 use lib.Ieee.{Float, nan, inf, fin, binary64, prec, low, emax, up, down, unlike, odd, units, round, lt, le, mul, div, of_bits, is_nan}
 use lib.Ieee.Fits.{round_is, down_pos}

@@ -1,8 +1,8 @@
 -- A prism of zeros adds zeros where r⁴ is finite, and elsewhere bc's numbers are NaN, to which nothing can be added: so bc12 gives what bc gives, but for the signs of zeros. Assumes nothing.
-use mathlib.Core.Path.{◌≡◌, refl, sym, ap, ◌∙◌}
+use mathlib.Core.Path.{◌≡◌, refl, sym, ◌∙◌}
 use mathlib.Core.Bool.{Bool, true, false, false≢true}
 use lib.Dec.{T}
-use lib.Ieee.{Float, nan, binary64, fits, of_int}
+use lib.Ieee.{Float, nan, binary64, of_int}
 use lib.Ieee.Fits.{add-fits, mul-fits}
 use lib.Ieee.Scale.{finite}
 use lib.ListN.{replicate}
@@ -21,7 +21,7 @@ use Rattle.affine.specs.Affine as affine
 use Rattle.brown_conrady.specs.BrownConrady as bc
 use Rattle.brown_conrady.specs.BrownConrady.{affine_params, slopes_at}
 use Rattle.brown_conrady.specs.declared.Slopes.{Slopes}
-use Rattle.brown_conrady.proofs.Alike.{AlikeOffsets, AlikeSearches, distortion_kept, slopes_kept, solve_kept, small_kept, newton_alike}
+use Rattle.brown_conrady.proofs.Alike.{AlikeOffsets, distortion_kept, slopes_kept, solve_kept, small_kept, newton_alike}
 use Rattle.brown_conrady.proofs.Wild.{Lost, nan_plus, distortion_nan, slopes_lost, gone_wild, scaled_nan}
 use Rattle.thin_prism.specs.ThinPrism.{NoPrism, distortion, distort, prism_slopes_at, dx_distort_x, f_xy, step_from, undistort}
 use Rattle.thin_prism.specs.declared.PrismSlopes.{PrismSlopes}

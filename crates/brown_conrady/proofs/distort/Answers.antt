@@ -1,6 +1,5 @@
 -- `brown_conrady::distort` meets its contract: each call gives its definition's number. Assumes nothing.
 use mathlib.Core.Path.{refl}
-use borrow.Author.Rules.{rules}
 use Rattle.brown_conrady.proofs.distort.Goals as goal
 
 pub returns : goal.returns

@@ -1,7 +1,6 @@
 -- `brown_conrady::distortion` meets its contract: each call gives its definition's number. Assumes nothing.
 use mathlib.Core.Path.{refl}
 use lib.Ieee.{of_bits, of_int}
-use borrow.Author.Rules.{rules}
 use Rattle.formula.specs.Term.{rounded}
 use Rattle.brown_conrady.specs.BrownConrady.{distortion}
 use Rattle.brown_conrady.specs.Formula.{parts_at}

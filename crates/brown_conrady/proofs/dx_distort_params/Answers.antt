@@ -1,7 +1,6 @@
 -- `brown_conrady::dx_distort_params` meets its contract: its numbers are the f64 readings of the terms. Assumes nothing.
 use mathlib.Core.Path.{refl}
 use lib.Ieee.{of_bits, of_int}
-use borrow.Author.Rules.{rules}
 use Rattle.formula.specs.Term.{rounded}
 use Rattle.brown_conrady.specs.BrownConrady.{distortion}
 use Rattle.brown_conrady.specs.Formula.{parts_at, dx_distort_params}

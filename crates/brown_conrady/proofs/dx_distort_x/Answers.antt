@@ -1,6 +1,5 @@
 -- `brown_conrady::dx_distort_x` meets its contract: each call gives its definition's number. Assumes nothing.
 use mathlib.Core.Path.{refl}
-use borrow.Author.Rules.{rules}
 use Rattle.brown_conrady.proofs.dx_distort_x.Goals as goal
 
 pub returns : goal.returns

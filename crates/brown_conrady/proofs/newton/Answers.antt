@@ -1,10 +1,8 @@
 -- `brown_conrady::newton` meets its contract. The loop's invariant: the passes that are left from here lead where all of them lead from the start. The measure is how many are left. Assumes nothing.
-use mathlib.Core.Path.{◌≡◌, refl, sym, ap, ◌∙◌}
-use Prim.Native.Nat.{◌-◌}
+use mathlib.Core.Path.{refl, sym, ap, ◌∙◌}
 use native.Mathlib.Omega.{arith}
-use Rattle.lens.specs.Passes.{passes}
 use Rattle.lens.proofs.Passes.{ends_there, goes_on, none_left}
-use Rattle.brown_conrady.specs.BrownConrady.{step_from, pass, limit, ended, newton}
+use Rattle.brown_conrady.specs.BrownConrady.{step_from, pass, limit, ended}
 use Rattle.brown_conrady.proofs.Steps.{updates, updated}
 use Rattle.brown_conrady.proofs.newton.Goals as goal
 

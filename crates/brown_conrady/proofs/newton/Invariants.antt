@@ -1,11 +1,9 @@
 -- `brown_conrady::newton` meets its contract. The loop's invariant: the passes that are left from here lead where all of them lead from the start. The measure is how many are left. Assumes nothing.
-use mathlib.Core.Path.{◌≡◌, refl, sym, ap, ◌∙◌}
+use mathlib.Core.Path.{◌≡◌}
 use Prim.Native.Nat.{◌-◌}
-use native.Mathlib.Omega.{arith}
 use Rattle.lens.specs.Passes.{passes}
-use Rattle.lens.proofs.Passes.{ends_there, goes_on, none_left}
-use Rattle.brown_conrady.specs.BrownConrady.{step_from, pass, limit, ended, newton}
-use Rattle.brown_conrady.proofs.Steps.{updates, updated}
+use Rattle.brown_conrady.specs.BrownConrady.{pass, limit, ended, newton}
+use Rattle.brown_conrady.proofs.Steps.{updates}
 use Rattle.brown_conrady.proofs.newton.Given as goal
 
 abbrev pub invariant-loop-at : goal.invariant-loop-at

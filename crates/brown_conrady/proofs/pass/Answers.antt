@@ -1,6 +1,5 @@
 -- `brown_conrady::pass` meets its contract: the definition goes the same way at the test. Assumes nothing.
 use mathlib.Core.Path.{refl, sym, ◌∙◌}
-use borrow.Author.Rules.{rules}
 use Rattle.brown_conrady.specs.BrownConrady.{pass_by}
 use Rattle.brown_conrady.proofs.pass.Goals as goal
 

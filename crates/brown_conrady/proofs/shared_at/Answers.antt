@@ -1,7 +1,6 @@
 -- `brown_conrady::shared_at` meets its contract: each call gives its definition's number. Assumes nothing.
 use mathlib.Core.Path.{refl}
 use lib.Ieee.{of_bits, of_int}
-use borrow.Author.Rules.{rules}
 use Rattle.brown_conrady.specs.BrownConrady.{shared_at}
 use Rattle.brown_conrady.proofs.shared_at.Goals as goal
 

@@ -1,6 +1,5 @@
 -- `brown_conrady::step_from` meets its contract: each call gives its definition's number. Assumes nothing.
 use mathlib.Core.Path.{refl}
-use borrow.Author.Rules.{rules}
 use Rattle.brown_conrady.specs.BrownConrady.{step_from}
 use Rattle.brown_conrady.proofs.step_from.Goals as goal
 

@@ -1,7 +1,6 @@
 -- `enhanced_unified::dx_distort_params` meets its contract: each call gives its definition's number. Assumes nothing.
 use mathlib.Core.Path.{refl}
 use lib.Ieee.{of_bits, of_int}
-use borrow.Author.Rules.{rules}
 use Rattle.enhanced_unified.proofs.dx_distort_params.Goals as goal
 
 pub returns : goal.returns

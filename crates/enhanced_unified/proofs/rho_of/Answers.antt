@@ -1,5 +1,4 @@
 -- `enhanced_unified::rho_of` meets its contract. Assumes nothing.
-use borrow.Author.Rules.{rules}
 use Rattle.enhanced_unified.proofs.rho_of.Goals as goal
 
 pub returns : goal.returns

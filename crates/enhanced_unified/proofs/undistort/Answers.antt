@@ -1,6 +1,5 @@
 -- `enhanced_unified::undistort` meets its contract: each call gives its definition's number. Assumes nothing.
 use mathlib.Core.Path.{refl}
-use borrow.Author.Rules.{rules}
 use Rattle.enhanced_unified.proofs.undistort.Goals as goal
 
 pub returns-then-k : goal.returns-then-k

@@ -1,7 +1,6 @@
 -- `short_brown_conrady::distortion` meets its contract: its numbers are the f64 readings of the terms. Assumes nothing.
 use mathlib.Core.Path.{refl}
 use lib.Ieee.{of_bits, of_int}
-use borrow.Author.Rules.{rules}
 use Rattle.formula.specs.Term.{rounded}
 use Rattle.short_brown_conrady.specs.ShortBrownConrady.{distortion}
 use Rattle.short_brown_conrady.proofs.distortion.Goals as goal

@@ -1,6 +1,5 @@
 -- `short_brown_conrady::dx_distort_x` meets its contract: the definition goes the same way at the test. Assumes nothing.
 use mathlib.Core.Path.{sym, ◌∙◌}
-use borrow.Author.Rules.{rules}
 use Rattle.short_brown_conrady.proofs.dx_distort_x.Goals as goal
 
 pub returns-then-is_finite : goal.returns-then-is_finite

@@ -1,13 +1,12 @@
 -- `short_brown_conrady::newton` meets its contract. The loop's invariant: the passes that are left from here lead where all of them lead from the start. The measure is how many are left. Assumes nothing.
 use mathlib.Core.Path.{◌≡◌, refl, sym, ap, ◌∙◌}
 use mathlib.Core.Bool.{Bool, true, false, true≢false}
-use Prim.Native.Nat.{ℕ, suc, ◌-◌}
+use Prim.Native.Nat.{suc}
 use native.Mathlib.Omega.{arith}
 use lib.Ieee.{is_nan}
-use Rattle.lens.specs.Passes.{passes}
 use Rattle.lens.specs.declared.Point.{Point}
 use Rattle.lens.proofs.Passes.{ends_there, goes_on, none_left}
-use Rattle.short_brown_conrady.specs.ShortBrownConrady.{by_step, pass, ended, newton}
+use Rattle.short_brown_conrady.specs.ShortBrownConrady.{by_step, pass, ended}
 use Rattle.brown_conrady.specs.BrownConrady.{limit}
 use Rattle.brown_conrady.specs.declared.BrownConradyParams.{BrownConradyParams}
 use Rattle.brown_conrady.specs.declared.Search.{Search}

@@ -1,6 +1,5 @@
 -- `short_brown_conrady::no_quotient` meets its contract: the three tests one after the other. Assumes nothing.
 use mathlib.Core.Path.{refl, sym, ◌∙◌}
-use borrow.Author.Rules.{rules}
 use Rattle.short_brown_conrady.proofs.no_quotient.Goals as goal
 
 pub returns-then-is_zero-2 : goal.returns-then-is_zero-2

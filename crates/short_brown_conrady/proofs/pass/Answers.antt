@@ -2,7 +2,6 @@
 use mathlib.Core.Path.{◌≡◌, refl, sym, ap, ◌∙◌}
 use mathlib.Core.Bool.{Bool, true, false, cond, not, ◌&&◌}
 use Prim.Native.Nat.{◌+◌}
-use borrow.Author.Rules.{rules}
 use lib.Ieee.{Float, is_nan}
 use Rattle.exact.specs.F64.{◌⊕◌, ◌⊖◌}
 use Rattle.lens.specs.declared.Point.{Point}

@@ -1,6 +1,5 @@
 -- `short_brown_conrady::step_from` meets its contract: each call gives its definition's number. Assumes nothing.
 use mathlib.Core.Path.{refl}
-use borrow.Author.Rules.{rules}
 use Rattle.short_brown_conrady.specs.ShortBrownConrady.{step_from}
 use Rattle.short_brown_conrady.proofs.step_from.Goals as goal
 

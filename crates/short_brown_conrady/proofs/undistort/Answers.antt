@@ -1,7 +1,6 @@
 -- `short_brown_conrady::undistort` meets its contract: the definition goes the same way at the test. Assumes nothing.
 use mathlib.Core.Path.{◌≡◌, refl, sym, ap, ◌∙◌}
 use mathlib.Core.Bool.{Bool, true, false, cond}
-use borrow.Author.Rules.{rules}
 use lib.Ieee.Scale.{finite}
 use Rattle.exact.specs.F64.{◌⊕◌}
 use Rattle.lens.specs.declared.Pixel.{Pixel}

@@ -1,7 +1,6 @@
 -- `thin_prism::distortion` meets its contract: each call gives its definition's number. Assumes nothing.
 use mathlib.Core.Path.{refl}
 use lib.Ieee.{of_bits, of_int}
-use borrow.Author.Rules.{rules}
 use Rattle.thin_prism.specs.ThinPrism.{distortion}
 use Rattle.thin_prism.proofs.distortion.Goals as goal
 

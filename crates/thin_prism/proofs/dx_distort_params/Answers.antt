@@ -1,7 +1,6 @@
 -- `thin_prism::dx_distort_params` meets its contract: its numbers are the f64 readings of the terms, bc's among them. Assumes nothing.
 use mathlib.Core.Path.{refl}
 use lib.Ieee.{of_bits, of_int}
-use borrow.Author.Rules.{rules}
 use Rattle.formula.specs.Term.{rounded}
 use Rattle.brown_conrady.specs.BrownConrady as bc
 use Rattle.brown_conrady.specs.Formula as bc-formula

@@ -1,6 +1,5 @@
 -- `thin_prism::f_xy` meets its contract: each call gives its definition's number. Assumes nothing.
 use mathlib.Core.Path.{refl}
-use borrow.Author.Rules.{rules}
 use Rattle.thin_prism.proofs.f_xy.Goals as goal
 
 pub returns : goal.returns

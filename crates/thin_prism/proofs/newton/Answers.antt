@@ -1,18 +1,15 @@
 -- `thin_prism::newton` meets its contract. The loop's invariant: the passes that are left from here lead where all of them lead from the start. Assumes nothing.
 use mathlib.Core.Path.{◌≡◌, refl, sym, ap, ◌∙◌}
 use mathlib.Core.Bool.{true, false}
-use Prim.Native.Nat.{ℕ, ◌+◌, ◌-◌}
+use Prim.Native.Nat.{ℕ, ◌+◌}
 use native.Mathlib.Omega.{arith}
-use borrow.Author.Rules.{rules}
 use Rattle.exact.specs.F64.{◌⊖◌}
-use Rattle.lens.specs.Passes.{passes}
 use Rattle.lens.specs.declared.Point.{Point}
 use Rattle.lens.proofs.Passes.{ends_there, goes_on, none_left}
 use Rattle.brown_conrady.specs.BrownConrady.{small, pass_by, limit, ended}
 use Rattle.brown_conrady.specs.declared.Offset.{Offset}
-use Rattle.brown_conrady.specs.declared.Search.{Search}
 use Rattle.brown_conrady.proofs.Steps.{updates, updated}
-use Rattle.thin_prism.specs.ThinPrism.{step_from, pass, newton}
+use Rattle.thin_prism.specs.ThinPrism.{step_from, pass}
 use Rattle.thin_prism.specs.declared.ThinPrismParams.{ThinPrismParams}
 use Rattle.thin_prism.proofs.newton.Invariants.{on_the_way}
 use Rattle.thin_prism.proofs.newton.Goals as goal

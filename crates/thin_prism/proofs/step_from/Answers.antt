@@ -1,6 +1,5 @@
 -- `thin_prism::step_from` meets its contract: each call gives its definition's number. Assumes nothing.
 use mathlib.Core.Path.{refl}
-use borrow.Author.Rules.{rules}
 use Rattle.thin_prism.specs.ThinPrism.{step_from}
 use Rattle.thin_prism.proofs.step_from.Goals as goal
 
