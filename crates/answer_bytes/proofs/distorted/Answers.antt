@@ -7,7 +7,6 @@ use Rattle.camera_bytes.specs.Reading.{read}
 use Rattle.camera_bytes.specs.declared.Asked.{Asked}
 use Rattle.answer_bytes.specs.Answer.{distorted}
 use Rattle.answer_bytes.proofs.Counted.{passed, answers}
-use borrow.Author.Rules.{rules}
 use Rattle.answer_bytes.proofs.distorted.Goals as goal
 
 pub distorted_by-requires : goal.distorted_by-requires

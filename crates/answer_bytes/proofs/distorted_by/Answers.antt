@@ -1,7 +1,6 @@
 -- `answer_bytes::distorted_by` meets its contract. Assumes nothing.
 use mathlib.Core.Path.{refl}
 use Rattle.camera.proofs.Known.{judged_finite}
-use borrow.Author.Rules.{rules}
 use Rattle.answer_bytes.proofs.distorted_by.Goals as goal
 
 pub returns-in-Refused : goal.returns-in-Refused

@@ -5,7 +5,6 @@ use Rattle.camera_bytes.specs.Reading.{read}
 use Rattle.camera_bytes.specs.declared.Asked.{Asked}
 use Rattle.answer_bytes.proofs.Entries.{parameter_slopes_finite}
 use Rattle.answer_bytes.proofs.Giving.{jacobian_call}
-use borrow.Author.Rules.{rules}
 use Rattle.answer_bytes.proofs.dx_distort_params.Goals as goal
 
 pub give_jacobian-requires : goal.give_jacobian-requires

@@ -4,7 +4,6 @@ use mathlib.Core.List.{[], ◌∷◌}
 use Rattle.given.proofs.Giving.{written, left_alone}
 use Rattle.answer_bytes.proofs.Giving.{numbers_put}
 use Rattle.answer_bytes.specs.Answer.{pixel_bytes}
-use borrow.Author.Rules.{rules}
 use Rattle.answer_bytes.proofs.give_pixel.Goals as goal
 
 pub returns-then-code-eq0 : goal.returns-then-code-eq0

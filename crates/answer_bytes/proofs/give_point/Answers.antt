@@ -6,7 +6,6 @@ use Rattle.little_endian.specs.Bytes.{bytes, put}
 use Rattle.given.proofs.Giving.{written, left_alone}
 use Rattle.answer_bytes.proofs.Giving.{point_put}
 use Rattle.answer_bytes.specs.Answer.{point_bytes}
-use borrow.Author.Rules.{rules}
 use Rattle.answer_bytes.proofs.give_point.Goals as goal
 
 pub returns-then-code-eq0 : goal.returns-then-code-eq0

@@ -6,7 +6,6 @@ use Rattle.camera_bytes.specs.Reading.{read}
 use Rattle.camera_bytes.specs.declared.Asked.{Asked}
 use Rattle.answer_bytes.specs.Answer.{parameter_slopes}
 use Rattle.answer_bytes.proofs.Counted.{passed, answers}
-use borrow.Author.Rules.{rules}
 use Rattle.answer_bytes.proofs.parameter_slopes.Goals as goal
 
 pub parameter_slopes_by-requires : goal.parameter_slopes_by-requires

@@ -1,6 +1,5 @@
 -- `answer_bytes::parameter_slopes_by` meets its contract. Assumes nothing.
 use Rattle.camera.proofs.Known.{judged_finite}
-use borrow.Author.Rules.{rules}
 use Rattle.answer_bytes.proofs.parameter_slopes_by.Goals as goal
 
 pub returns-in-Refused : goal.returns-in-Refused

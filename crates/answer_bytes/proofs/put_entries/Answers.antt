@@ -2,9 +2,7 @@
 use Prim.Native.Nat.{◌-◌}
 use native.Mathlib.Omega.{arith}
 use lib.Ieee.{nan}
-use Rattle.lens.specs.Jacobian.{entries}
-use Rattle.answer_bytes.proofs.Entries.{Entered, entry_number, none_entered, next_entered, all_entered}
-use borrow.Author.Rules.{rules}
+use Rattle.answer_bytes.proofs.Entries.{entry_number, none_entered, next_entered, all_entered}
 use Rattle.answer_bytes.proofs.put_entries.Goals as goal
 
 pub loop-i-init : goal.loop-i-init

@@ -1,10 +1,7 @@
 -- `answer_bytes::put_entries` meets its contract. The measure is how many numbers are left. Assumes nothing.
 use Prim.Native.Nat.{◌-◌}
-use native.Mathlib.Omega.{arith}
-use lib.Ieee.{nan}
 use Rattle.lens.specs.Jacobian.{entries}
-use Rattle.answer_bytes.proofs.Entries.{Entered, entry_number, none_entered, next_entered, all_entered}
-use borrow.Author.Rules.{rules}
+use Rattle.answer_bytes.proofs.Entries.{Entered}
 use Rattle.answer_bytes.proofs.put_entries.Given as goal
 
 abbrev pub invariant-loop-i : goal.invariant-loop-i

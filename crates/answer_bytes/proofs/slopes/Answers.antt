@@ -6,7 +6,6 @@ use Rattle.camera_bytes.specs.Reading.{read}
 use Rattle.camera_bytes.specs.declared.Asked.{Asked}
 use Rattle.answer_bytes.specs.Answer.{slopes}
 use Rattle.answer_bytes.proofs.Counted.{passed, answers}
-use borrow.Author.Rules.{rules}
 use Rattle.answer_bytes.proofs.slopes.Goals as goal
 
 pub slopes_by-requires : goal.slopes_by-requires

@@ -1,6 +1,5 @@
 -- `answer_bytes::told_point` meets its contract. Assumes nothing.
 use mathlib.Core.Path.{refl}
-use borrow.Author.Rules.{rules}
 use Rattle.answer_bytes.proofs.told_point.Goals as goal
 
 pub returns-in-Refused : goal.returns-in-Refused

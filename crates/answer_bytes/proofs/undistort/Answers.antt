@@ -7,7 +7,6 @@ use Rattle.answer_bytes.specs.Answer.{give_point, undistorted, undistort_bytes}
 use Rattle.camera_bytes.specs.Reading.{read}
 use Rattle.camera_bytes.specs.declared.Asked.{Asked}
 use Rattle.answer_bytes.proofs.Giving.{call}
-use borrow.Author.Rules.{rules}
 use Rattle.answer_bytes.proofs.undistort.Goals as goal
 
 pub returns : goal.returns

@@ -7,7 +7,6 @@ use Rattle.camera_bytes.specs.Reading.{read}
 use Rattle.camera_bytes.specs.declared.Asked.{Asked}
 use Rattle.answer_bytes.specs.Answer.{undistorted}
 use Rattle.answer_bytes.proofs.Counted.{passed, answers}
-use borrow.Author.Rules.{rules}
 use Rattle.answer_bytes.proofs.undistorted.Goals as goal
 
 pub undistorted_by-requires : goal.undistorted_by-requires

@@ -1,5 +1,4 @@
 -- `camera::distort` meets its contract. Assumes nothing.
-use borrow.Author.Rules.{rules}
 use Rattle.camera.proofs.distort.Goals as goal
 
 pub returns-in-Affine : goal.returns-in-Affine

@@ -1,6 +1,5 @@
 -- `camera::distort_affine` meets its contract. Assumes nothing.
 use mathlib.Core.Path.{refl, sym, ap, ◌∙◌}
-use borrow.Author.Rules.{rules}
 use Rattle.lens.specs.Distorted.{told_pixel, finite_pixel}
 use Rattle.lens.specs.declared.Pixel.{Pixel}
 use Rattle.camera.specs.declared.Camera.TheVariants.{Affine}

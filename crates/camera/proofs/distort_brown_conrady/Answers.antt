@@ -1,5 +1,4 @@
 -- `camera::distort_brown_conrady` meets its contract. Assumes nothing.
-use borrow.Author.Rules.{rules}
 use Rattle.camera.specs.declared.Camera.TheVariants.{BrownConrady}
 use Rattle.camera.proofs.Given.{told_by_tests}
 use Rattle.camera.proofs.distort_brown_conrady.Goals as goal

@@ -1,5 +1,4 @@
 -- `camera::distort_enhanced_unified` meets its contract. Assumes nothing.
-use borrow.Author.Rules.{rules}
 use Rattle.camera.specs.declared.Camera.TheVariants.{EnhancedUnified}
 use Rattle.camera.proofs.Given.{told_by_tests}
 use Rattle.camera.proofs.distort_enhanced_unified.Goals as goal

@@ -2,7 +2,6 @@
 use mathlib.Core.Path.{ap, ◌∙◌}
 use Rattle.lens.specs.Distorted.{told_pixel, finite_pixel}
 use Rattle.lens.specs.declared.Pixel.{Pixel}
-use borrow.Author.Rules.{rules}
 use Rattle.camera.proofs.distort_judged.Goals as goal
 
 pub returns : goal.returns

@@ -1,5 +1,4 @@
 -- `camera::distort_kannala_brandt` meets its contract. Assumes nothing.
-use borrow.Author.Rules.{rules}
 use Rattle.camera.specs.declared.Camera.TheVariants.{KannalaBrandt}
 use Rattle.camera.proofs.Given.{told_by_tests}
 use Rattle.camera.proofs.distort_kannala_brandt.Goals as goal

@@ -1,5 +1,4 @@
 -- `camera::distort_thin_prism` meets its contract. Assumes nothing.
-use borrow.Author.Rules.{rules}
 use Rattle.camera.specs.declared.Camera.TheVariants.{ThinPrism}
 use Rattle.camera.proofs.Given.{told_by_tests}
 use Rattle.camera.proofs.distort_thin_prism.Goals as goal

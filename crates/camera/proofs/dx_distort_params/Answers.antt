@@ -1,6 +1,5 @@
 -- `camera::dx_distort_params` meets its contract. Assumes nothing.
 use mathlib.Core.Path.{refl}
-use borrow.Author.Rules.{rules}
 use Rattle.camera.proofs.dx_distort_params.Goals as goal
 
 pub returns-in-Refused : goal.returns-in-Refused

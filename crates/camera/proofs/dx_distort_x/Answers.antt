@@ -1,6 +1,5 @@
 -- `camera::dx_distort_x` meets its contract. Assumes nothing.
 use mathlib.Core.Path.{refl}
-use borrow.Author.Rules.{rules}
 use Rattle.camera.proofs.dx_distort_x.Goals as goal
 
 pub returns-in-Refused : goal.returns-in-Refused

@@ -2,7 +2,6 @@
 use mathlib.Core.Path.{sym, ap, ◌∙◌}
 use mathlib.Core.Bool.{Bool, ◌||◌}
 use Rattle.exact.specs.F64.{is_zero}
-use borrow.Author.Rules.{rules}
 use Rattle.camera.proofs.either_zero.Goals as goal
 
 pub returns-then-is_zero : goal.returns-then-is_zero

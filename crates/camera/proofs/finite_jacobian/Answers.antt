@@ -1,6 +1,5 @@
 -- `camera::finite_jacobian` meets its contract. Assumes nothing.
 use mathlib.Core.Path.{refl}
-use borrow.Author.Rules.{rules}
 use Rattle.camera.proofs.finite_jacobian.Goals as goal
 
 pub returns-then-all_finite : goal.returns-then-all_finite

@@ -1,6 +1,5 @@
 -- `camera::finite_parameters` meets its contract. Assumes nothing.
 use mathlib.Core.Path.{ap, ◌∙◌}
-use borrow.Author.Rules.{rules}
 use lib.Ieee.{Float, eq}
 use Rattle.exact.proofs.Marks.{mark_itself}
 use Rattle.camera.proofs.Given.{zeros_given}

@@ -5,7 +5,6 @@ use Rattle.lens.specs.declared.Refusal.TheVariants.{AnswerNotFinite}
 use Rattle.lens.specs.declared.Settled.{Settled}
 use Rattle.lens.specs.declared.Undistorted.{Undistorted}
 use Rattle.lens.specs.declared.Undistorted.TheVariants.{At, Refused}
-use borrow.Author.Rules.{rules}
 use Rattle.camera.proofs.finite_point.Goals as goal
 
 abbrev judged_by : Settled → Bool → Undistorted

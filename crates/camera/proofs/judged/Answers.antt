@@ -1,6 +1,5 @@
 -- `camera::judged` meets its contract. Assumes nothing.
 use mathlib.Core.Path.{sym, ◌∙◌}
-use borrow.Author.Rules.{rules}
 use Rattle.camera.proofs.Given.{says, judged_zero, judged_taken, judged_refused}
 use Rattle.camera.proofs.judged.Goals as goal
 

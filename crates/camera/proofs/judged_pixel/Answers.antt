@@ -1,6 +1,5 @@
 -- `camera::judged_pixel` meets its contract. Assumes nothing.
 use mathlib.Core.Path.{sym, ◌∙◌}
-use borrow.Author.Rules.{rules}
 use Rattle.camera.specs.Camera.{either_zero}
 use Rattle.camera.proofs.Given.{zero_told, finite_told, refused_told}
 use Rattle.camera.proofs.judged_pixel.Goals as goal

@@ -1,6 +1,5 @@
 -- `camera::mark_enhanced_unified` meets its contract. Assumes nothing.
 use mathlib.Core.Path.{ap, ◌∙◌}
-use borrow.Author.Rules.{rules}
 use Rattle.exact.specs.F64.{mark}
 use Rattle.camera.proofs.Given.{behind}
 use Rattle.camera.proofs.mark_enhanced_unified.Goals as goal

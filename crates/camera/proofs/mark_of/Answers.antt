@@ -1,5 +1,4 @@
 -- `camera::mark_of` meets its contract. Assumes nothing.
-use borrow.Author.Rules.{rules}
 use Rattle.camera.proofs.mark_of.Goals as goal
 
 pub returns-in-Affine : goal.returns-in-Affine

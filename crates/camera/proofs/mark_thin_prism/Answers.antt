@@ -1,6 +1,5 @@
 -- `camera::mark_thin_prism` meets its contract. Assumes nothing.
 use mathlib.Core.Path.{ap, ◌∙◌}
-use borrow.Author.Rules.{rules}
 use Rattle.exact.specs.F64.{mark}
 use Rattle.camera.proofs.Given.{behind}
 use Rattle.camera.proofs.mark_thin_prism.Goals as goal

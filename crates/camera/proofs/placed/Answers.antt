@@ -1,6 +1,5 @@
 -- `camera::placed` meets its contract. Assumes nothing.
 use mathlib.Core.Path.{refl}
-use borrow.Author.Rules.{rules}
 use Rattle.camera.proofs.placed.Goals as goal
 
 pub returns-then-zero_focal : goal.returns-then-zero_focal

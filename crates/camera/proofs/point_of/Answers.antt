@@ -2,7 +2,6 @@
 use mathlib.Core.Path.{ap}
 use Rattle.lens.specs.declared.Undistorted.TheVariants.{At}
 use Rattle.lens.proofs.Laws.{told_one_to_one}
-use borrow.Author.Rules.{rules}
 use Rattle.camera.proofs.point_of.Goals as goal
 
 pub returns-in-Affine : goal.returns-in-Affine

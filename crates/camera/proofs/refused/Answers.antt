@@ -1,6 +1,5 @@
 -- `camera::refused` meets its contract. Assumes nothing.
 use mathlib.Core.Path.{refl}
-use borrow.Author.Rules.{rules}
 use Rattle.camera.proofs.refused.Goals as goal
 
 pub returns : goal.returns

@@ -1,5 +1,4 @@
 -- `camera::slopes` meets its contract. Assumes nothing.
-use borrow.Author.Rules.{rules}
 use Rattle.camera.proofs.slopes.Goals as goal
 
 pub returns-in-Affine : goal.returns-in-Affine

@@ -1,6 +1,5 @@
 -- `camera::undistort` meets its contract. Assumes nothing.
 use mathlib.Core.Path.{refl}
-use borrow.Author.Rules.{rules}
 use Rattle.camera.proofs.undistort.Goals as goal
 
 pub returns-in-Refused : goal.returns-in-Refused

@@ -1,6 +1,5 @@
 -- `camera::undistort_judged` meets its contract. Assumes nothing.
 use mathlib.Core.Path.{refl}
-use borrow.Author.Rules.{rules}
 use Rattle.camera.proofs.undistort_judged.Goals as goal
 
 pub returns : goal.returns

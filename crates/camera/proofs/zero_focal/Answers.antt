@@ -1,5 +1,4 @@
 -- `camera::zero_focal` meets its contract. Assumes nothing.
-use borrow.Author.Rules.{rules}
 use Rattle.camera.proofs.zero_focal.Goals as goal
 
 pub returns-in-Affine : goal.returns-in-Affine

@@ -1,9 +1,7 @@
 -- `camera_bytes::all` meets its contract. The loop's invariant: so many numbers are put, all finite. Assumes nothing.
 use Prim.Native.Nat.{◌-◌}
-use native.Mathlib.Omega.{arith}
-use borrow.Author.Tests.{not-true, not-false}
 use Rattle.camera.specs.Numbers.{most}
-use Rattle.camera_bytes.proofs.Patterns.{Filled, none_filled, next_filled, all_there, all_filled}
+use Rattle.camera_bytes.proofs.Patterns.{Filled}
 use Rattle.camera_bytes.proofs.all.Given as goal
 
 abbrev pub invariant-loop-i : goal.invariant-loop-i

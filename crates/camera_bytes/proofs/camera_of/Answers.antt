@@ -1,6 +1,5 @@
 -- `camera_bytes::camera_of` meets its contract. Assumes nothing.
 use mathlib.Core.Path.{◌∙◌}
-use borrow.Author.Rules.{rules}
 use Rattle.camera_bytes.proofs.Patterns.{same_camera}
 use Rattle.camera_bytes.proofs.camera_of.Goals as goal
 

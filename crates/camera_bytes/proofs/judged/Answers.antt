@@ -3,7 +3,6 @@ use mathlib.Core.Path.{sym, ap, ◌∙◌}
 use Prim.Native.Nat.{ℕ, ◌*◌}
 use borrow.Author.Tests.{le-leb, lt-leb, eq-eqb, ne_eqb}
 use Rattle.camera_bytes.specs.Reading.{judged}
-use borrow.Author.Rules.{rules}
 use Rattle.camera_bytes.proofs.judged.Goals as goal
 
 pub returns-then-params-count : goal.returns-then-params-count

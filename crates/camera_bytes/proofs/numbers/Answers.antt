@@ -1,11 +1,8 @@
 -- `camera_bytes::numbers` meets its contract. The loop's invariant: so many numbers are the bytes'. Assumes nothing.
-use mathlib.Core.Path.{◌≡◌, refl, ◌∙◌}
-use Prim.Native.Nat.{◌-◌, ◌≤◌}
+use mathlib.Core.Path.{refl, ◌∙◌}
+use Prim.Native.Nat.{◌-◌}
 use native.Mathlib.Omega.{arith}
-use borrow.Author.Rules.{rules}
-use lib.ListN.{length, length-set}
-use Rattle.camera.specs.Numbers.{most}
-use Rattle.camera_bytes.specs.Putting.{SameTo}
+use lib.ListN.{length-set}
 use Rattle.camera_bytes.proofs.Patterns.{one_more}
 use Rattle.camera_bytes.proofs.numbers.Goals as goal
 

@@ -1,12 +1,9 @@
 -- `camera_bytes::numbers` meets its contract. The loop's invariant: so many numbers are the bytes'. Assumes nothing.
-use mathlib.Core.Path.{◌≡◌, refl, ◌∙◌}
+use mathlib.Core.Path.{◌≡◌}
 use Prim.Native.Nat.{◌-◌, ◌≤◌}
-use native.Mathlib.Omega.{arith}
-use borrow.Author.Rules.{rules}
-use lib.ListN.{length, length-set}
+use lib.ListN.{length}
 use Rattle.camera.specs.Numbers.{most}
 use Rattle.camera_bytes.specs.Putting.{SameTo}
-use Rattle.camera_bytes.proofs.Patterns.{one_more}
 use Rattle.camera_bytes.proofs.numbers.Given as goal
 
 abbrev pub invariant-loop-i : goal.invariant-loop-i

@@ -5,7 +5,6 @@ use Rattle.lens.specs.declared.Judgement.{Judgement}
 use Rattle.camera_bytes.specs.Reading.{camera_of}
 use Rattle.camera_bytes.specs.declared.Asked.TheVariants.{Of, Refused}
 use Rattle.camera_bytes.proofs.Counted.{read_judged}
-use borrow.Author.Rules.{rules}
 use Rattle.camera_bytes.proofs.read.Goals as goal
 
 pub returns-in-Refused : goal.returns-in-Refused

@@ -2,7 +2,6 @@
 use mathlib.Core.Path.{sym, ap, ◌∙◌}
 use Rattle.camera_bytes.specs.Reading.{finite_only}
 use Rattle.camera_bytes.proofs.Counted.{read_refused, read_taken, judged_taken}
-use borrow.Author.Rules.{rules}
 use Rattle.camera_bytes.proofs.read_finite.Goals as goal
 
 pub whole-requires : goal.whole-requires

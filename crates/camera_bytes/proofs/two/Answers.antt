@@ -1,6 +1,5 @@
 -- `camera_bytes::two` meets its contract. Assumes nothing.
 use mathlib.Core.Path.{refl}
-use borrow.Author.Rules.{rules}
 use Rattle.camera_bytes.proofs.Patterns.{two_put, first_odd, second_odd}
 use Rattle.camera_bytes.proofs.two.Goals as goal
 

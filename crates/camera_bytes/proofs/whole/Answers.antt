@@ -1,6 +1,5 @@
 -- `camera_bytes::whole` meets its contract. Assumes nothing.
 use mathlib.Core.Path.{refl}
-use borrow.Author.Rules.{rules}
 use Rattle.camera_bytes.proofs.Patterns.{even_bytes, whole_finite, whole_broken}
 use Rattle.camera_bytes.proofs.whole.Goals as goal
 

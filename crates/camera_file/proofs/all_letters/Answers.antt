@@ -1,11 +1,9 @@
 -- `camera_file::all_letters` meets its contract. The loop's invariant: the bytes from i on decide. Assumes nothing.
 use mathlib.Core.Bool.{not}
 use mathlib.Core.Path.{ap}
-use mathlib.Core.Path.{◌≡◌, refl, ◌∙◌}
-use Prim.Native.Nat.{◌-◌, ◌≤◌}
+use mathlib.Core.Path.{refl, ◌∙◌}
+use Prim.Native.Nat.{◌-◌}
 use native.Mathlib.Omega.{arith}
-use lib.ListN.{length, drop}
-use Rattle.decimal.specs.Text.{all}
 use Rattle.decimal.proofs.Bytes.{ends, goes_on, at_end}
 use Rattle.camera_file.specs.Text.{letter}
 use borrow.Author.Rules.{rules}

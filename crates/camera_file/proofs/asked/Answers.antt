@@ -1,6 +1,5 @@
 -- `camera_file::asked` meets its contract. Assumes nothing.
 use Rattle.camera_file.proofs.Models.{asked_unknown, asked_right, asked_wrong}
-use borrow.Author.Rules.{rules}
 use Rattle.camera_file.proofs.asked.Goals as goal
 
 pub returns-in_default : goal.returns-in_default

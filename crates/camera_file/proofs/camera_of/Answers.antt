@@ -5,7 +5,6 @@ use lib.Ieee.{Float}
 use Rattle.camera.specs.Numbers as numbers
 use Rattle.camera.proofs.Laws.{camera_most}
 use Rattle.params_line.specs.Params.{at, params_of}
-use borrow.Author.Rules.{rules}
 use Rattle.camera_file.proofs.camera_of.Goals as goal
 
 pub returns : goal.returns

@@ -5,7 +5,6 @@ use lib.ListN.{length-take}
 use Rattle.decimal.specs.Text.{tab}
 use Rattle.decimal.proofs.Parts.{place_within}
 use Rattle.camera_file.proofs.Stages.{named, not_named}
-use borrow.Author.Rules.{rules}
 use Rattle.camera_file.proofs.from_name.Goals as goal
 
 pub slice_bounds-is_name-end : goal.slice_bounds-is_name-end

@@ -1,7 +1,6 @@
 -- `camera_file::from_params` meets its contract. Assumes nothing.
-use mathlib.Core.Path.{sym, ap, ◌∙◌}
+use mathlib.Core.Path.{sym, ◌∙◌}
 use Rattle.camera_file.proofs.Stages.{lined, not_lined}
-use borrow.Author.Rules.{rules}
 use Rattle.camera_file.proofs.from_params.Goals as goal
 
 pub returns-then-is_line : goal.returns-then-is_line

@@ -5,7 +5,6 @@ use lib.ListN.{length-take}
 use Rattle.decimal.specs.Text.{tab}
 use Rattle.decimal.proofs.Parts.{place_within}
 use Rattle.camera_file.proofs.Stages.{wide, not_wide}
-use borrow.Author.Rules.{rules}
 use Rattle.camera_file.proofs.from_width.Goals as goal
 
 pub slice_bounds-number_in-end : goal.slice_bounds-number_in-end

@@ -1,6 +1,5 @@
 -- `camera_file::is_name` meets its contract. Assumes nothing.
 use Rattle.camera_file.proofs.Stages.{name_letters, name_long, name_empty}
-use borrow.Author.Rules.{rules}
 use Rattle.camera_file.proofs.is_name.Goals as goal
 
 pub returns-then-field-le16 : goal.returns-then-field-le16

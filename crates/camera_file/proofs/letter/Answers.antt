@@ -1,6 +1,5 @@
 -- `camera_file::letter` meets its contract. Assumes nothing.
 use borrow.Author.Tests.{le-leb, lt-leb}
-use borrow.Author.Rules.{rules}
 use Rattle.camera_file.proofs.letter.Goals as goal
 
 pub returns-then-b-ge97 : goal.returns-then-b-ge97

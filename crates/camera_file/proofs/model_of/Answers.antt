@@ -2,7 +2,6 @@
 use mathlib.Core.Path.{sym, ◌∙◌}
 use Rattle.decimal.proofs.Bytes.{matched}
 use Rattle.camera_file.proofs.Models.{is_affine, is_eucm, is_kb, is_bc, is_bc12, is_none}
-use borrow.Author.Rules.{rules}
 use Rattle.camera_file.proofs.model_of.Goals as goal
 
 pub returns-then-same : goal.returns-then-same

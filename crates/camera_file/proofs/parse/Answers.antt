@@ -7,7 +7,6 @@ use Rattle.camera_file.specs.Asked.{told_file}
 use Rattle.decimal.proofs.Bytes.{matched}
 use Rattle.decimal.proofs.Parts.{place_within}
 use Rattle.camera_file.proofs.Stages.{not_file, too_long, other_word, whole}
-use borrow.Author.Rules.{rules}
 use Rattle.camera_file.proofs.parse.Goals as goal
 
 pub slice_bounds-same-end : goal.slice_bounds-same-end

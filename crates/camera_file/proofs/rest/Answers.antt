@@ -1,6 +1,5 @@
 -- `camera_file::rest` meets its contract. Assumes nothing.
 use Rattle.camera_file.proofs.Bytes.{starts_after, starts_nowhere}
-use borrow.Author.Rules.{rules}
 use Rattle.camera_file.proofs.rest.Goals as goal
 
 pub returns-then-end-text : goal.returns-then-end-text

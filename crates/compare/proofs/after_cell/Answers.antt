@@ -1,5 +1,4 @@
 -- `compare::after_cell` meets its contract. Assumes nothing.
-use borrow.Author.Rules.{rules}
 use Rattle.compare.proofs.after_cell.Goals as goal
 
 pub returns : goal.returns

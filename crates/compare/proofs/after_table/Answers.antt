@@ -1,6 +1,5 @@
 -- `compare::after_table` meets its contract. Assumes nothing.
 use mathlib.Core.Path.{sym, ◌∙◌}
-use borrow.Author.Rules.{rules}
 use Rattle.compare.proofs.after_table.Goals as goal
 
 pub returns-then-sized : goal.returns-then-sized

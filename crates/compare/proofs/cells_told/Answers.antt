@@ -1,5 +1,4 @@
 -- `compare::cells_told` meets its contract. Assumes nothing.
-use borrow.Author.Rules.{rules}
 use Rattle.compare.proofs.cells_told.Goals as goal
 
 pub returns-in_default-new : goal.returns-in_default-new

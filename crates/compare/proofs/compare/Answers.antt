@@ -1,6 +1,5 @@
 -- `compare::compare` meets its contract. Assumes nothing.
 use mathlib.Core.Path.{sym, ap₂, ◌∙◌}
-use borrow.Author.Rules.{rules}
 use Rattle.decimal.proofs.Bytes.{matched}
 use Rattle.compare.specs.Told.{cells_told, told}
 use Rattle.compare.proofs.compare.Goals as goal

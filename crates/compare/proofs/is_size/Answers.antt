@@ -1,6 +1,4 @@
 -- `compare::is_size` meets its contract. Assumes nothing.
-use mathlib.Core.Path.{sym, ap, ◌∙◌}
-use borrow.Author.Rules.{rules}
 use borrow.Author.Tests.{eq-eqb, ne_eqb}
 use Rattle.compare.proofs.is_size.Goals as goal
 

@@ -1,8 +1,6 @@
 -- `compare::line_end` meets its contract. Assumes nothing.
 use Prim.Native.Nat.{◌-◌}
-use borrow.Author.Rules.{rules}
-use lib.ListN.{length}
-use Rattle.compare.proofs.Ahead.{Passed, none_passed, one_passed, full, ended, all_passed}
+use Rattle.compare.proofs.Ahead.{none_passed, one_passed, full, ended, all_passed}
 use Rattle.compare.proofs.line_end.Goals as goal
 
 pub loop-i-init : goal.loop-i-init

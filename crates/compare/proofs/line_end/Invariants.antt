@@ -1,8 +1,7 @@
 -- `compare::line_end` meets its contract. Assumes nothing.
 use Prim.Native.Nat.{◌-◌}
-use borrow.Author.Rules.{rules}
 use lib.ListN.{length}
-use Rattle.compare.proofs.Ahead.{Passed, none_passed, one_passed, full, ended, all_passed}
+use Rattle.compare.proofs.Ahead.{Passed}
 use Rattle.compare.proofs.line_end.Given as goal
 
 abbrev pub invariant-loop-i : goal.invariant-loop-i

@@ -1,5 +1,4 @@
 -- `compare::next_cell` meets its contract. Assumes nothing.
-use borrow.Author.Rules.{rules}
 use borrow.Author.Tests.{eq-eqb, ne_eqb, lt-ltb, le-ltb}
 use Rattle.listing.specs.Listing.{across, down}
 use Rattle.compare.specs.Judged.{next_cell}

@@ -1,5 +1,4 @@
 -- `compare::same_size` meets its contract. Assumes nothing.
-use borrow.Author.Rules.{rules}
 use Rattle.compare.proofs.same_size.Goals as goal
 
 pub returns-in-Cells : goal.returns-in-Cells

@@ -1,6 +1,5 @@
 -- `compare::step` meets its contract. Assumes nothing.
 use mathlib.Core.Path.{ap, ◌∙◌}
-use borrow.Author.Rules.{rules}
 use Rattle.compare.specs.Judged.{after_table, after_region, after_cell, step}
 use Rattle.compare.proofs.step.Goals as goal
 

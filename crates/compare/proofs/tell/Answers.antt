@@ -1,5 +1,4 @@
 -- `compare::tell` meets its contract. Assumes nothing.
-use borrow.Author.Rules.{rules}
 use Rattle.put_text.specs.Placed.{each_placed}
 use Rattle.compare.proofs.Telling.{two_placed}
 use Rattle.compare.proofs.tell.Goals as goal

@@ -1,6 +1,5 @@
 -- `compare::verdict` meets its contract. Assumes nothing.
 use mathlib.Core.Path.{sym, ◌∙◌}
-use borrow.Author.Rules.{rules}
 use Rattle.compare.specs.Judged.{verdict}
 use Rattle.compare.proofs.verdict.Goals as goal
 

@@ -1,6 +1,5 @@
 -- `compare::whole` meets its contract. Assumes nothing.
 use mathlib.Core.Path.{sym, ap}
-use borrow.Author.Rules.{rules}
 use Rattle.compare.specs.Judged.{whole}
 use Rattle.compare.proofs.whole.Goals as goal
 

@@ -1,6 +1,5 @@
 -- `distortion_table::distort_table` meets its contract. Assumes nothing.
 use mathlib.Core.Path.{ap, ◌∙◌}
-use borrow.Author.Rules.{rules}
 use Rattle.table_plans.specs.Tables.{f32s}
 use Rattle.job.specs.declared.Job.{Job}
 use Rattle.distortion_table.specs.Answer.{turn_of, enough}

@@ -2,7 +2,6 @@
 use mathlib.Core.Path.{sym, ap, ◌∙◌}
 use Prim.Native.Nat.{◌+◌}
 use native.Mathlib.Omega.{arith}
-use borrow.Author.Rules.{rules}
 use Rattle.lens.specs.declared.Judgement.{Judgement}
 use Rattle.plans.specs.Loops.{reached, after_run}
 use Rattle.sweep.specs.Sweep.{told_refusal}

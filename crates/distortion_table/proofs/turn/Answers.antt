@@ -1,6 +1,5 @@
 -- `distortion_table::turn` meets its contract: by its parts. Assumes nothing.
 use mathlib.Core.Path.{sym, ap, ◌∙◌}
-use borrow.Author.Rules.{rules}
 use Rattle.table_plans.specs.Tables.{f32s}
 use Rattle.sweep.specs.Sweep.{told_refusal}
 use Rattle.distortion_table.specs.Parts.{told_due}

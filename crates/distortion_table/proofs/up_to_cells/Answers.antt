@@ -1,7 +1,6 @@
 -- `distortion_table::up_to_cells` meets its contract. Assumes nothing.
 use mathlib.Core.Path.{◌≡◌, sym, ap, ◌∙◌}
 use Prim.Native.Nat.{ℕ}
-use borrow.Author.Rules.{rules}
 use Rattle.lens.specs.Judgement.{verdict, decided}
 use Rattle.lens.specs.Refusal.{number}
 use Rattle.lens.specs.declared.Judgement.{Judgement}

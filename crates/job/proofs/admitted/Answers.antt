@@ -1,10 +1,9 @@
 -- `job::admitted` meets its contract. Assumes nothing.
-use mathlib.Core.Path.{◌≡◌, refl, sym, ap, ◌∙◌}
+use mathlib.Core.Path.{◌≡◌, sym, ap, ◌∙◌}
 use Prim.Native.Nat.{ℕ}
-use borrow.Author.Rules.{rules}
 use Rattle.lens.specs.Judgement.{verdict, decided}
 use Rattle.lens.specs.declared.Judgement.{Judgement}
-use Rattle.lens.specs.declared.Judgement.TheVariants.{Taken, Refused}
+use Rattle.lens.specs.declared.Judgement.TheVariants.{Refused}
 use Rattle.lens.proofs.Laws.{verdict_one_to_one}
 use Rattle.plans.specs.Calls as plan
 use Rattle.table_plans.specs.Tables.{opens_for}

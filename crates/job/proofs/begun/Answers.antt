@@ -1,6 +1,5 @@
 -- `job::begun` meets its contract. Assumes nothing.
 use mathlib.Core.Path.{refl}
-use borrow.Author.Rules.{rules}
 use Rattle.job.proofs.begun.Goals as goal
 
 pub returns : goal.returns

@@ -2,7 +2,6 @@
 use mathlib.Core.Path.{refl, sym}
 use borrow.Author.Tests.{ne_eqb}
 use native.Mathlib.Omega.{arith}
-use borrow.Author.Rules.{rules}
 use Rattle.lens.specs.Refusal.{number}
 use Rattle.lens.proofs.Laws.{number_within, verdict_one_to_one}
 use Rattle.region.specs.Region.{wrong}

@@ -1,8 +1,7 @@
 -- `job::fresh` meets its contract. Assumes nothing.
-use mathlib.Core.Path.{◌≡◌, refl, sym, ap, ◌∙◌}
+use mathlib.Core.Path.{◌≡◌, sym, ap, ◌∙◌}
 use mathlib.Core.Bool.{Bool}
 use Prim.Native.Nat.{ℕ}
-use borrow.Author.Rules.{rules}
 use Rattle.lens.specs.Judgement.{verdict, decided}
 use Rattle.lens.specs.declared.Judgement.{Judgement}
 use Rattle.lens.proofs.Laws.{verdict_one_to_one}

@@ -1,7 +1,6 @@
 -- `job_bytes::check_word` meets its contract. The measure is how many words are left. Assumes nothing.
-use Rattle.std.proofs.Common.{◌-◌, arith, rules}
-use Rattle.job_bytes.specs.Places.{summed}
-use Rattle.job_bytes.proofs.Summing.{Summed, no_word, next_word, every_word}
+use Rattle.std.proofs.Common.{◌-◌, arith}
+use Rattle.job_bytes.proofs.Summing.{no_word, next_word, every_word}
 use Rattle.job_bytes.proofs.check_word.Goals as goal
 
 pub loop-i-init : goal.loop-i-init

@@ -1,7 +1,7 @@
 -- `job_bytes::check_word` meets its contract. The measure is how many words are left. Assumes nothing.
-use Rattle.std.proofs.Common.{◌-◌, arith, rules}
+use Rattle.std.proofs.Common.{◌-◌}
 use Rattle.job_bytes.specs.Places.{summed}
-use Rattle.job_bytes.proofs.Summing.{Summed, no_word, next_word, every_word}
+use Rattle.job_bytes.proofs.Summing.{Summed}
 use Rattle.job_bytes.proofs.check_word.Given as goal
 
 abbrev pub invariant-loop-i : goal.invariant-loop-i

@@ -1,5 +1,4 @@
 -- `job_bytes::fresh` meets its contract. Assumes nothing.
-use Rattle.std.proofs.Common.{rules}
 use Rattle.job_bytes.proofs.Beginning.{call}
 use Rattle.job_bytes.proofs.fresh.Goals as goal
 

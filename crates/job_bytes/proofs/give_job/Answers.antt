@@ -1,5 +1,5 @@
 -- `job_bytes::give_job` meets its contract. Assumes nothing.
-use Rattle.std.proofs.Common.{sym, ◌∙◌, rules}
+use Rattle.std.proofs.Common.{sym, ◌∙◌}
 use Rattle.little_endian.proofs.Laws.{put_whole}
 use Rattle.given.proofs.Giving.{written, left_alone}
 use Rattle.job_bytes.specs.Places.{record_length}

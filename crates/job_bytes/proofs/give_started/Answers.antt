@@ -1,5 +1,4 @@
 -- `job_bytes::give_started` meets its contract. Assumes nothing.
-use Rattle.std.proofs.Common.{rules}
 use Rattle.job_bytes.proofs.Beginning.{refused_given}
 use Rattle.job_bytes.proofs.give_started.Goals as goal
 

@@ -1,5 +1,5 @@
 -- `job_bytes::intact` meets its contract. Assumes nothing.
-use Rattle.std.proofs.Common.{eqb, ap₂, rules}
+use Rattle.std.proofs.Common.{eqb, ap₂}
 use Rattle.job_bytes.proofs.intact.Goals as goal
 
 pub returns : goal.returns

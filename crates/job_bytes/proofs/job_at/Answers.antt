@@ -1,5 +1,4 @@
 -- `job_bytes::job_at` meets its contract. Assumes nothing.
-use Rattle.std.proofs.Common.{rules}
 use Rattle.job_bytes.specs.Places.{edges_place, region_place}
 use Rattle.job_bytes.proofs.Reading.{boxed, placed}
 use Rattle.job_bytes.proofs.job_at.Goals as goal

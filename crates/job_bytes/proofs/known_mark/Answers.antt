@@ -1,5 +1,5 @@
 -- `job_bytes::known_mark` meets its contract. Assumes nothing.
-use Rattle.std.proofs.Common.{refl, rules, le-leb}
+use Rattle.std.proofs.Common.{refl, le-leb}
 use borrow.Author.Tests.{lt-leb}
 use Rattle.job_bytes.proofs.known_mark.Goals as goal
 

@@ -1,5 +1,4 @@
 -- `job_bytes::put_boxes` meets its contract. Assumes nothing.
-use Rattle.std.proofs.Common.{rules}
 use Rattle.job_bytes.proofs.Placing.{boxes_put}
 use Rattle.job_bytes.proofs.put_boxes.Goals as goal
 

@@ -1,5 +1,4 @@
 -- `job_bytes::put_camera` meets its contract. Assumes nothing.
-use Rattle.std.proofs.Common.{rules}
 use Rattle.job_bytes.proofs.Placing.{camera_put}
 use Rattle.job_bytes.proofs.put_camera.Goals as goal
 

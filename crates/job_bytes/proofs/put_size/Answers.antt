@@ -1,5 +1,4 @@
 -- `job_bytes::put_size` meets its contract. Assumes nothing.
-use Rattle.std.proofs.Common.{rules}
 use Rattle.job_bytes.proofs.Placing.{size_put}
 use Rattle.job_bytes.proofs.put_size.Goals as goal
 

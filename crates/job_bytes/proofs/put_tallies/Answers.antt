@@ -1,5 +1,4 @@
 -- `job_bytes::put_tallies` meets its contract. Assumes nothing.
-use Rattle.std.proofs.Common.{rules}
 use Rattle.job_bytes.proofs.Placing.{tallies_put}
 use Rattle.job_bytes.proofs.put_tallies.Goals as goal
 

@@ -1,5 +1,5 @@
 -- `job_bytes::read` meets its contract. Assumes nothing.
-use Rattle.std.proofs.Common.{ap, ◌∙◌, arith, rules}
+use Rattle.std.proofs.Common.{ap, ◌∙◌, arith}
 use Rattle.job_bytes.specs.declared.Found.TheVariants.{Of}
 use Rattle.job_bytes.proofs.Reading.{read_misfit, read_unknown, read_job}
 use Rattle.job_bytes.proofs.read.Goals as goal

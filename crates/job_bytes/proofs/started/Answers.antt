@@ -1,5 +1,5 @@
 -- `job_bytes::started` meets its contract. Assumes nothing.
-use Rattle.std.proofs.Common.{◌≡◌, ℕ, eqb, refl, ap, ◌∙◌, rules}
+use Rattle.std.proofs.Common.{◌≡◌, ℕ, eqb, refl, ap, ◌∙◌}
 use Rattle.job.specs.Job.{fresh, told_started}
 use Rattle.job.specs.declared.Started.{Started}
 use Rattle.job.proofs.Laws.{started_one_to_one}

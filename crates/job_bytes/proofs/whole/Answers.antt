@@ -1,5 +1,5 @@
 -- `job_bytes::whole` meets its contract. Assumes nothing.
-use Rattle.std.proofs.Common.{◌≡◌, ℕ, ◌<◌, ◌≤◌, Bool, false, List, refl, arith, rules, le-leb}
+use Rattle.std.proofs.Common.{◌≡◌, ℕ, ◌<◌, ◌≤◌, Bool, false, List, refl, arith, le-leb}
 use borrow.Author.Tests.{lt-leb}
 use Rattle.little_endian.specs.Bytes.{word}
 use Rattle.job_bytes.specs.Places.{mark_place}

@@ -1,5 +1,4 @@
 -- `job_bytes::write` meets its contract. Assumes nothing.
-use Rattle.std.proofs.Common.{rules}
 use Rattle.job_bytes.proofs.Placing.{no_room, body_put, check_put}
 use Rattle.job_bytes.proofs.write.Goals as goal
 

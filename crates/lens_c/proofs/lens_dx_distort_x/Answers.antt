@@ -1,5 +1,4 @@
 -- `lens_c::lens_dx_distort_x` meets its contract. Assumes nothing.
-use borrow.Author.Rules.{rules}
 use Rattle.lens_c.proofs.lens_dx_distort_x.Goals as goal
 
 pub returns : goal.returns

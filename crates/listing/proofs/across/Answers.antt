@@ -1,5 +1,4 @@
 -- `listing::across` meets its contract. Assumes nothing.
-use borrow.Author.Rules.{rules}
 use borrow.Author.Tests.{eq-eqb, ne_eqb}
 use Rattle.listing.specs.Listing.{across}
 use Rattle.listing.proofs.across.Goals as goal

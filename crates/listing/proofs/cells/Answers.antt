@@ -2,11 +2,8 @@
 -- Assumes nothing.
 use mathlib.Core.Path.{◌∙◌}
 use Prim.Native.Nat.{◌-◌}
-use borrow.Author.Rules.{rules}
 use native.Mathlib.Omega.{arith}
-use lib.ListN.{length}
-use Rattle.put_text.specs.Placed.{written}
-use Rattle.listing.proofs.Rows.{Passed, none_passed, all_passed, rows_passed, no_room, one_passed}
+use Rattle.listing.proofs.Rows.{none_passed, all_passed, rows_passed, no_room, one_passed}
 use Rattle.listing.proofs.cells.Goals as goal
 
 pub loop-i-init : goal.loop-i-init

@@ -1,5 +1,4 @@
 -- `listing::down` meets its contract. Assumes nothing.
-use borrow.Author.Rules.{rules}
 use borrow.Author.Tests.{eq-eqb, ne_eqb}
 use Rattle.listing.specs.Listing.{down}
 use Rattle.listing.proofs.down.Goals as goal

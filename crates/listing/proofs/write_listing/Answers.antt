@@ -1,5 +1,4 @@
 -- `listing::write_listing` meets its contract. Assumes nothing.
-use borrow.Author.Rules.{rules}
 use Rattle.listing.proofs.Rows.{no_header, no_region, all_lines}
 use Rattle.listing.proofs.write_listing.Goals as goal
 

@@ -1,5 +1,4 @@
 -- `listing_lines::cell_line` meets its contract. Assumes nothing.
-use borrow.Author.Rules.{rules}
 use Rattle.listing_lines.proofs.cell_line.Goals as goal
 
 pub returns : goal.returns

@@ -1,6 +1,5 @@
 -- `listing_lines::count_line` meets its contract. Assumes nothing.
 use mathlib.Core.Path.{sym}
-use borrow.Author.Rules.{rules}
 use native.Mathlib.Omega.{arith}
 use lib.Seq.{length-take-le}
 use Rattle.put_text.proofs.Putting.{put_same}

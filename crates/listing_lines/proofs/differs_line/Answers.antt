@@ -1,5 +1,4 @@
 -- `listing_lines::differs_line` meets its contract. Assumes nothing.
-use borrow.Author.Rules.{rules}
 use Rattle.listing_lines.specs.Line.{differs_line}
 use Rattle.listing_lines.proofs.differs_line.Goals as goal
 

@@ -1,5 +1,4 @@
 -- `listing_lines::filled_line` meets its contract. Assumes nothing.
-use borrow.Author.Rules.{rules}
 use Rattle.listing_lines.specs.Line.{filled_line}
 use Rattle.listing_lines.proofs.filled_line.Goals as goal
 

@@ -1,6 +1,5 @@
 -- `listing_lines::grow` meets its contract: what it asks leaves room in a line. Assumes nothing.
 use borrow.Author.Rules.{rules}
-use native.Mathlib.Omega.{arith}
 use Rattle.listing_lines.proofs.Growing.{put_grown}
 use Rattle.listing_lines.proofs.grow.Goals as goal
 

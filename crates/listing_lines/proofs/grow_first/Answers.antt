@@ -1,6 +1,5 @@
 -- `listing_lines::grow_first` meets its contract. Assumes nothing.
 use mathlib.Core.Path.{◌∙◌}
-use borrow.Author.Rules.{rules}
 use native.Mathlib.Omega.{arith}
 use lib.ListN.{length-take}
 use Rattle.decimal.proofs.Digits.{decimal_is, fewest_short}

@@ -1,6 +1,5 @@
 -- `listing_lines::grow_single` meets its contract. Assumes nothing.
 use mathlib.Core.Path.{◌∙◌}
-use borrow.Author.Rules.{rules}
 use native.Mathlib.Omega.{arith}
 use Rattle.listing_lines.proofs.Numbers.{hex_is, hex_short}
 use Rattle.listing_lines.proofs.Growing.{field_grown}

@@ -1,7 +1,6 @@
 -- `listing_lines::is_region` meets its contract. Assumes nothing.
 use mathlib.Core.Path.{sym}
 use borrow.Author.Rules.{rules}
-use native.Mathlib.Omega.{arith}
 use lib.Seq.{length-take-le}
 use Rattle.listing_lines.proofs.Lines.{region_whole}
 use Rattle.listing_lines.proofs.is_region.Goals as goal

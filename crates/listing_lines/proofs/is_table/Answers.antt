@@ -1,7 +1,6 @@
 -- `listing_lines::is_table` meets its contract. Assumes nothing.
 use mathlib.Core.Path.{sym}
 use borrow.Author.Rules.{rules}
-use native.Mathlib.Omega.{arith}
 use lib.Seq.{length-take-le}
 use Rattle.listing_lines.proofs.Lines.{table_whole}
 use Rattle.listing_lines.proofs.is_table.Goals as goal

@@ -1,5 +1,4 @@
 -- `listing_lines::left_after` meets its contract. Assumes nothing.
-use borrow.Author.Rules.{rules}
 use borrow.Author.Tests.{eq-eqb, ne_eqb}
 use native.Mathlib.Omega.{arith}
 use Rattle.listing_lines.specs.Numeral.{left_after}

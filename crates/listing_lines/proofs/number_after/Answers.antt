@@ -1,6 +1,4 @@
 -- `listing_lines::number_after` meets its contract. Assumes nothing.
-use borrow.Author.Rules.{rules}
-use mathlib.Core.Path.{◌∙◌}
 use borrow.Author.Tests.{eq-eqb, ne_eqb}
 use Rattle.listing_lines.specs.Numeral.{number_after}
 use Rattle.listing_lines.proofs.number_after.Goals as goal

@@ -1,8 +1,6 @@
 -- `listing_lines::numeral` meets its contract. Assumes nothing.
 use Prim.Native.Nat.{◌-◌}
-use borrow.Author.Rules.{rules}
-use lib.ListN.{length}
-use Rattle.listing_lines.proofs.Passing.{Passed, none_passed, one_passed, all_passed}
+use Rattle.listing_lines.proofs.Passing.{none_passed, one_passed, all_passed}
 use Rattle.listing_lines.proofs.numeral.Goals as goal
 
 pub loop-i-init : goal.loop-i-init

@@ -1,9 +1,7 @@
 -- `listing_lines::pushed` meets its contract. Assumes nothing.
-use mathlib.Core.Path.{sym, ap, ◌∙◌}
 use Prim.Native.Nat.{◌*◌, ◌≤◌}
 use native.Mathlib.Nat.{mul-le-mul_left}
 use borrow.Author.Rules.{rules}
-use borrow.Author.Tests.{lt-ltb, le-ltb}
 use native.Mathlib.Omega.{arith}
 use Rattle.listing_lines.proofs.Passing.{pushed_room, pushed_full, pushed_none}
 use Rattle.listing_lines.proofs.pushed.Goals as goal

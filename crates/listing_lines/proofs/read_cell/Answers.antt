@@ -1,6 +1,5 @@
 -- `listing_lines::read_cell` meets its contract. Assumes nothing.
 use mathlib.Core.Path.{sym, ◌∙◌}
-use borrow.Author.Rules.{rules}
 use Rattle.listing_lines.proofs.Guess.{cell_guessed}
 use Rattle.listing_lines.proofs.read_cell.Goals as goal
 

@@ -1,6 +1,5 @@
 -- `listing_lines::read_table` meets its contract. Assumes nothing.
 use mathlib.Core.Path.{sym, ◌∙◌}
-use borrow.Author.Rules.{rules}
 use Rattle.listing_lines.proofs.Guess.{table_guessed}
 use Rattle.listing_lines.proofs.read_table.Goals as goal
 

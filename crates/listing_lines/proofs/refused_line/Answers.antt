@@ -1,6 +1,5 @@
 -- `listing_lines::refused_line` meets its contract. Assumes nothing.
 use mathlib.Core.Path.{ap, sym, ◌∙◌}
-use borrow.Author.Rules.{rules}
 use native.Mathlib.Omega.{arith}
 use lib.Seq.{length-take-le}
 use Rattle.listing_lines.specs.Line.{refused_line}

@@ -1,6 +1,5 @@
 -- `listing_lines::region_text` meets its contract. Assumes nothing.
 use mathlib.Core.Path.{sym}
-use borrow.Author.Rules.{rules}
 use native.Mathlib.Omega.{arith}
 use lib.Seq.{length-take-le}
 use Rattle.listing_lines.proofs.Lines.{region_made}

@@ -1,5 +1,5 @@
 -- `lookup::blended` meets its contract. Assumes nothing.
-use Rattle.std.proofs.Common.{refl, rules}
+use Rattle.std.proofs.Common.{refl}
 use Rattle.lookup.specs.Lookup.{blended}
 use Rattle.lookup.proofs.blended.Goals as goal
 

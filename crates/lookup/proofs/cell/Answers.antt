@@ -1,6 +1,5 @@
 -- `lookup::cell` meets its contract. Assumes nothing.
 use Rattle.lookup.specs.Lookup.{cell}
-use Rattle.std.proofs.Common.{rules}
 use Rattle.lookup.proofs.cell.Goals as goal
 
 pub returns : goal.returns

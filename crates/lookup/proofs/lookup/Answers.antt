@@ -1,5 +1,5 @@
 -- `lookup::lookup` meets its contract. Assumes nothing.
-use Rattle.std.proofs.Common.{◌≡◌, ℕ, List, length, sym, refl, ◌∙◌, rules}
+use Rattle.std.proofs.Common.{◌≡◌, ℕ, List, length, sym, refl, ◌∙◌}
 use lib.Ieee.{Float}
 use Rattle.lens.specs.Distorted.{told_pixel}
 use Rattle.lens.specs.Judgement.{decided}

@@ -1,5 +1,5 @@
 -- `lookup::measured` meets its contract. A size that is taken has few enough cells. Assumes nothing.
-use Rattle.std.proofs.Common.{arith, rules}
+use Rattle.std.proofs.Common.{arith}
 use Rattle.region.proofs.Size.{bounded}
 use Rattle.lookup.proofs.measured.Goals as goal
 

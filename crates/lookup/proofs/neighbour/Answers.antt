@@ -1,5 +1,5 @@
 -- `lookup::neighbour` meets its contract. Assumes nothing.
-use Rattle.std.proofs.Common.{sym, arith, rules}
+use Rattle.std.proofs.Common.{sym, arith}
 use native.Mathlib.Nat.{min-eq_left, min-eq_right}
 use Rattle.lookup.proofs.neighbour.Goals as goal
 

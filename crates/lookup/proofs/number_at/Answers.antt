@@ -1,5 +1,5 @@
 -- `lookup::number_at` meets its contract. Assumes nothing.
-use Rattle.std.proofs.Common.{refl, rules}
+use Rattle.std.proofs.Common.{refl}
 use Rattle.lookup.specs.Lookup.{number_at}
 use Rattle.lookup.proofs.Steps.{in_table}
 use Rattle.lookup.proofs.number_at.Goals as goal

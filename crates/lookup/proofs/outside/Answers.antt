@@ -1,5 +1,5 @@
 -- `lookup::outside` meets its contract. Assumes nothing.
-use Rattle.std.proofs.Common.{◌≡◌, ℕ, ◌-◌, Bool, ◌||◌, sym, refl, ◌∙◌, rules}
+use Rattle.std.proofs.Common.{◌≡◌, ℕ, ◌-◌, Bool, ◌||◌, sym, refl, ◌∙◌}
 use lib.Ieee.{Float, lt}
 use Rattle.lens.specs.Constants.{zeros}
 use Rattle.region.specs.Size.{float}

@@ -1,5 +1,5 @@
 -- `lookup::pixel_at` meets its contract. Assumes nothing.
-use Rattle.std.proofs.Common.{refl, rules}
+use Rattle.std.proofs.Common.{refl}
 use Rattle.lookup.proofs.pixel_at.Goals as goal
 
 pub returns : goal.returns

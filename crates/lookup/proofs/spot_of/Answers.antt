@@ -1,5 +1,5 @@
 -- `lookup::spot_of` meets its contract. The truncation is of an index that it takes. Assumes nothing.
-use Rattle.std.proofs.Common.{ℕ, ◌<◌, sym, refl, subst, rules}
+use Rattle.std.proofs.Common.{ℕ, ◌<◌, sym, refl, subst}
 use Rattle.lookup.specs.Lookup.{spot}
 use Rattle.lookup.proofs.Among.{cut}
 use Rattle.lookup.proofs.spot_of.Goals as goal

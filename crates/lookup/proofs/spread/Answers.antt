@@ -1,5 +1,5 @@
 -- `lookup::spread` meets its contract. Assumes nothing.
-use Rattle.std.proofs.Common.{sym, refl, ◌∙◌, subst, rules}
+use Rattle.std.proofs.Common.{sym, refl, ◌∙◌, subst}
 use Rattle.lens.proofs.Laws.{verdict_one_to_one}
 use Rattle.lookup.specs.Asked.{Number}
 use Rattle.lookup.proofs.Steps.{spread_so, indices}

@@ -11,7 +11,6 @@ use Rattle.lookup.specs.Lookup.{lookup}
 use Rattle.answer_bytes.specs.Answer.{give_pixel}
 use Rattle.lookup_bytes.specs.Lookup.{lookup_bytes}
 use Rattle.answer_bytes.proofs.Giving.{call}
-use borrow.Author.Rules.{rules}
 use Rattle.lookup_bytes.proofs.lookup.Goals as goal
 
 pub returns : goal.returns

@@ -1,10 +1,9 @@
 -- `mending::feed` meets its contract. The loop's invariant: with the bytes that are left, what comes out is what the whole
 -- piece gives. Assumes nothing.
 use Prim.Native.Nat.{◌-◌}
-use borrow.Author.Rules.{rules}
 use lib.ListN.{length}
 use Rattle.mending.specs.Fed.{fed}
-use Rattle.mending.proofs.Passing.{Passed, none_passed, one_passed, all_passed}
+use Rattle.mending.proofs.Passing.{Passed}
 use Rattle.mending.proofs.feed.Given as goal
 
 abbrev pub invariant-loop-i : goal.invariant-loop-i

@@ -1,6 +1,5 @@
 -- `mending::keep` meets its contract. Assumes nothing.
 use mathlib.Core.Path.{sym, ◌∙◌}
-use borrow.Author.Rules.{rules}
 use Rattle.listing_lines.specs.Read.{read_cell}
 use Rattle.mending.specs.Kept.{keep}
 use Rattle.mending.proofs.Keeping.{cell_kept, none_kept}

@@ -1,6 +1,5 @@
 -- `mending::mend` meets its contract. Assumes nothing.
 use mathlib.Core.Path.{sym, ap, ◌∙◌}
-use borrow.Author.Rules.{rules}
 use Rattle.put_text.specs.Placed.{written, with_text}
 use Rattle.mending.proofs.Asked.{built_mended, no_room, all_put, counts}
 use Rattle.mending.proofs.mend.Goals as goal

@@ -1,6 +1,5 @@
 -- `mending::mend_built` meets its contract. Assumes nothing.
 use mathlib.Core.Path.{sym, ap, subst, ◌∙◌}
-use borrow.Author.Rules.{rules}
 use Rattle.put_text.specs.Placed.{written, with_text}
 use Rattle.listing.specs.Read.{lines}
 use Rattle.printer.specs.Made.{told_built, HasRoom, held}

@@ -1,5 +1,4 @@
 -- `mending::tell` meets its contract. Assumes nothing.
-use borrow.Author.Rules.{rules}
 use borrow.Author.Tests.{eq-eqb, ne_eqb}
 use Rattle.mending.specs.Kept.{kept_from}
 use Rattle.mending.proofs.tell.Goals as goal

@@ -1,10 +1,9 @@
 -- `mending::tell_all` meets its contract. The loop's invariant: what is put of the cells that are left is what is put
 -- of all. Assumes nothing.
 use Prim.Native.Nat.{◌-◌, ◌*◌}
-use borrow.Author.Rules.{rules}
 use lib.ListN.{length}
 use Rattle.put_text.specs.Placed.{written}
-use Rattle.mending.proofs.Telling.{Passed, none_passed, one_passed, all_passed}
+use Rattle.mending.proofs.Telling.{Passed}
 use Rattle.mending.proofs.tell_all.Given as goal
 
 abbrev pub invariant-loop-k : goal.invariant-loop-k

@@ -1,5 +1,4 @@
 -- `mending::tell_differing` meets its contract. Assumes nothing.
-use borrow.Author.Rules.{rules}
 use borrow.Author.Tests.{eq-eqb, ne_eqb}
 use Rattle.put_text.specs.Placed.{each_placed}
 use Rattle.mending.proofs.tell_differing.Goals as goal

@@ -1,5 +1,4 @@
 -- `mending::tell_given` meets its contract. Assumes nothing.
-use borrow.Author.Rules.{rules}
 use Rattle.put_text.specs.Placed.{each_placed}
 use Rattle.mending.proofs.tell_given.Goals as goal
 

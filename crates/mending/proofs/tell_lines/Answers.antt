@@ -1,5 +1,4 @@
 -- `mending::tell_lines` meets its contract. Assumes nothing.
-use borrow.Author.Rules.{rules}
 use Rattle.mending.specs.Written.{lines_told}
 use Rattle.mending.proofs.Telling.{all_put}
 use Rattle.mending.proofs.tell_lines.Goals as goal

@@ -1,5 +1,4 @@
 -- `mending::tell_missing` meets its contract. Assumes nothing.
-use borrow.Author.Rules.{rules}
 use Rattle.put_text.specs.Placed.{each_placed}
 use Rattle.mending.proofs.tell_missing.Goals as goal
 

@@ -5,7 +5,6 @@ use Rattle.little_endian.specs.Bytes.{floats}
 use Rattle.given.proofs.Giving.{written, left_alone}
 use Rattle.little_endian.proofs.Laws.{length_floats, put_whole}
 use native.Mathlib.Omega.{arith}
-use borrow.Author.Rules.{rules}
 use Rattle.number_bytes.proofs.give_slope.Goals as goal
 
 pub returns-then-code-eq0 : goal.returns-then-code-eq0

@@ -5,7 +5,6 @@ use lib.Ieee.{Float}
 use Rattle.arctan.specs.Owed.{slope_number, Tangent}
 use Rattle.arctan.specs.declared.Slope.{Slope}
 use Rattle.number_bytes.specs.Number.{give_slope, slope_value, tangent_bytes}
-use borrow.Author.Rules.{rules}
 use Rattle.number_bytes.proofs.tangent.Goals as goal
 
 pub returns : goal.returns

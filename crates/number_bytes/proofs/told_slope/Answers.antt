@@ -1,7 +1,6 @@
 -- `number_bytes::told_slope` meets its contract. Assumes nothing.
 use mathlib.Core.Path.{refl}
 use lib.Ieee.{of_bits}
-use borrow.Author.Rules.{rules}
 use Rattle.number_bytes.proofs.told_slope.Goals as goal
 
 pub returns-in-Is : goal.returns-in-Is

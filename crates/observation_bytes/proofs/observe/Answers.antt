@@ -6,7 +6,6 @@ use lib.ListN.{length}
 use Rattle.given.specs.Given.{code}
 use Rattle.observation_bytes.specs.Bytes.{observe_bytes}
 use Rattle.observation_bytes.proofs.Called.{by_camera, by_none}
-use borrow.Author.Rules.{rules}
 use Rattle.observation_bytes.proofs.observe.Goals as goal
 
 pub returns-in-Of : goal.returns-in-Of

@@ -1,6 +1,5 @@
 -- `observation_bytes::observed_by` meets its contract. Assumes nothing.
 use mathlib.Core.Path.{ap, subst, sym, ◌∙◌}
-use mathlib.Core.Bool.{Bool}
 use Prim.Native.Nat.{ℕ, ◌*◌, ◌%◌, ◌≤◌}
 use lib.Dec.{eqb}
 use lib.ListN.{length}
@@ -8,7 +7,6 @@ use Rattle.given.specs.Given.{code}
 use Rattle.observation_bytes.specs.Bytes.{each}
 use Rattle.observation_bytes.specs.Parts.{seen_bytes}
 use Rattle.observation_bytes.proofs.Called.{rounds_most}
-use borrow.Author.Rules.{rules}
 use Rattle.observation_bytes.proofs.observed_by.Goals as goal
 
 pub see_each-requires : goal.see_each-requires

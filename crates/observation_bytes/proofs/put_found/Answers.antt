@@ -4,7 +4,6 @@ use mathlib.Core.List.{List}
 use Prim.Native.Nat.{ℕ, ◌+◌}
 use Rattle.little_endian.specs.Bytes.{bytes, put}
 use Rattle.observation_bytes.proofs.Pass.{found_put}
-use borrow.Author.Rules.{rules}
 use Rattle.observation_bytes.proofs.put_found.Goals as goal
 
 pub returns : goal.returns

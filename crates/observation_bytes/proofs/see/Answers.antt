@@ -7,7 +7,6 @@ use Rattle.observations.specs.Observations.{seen}
 use Rattle.observations.specs.declared.Observation.{Observation}
 use Rattle.observation_bytes.specs.Bytes.{found_bytes}
 use Rattle.observation_bytes.specs.Parts.{blank}
-use borrow.Author.Rules.{rules}
 use Rattle.observation_bytes.proofs.see.Goals as goal
 
 pub returns : goal.returns

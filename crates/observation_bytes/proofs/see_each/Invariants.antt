@@ -1,13 +1,11 @@
 -- `observation_bytes::see_each` meets its contract. The measure is how many records are left. Assumes nothing.
 use Prim.Native.Nat.{◌-◌}
-use native.Mathlib.Omega.{arith}
 use Rattle.lens.specs.declared.Pixel.{Pixel}
 use Rattle.camera.specs.declared.Camera.{Camera}
 use Rattle.observations.specs.Observations.{seen}
 use Rattle.observations.specs.declared.Observation.{Observation}
 use Rattle.observation_bytes.specs.Parts.{blank}
-use Rattle.observation_bytes.proofs.Pass.{Recordwise, none, as_long, next, all}
-use borrow.Author.Rules.{rules}
+use Rattle.observation_bytes.proofs.Pass.{Recordwise}
 use Rattle.observation_bytes.proofs.see_each.Given as goal
 
 abbrev pub find : Camera → Pixel → Observation

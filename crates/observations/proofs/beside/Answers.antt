@@ -1,7 +1,6 @@
 -- `observations::beside` meets its contract. Assumes nothing.
 use mathlib.Core.Path.{refl}
 use lib.Ieee.{of_bits}
-use borrow.Author.Rules.{rules}
 use Rattle.observations.proofs.beside.Goals as goal
 
 pub returns-in-At : goal.returns-in-At

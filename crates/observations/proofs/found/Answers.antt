@@ -1,6 +1,5 @@
 -- `observations::found` meets its contract. Assumes nothing.
 use mathlib.Core.Path.{refl}
-use borrow.Author.Rules.{rules}
 use Rattle.observations.proofs.found.Goals as goal
 
 pub returns-then-both_finite : goal.returns-then-both_finite

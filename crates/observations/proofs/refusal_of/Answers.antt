@@ -1,6 +1,5 @@
 -- `observations::refusal_of` meets its contract. Assumes nothing.
 use mathlib.Core.Path.{refl}
-use borrow.Author.Rules.{rules}
 use Rattle.observations.specs.Observations.{refusal_of}
 use Rattle.observations.proofs.refusal_of.Goals as goal
 

@@ -1,6 +1,5 @@
 -- `observations::seen` meets its contract. Assumes nothing.
 use mathlib.Core.Path.{ap, ◌∙◌}
-use borrow.Author.Rules.{rules}
 use Rattle.observations.specs.Observations.{beside, seen}
 use Rattle.observations.proofs.seen.Goals as goal
 

@@ -1,12 +1,9 @@
 -- `opencv::all_finite` meets its contract. The loop's invariant: the numbers from i on decide. Assumes nothing.
-use mathlib.Core.Path.{◌≡◌, refl, ◌∙◌}
+use mathlib.Core.Path.{◌≡◌}
 use Prim.Native.Nat.{◌-◌, ◌≤◌}
-use native.Mathlib.Omega.{arith}
 use lib.ListN.{length, drop}
 use Rattle.decimal.specs.Text.{all}
-use Rattle.decimal.proofs.Bytes.{ends, goes_on, at_end}
 use Rattle.opencv.specs.Moved.{finite_bits}
-use borrow.Author.Rules.{rules}
 use Rattle.opencv.proofs.all_finite.Given as goal
 
 abbrev pub invariant-loop-i : goal.invariant-loop-i

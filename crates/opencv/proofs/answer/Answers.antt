@@ -3,7 +3,6 @@ use mathlib.Core.Path.{sym, ◌∙◌}
 use lib.Seq.{length-take-le}
 use Rattle.put_text.proofs.Putting.{put_same}
 use Rattle.opencv.proofs.Answers.{answered_ours, answered_lines, answered_long}
-use borrow.Author.Rules.{rules}
 use Rattle.opencv.proofs.answer.Goals as goal
 
 pub returns-then-text-gt-LONGEST : goal.returns-then-text-gt-LONGEST

@@ -1,7 +1,6 @@
 -- `opencv::answer_theirs` meets its contract. Assumes nothing.
 use Rattle.put_text.proofs.Putting.{put_same}
 use Rattle.opencv.proofs.Answers.{lines_theirs, lines_neither}
-use borrow.Author.Rules.{rules}
 use Rattle.opencv.proofs.answer_theirs.Goals as goal
 
 pub returns-then-are_theirs : goal.returns-then-are_theirs

@@ -1,7 +1,6 @@
 -- `opencv::are_theirs` meets its contract. Assumes nothing.
 use mathlib.Core.Path.{sym, ◌∙◌}
 use Rattle.opencv.proofs.Judging.{no, yes}
-use borrow.Author.Rules.{rules}
 use Rattle.opencv.proofs.are_theirs.Goals as goal
 
 pub returns-then-is_line : goal.returns-then-is_line

@@ -1,17 +1,14 @@
 -- `opencv::are_zeros` meets its contract. The loop's invariant: the numbers from k on decide. Assumes nothing.
 use mathlib.Core.Bool.{not}
 use mathlib.Core.Path.{ap}
-use mathlib.Core.Path.{◌≡◌, refl, ◌∙◌}
+use mathlib.Core.Path.{refl, ◌∙◌}
 use Prim.Native.Nat.{◌-◌}
 use native.Mathlib.Omega.{arith}
-use lib.ListN.{drop}
-use Rattle.decimal.specs.Text.{all}
 use Rattle.decimal.proofs.Bytes.{ends, goes_on, at_end}
 use Rattle.params_line.specs.Params.{params_of}
 use Rattle.params_line.proofs.Params.{params_length}
 use Rattle.opencv.specs.Moved.{zero_bits}
 use Rattle.opencv.proofs.Judging.{zero_read}
-use borrow.Author.Rules.{rules}
 use Rattle.opencv.proofs.are_zeros.Goals as goal
 
 pub loop-k-init : goal.loop-k-init

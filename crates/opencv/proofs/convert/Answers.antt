@@ -1,7 +1,6 @@
 -- `opencv::convert` meets its contract. Assumes nothing.
 use mathlib.Core.Path.{◌∙◌}
 use Rattle.opencv.proofs.Short.{no_room, all_room, counts}
-use borrow.Author.Rules.{rules}
 use Rattle.opencv.proofs.convert.Goals as goal
 
 pub returns-then-out-lt-OUTPUT : goal.returns-then-out-lt-OUTPUT

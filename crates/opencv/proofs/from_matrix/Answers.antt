@@ -1,7 +1,6 @@
 -- `opencv::from_matrix` meets its contract: each number by its name. Assumes nothing.
 use mathlib.Core.Path.{refl}
 use Rattle.opencv.specs.Moved.{of_theirs}
-use borrow.Author.Rules.{rules}
 use Rattle.opencv.proofs.from_matrix.Goals as goal
 
 pub returns : goal.returns

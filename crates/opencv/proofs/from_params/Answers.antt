@@ -1,7 +1,6 @@
 -- `opencv::from_params` meets its contract: each number by its name. Assumes nothing.
 use mathlib.Core.Path.{refl}
 use Rattle.opencv.specs.Moved.{of_ours}
-use borrow.Author.Rules.{rules}
 use Rattle.opencv.proofs.from_params.Goals as goal
 
 pub returns : goal.returns

@@ -1,7 +1,6 @@
 -- `opencv::is_finite` meets its contract. Assumes nothing.
 use mathlib.Core.Path.{ap, ◌∙◌}
 use lib.Ieee.Scale.{finite}
-use borrow.Author.Rules.{rules}
 use Rattle.opencv.proofs.is_finite.Goals as goal
 
 pub returns : goal.returns

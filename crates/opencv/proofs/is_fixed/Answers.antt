@@ -4,7 +4,6 @@ use mathlib.Core.Path.{ap}
 use lib.Dec.{eqb}
 use Rattle.opencv.specs.Moved.{one, fixed}
 use Rattle.opencv.proofs.Judging.{no, yes, said_no, said_yes, zero_read}
-use borrow.Author.Rules.{rules}
 use Rattle.opencv.proofs.is_fixed.Goals as goal
 
 pub returns-then-not-is_zero : goal.returns-then-not-is_zero

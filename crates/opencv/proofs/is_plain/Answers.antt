@@ -7,7 +7,6 @@ use Rattle.params_line.specs.Params.{params_of}
 use Rattle.params_line.proofs.Params.{params_length}
 use Rattle.opencv.specs.Moved.{counted, plain}
 use Rattle.opencv.proofs.Judging.{no, yes, said_no, said_yes}
-use borrow.Author.Rules.{rules}
 use Rattle.opencv.proofs.is_plain.Goals as goal
 
 pub returns-then-many-ne9 : goal.returns-then-many-ne9

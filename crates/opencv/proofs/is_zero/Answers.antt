@@ -1,7 +1,6 @@
 -- `opencv::is_zero` meets its contract. Assumes nothing.
 use mathlib.Core.Path.{ap, ◌∙◌}
 use Rattle.exact.specs.F64.{is_zero}
-use borrow.Author.Rules.{rules}
 use Rattle.opencv.proofs.is_zero.Goals as goal
 
 pub returns : goal.returns

@@ -5,7 +5,6 @@ use Rattle.lens.specs.Rows.{first}
 use Rattle.opencv.specs.Moved.{number_rows}
 use Rattle.opencv.specs.declared.Twelve.{Twelve}
 use Rattle.opencv.proofs.Judging.{past, seventeen_first}
-use borrow.Author.Rules.{rules}
 use Rattle.opencv.proofs.judge_matrix.Goals as goal
 
 pub returns-then-is_plain : goal.returns-then-is_plain

@@ -3,7 +3,6 @@ use mathlib.Core.Path.{refl, sym, ap, ◌∙◌}
 use mathlib.Core.Bool.{not}
 use Rattle.opencv.specs.Moved.{our_params, number_rows}
 use Rattle.opencv.proofs.Judging.{hit, miss, holds, past, said_no, said_yes}
-use borrow.Author.Rules.{rules}
 use Rattle.opencv.proofs.judge_numbers.Goals as goal
 
 pub returns-then-not-all_finite : goal.returns-then-not-all_finite

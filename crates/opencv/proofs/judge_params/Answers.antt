@@ -9,7 +9,6 @@ use Rattle.params_line.proofs.Params.{params_length}
 use Rattle.opencv.specs.Moved.{number_rows}
 use Rattle.opencv.specs.declared.Twelve.{Twelve}
 use Rattle.opencv.proofs.Judging.{holds, past}
-use borrow.Author.Rules.{rules}
 use Rattle.opencv.proofs.judge_params.Goals as goal
 
 pub returns-then-many-eq12 : goal.returns-then-many-eq12

@@ -1,6 +1,5 @@
 -- `opencv::line_end` meets its contract. Assumes nothing.
 use Rattle.opencv.proofs.Answers.{ends_after, ends_nowhere}
-use borrow.Author.Rules.{rules}
 use Rattle.opencv.proofs.line_end.Goals as goal
 
 pub returns-then-end-text : goal.returns-then-end-text

@@ -6,7 +6,6 @@ use Rattle.opencv.specs.Text.{theirs, text_of}
 use Rattle.opencv.specs.Moved.{their_matrix, their_coeffs}
 use Rattle.opencv.specs.declared.Twelve.{Twelve}
 use Rattle.opencv.proofs.Answers.{taken_text, refused_text}
-use borrow.Author.Rules.{rules}
 use Rattle.opencv.proofs.move_ours.Goals as goal
 
 pub returns-in-Taken : goal.returns-in-Taken

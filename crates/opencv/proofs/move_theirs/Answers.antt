@@ -6,7 +6,6 @@ use Rattle.opencv.specs.Text.{ours, text_of}
 use Rattle.opencv.specs.Moved.{our_params}
 use Rattle.opencv.specs.declared.Twelve.{Twelve}
 use Rattle.opencv.proofs.Answers.{taken_text, refused_text}
-use borrow.Author.Rules.{rules}
 use Rattle.opencv.proofs.move_theirs.Goals as goal
 
 pub returns-in-Taken : goal.returns-in-Taken

@@ -5,7 +5,6 @@ use Rattle.params_line.proofs.Putting.{line_long}
 use Rattle.opencv.specs.Text.{matrix_word, coeffs_word}
 use Rattle.opencv.specs.Moved.{their_matrix, their_coeffs}
 use Rattle.opencv.proofs.Answers.{both_put}
-use borrow.Author.Rules.{rules}
 use Rattle.opencv.proofs.put_matrix.Goals as goal
 
 pub returns : goal.returns

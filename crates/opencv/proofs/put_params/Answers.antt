@@ -2,7 +2,6 @@
 use mathlib.Core.Path.{refl}
 use Rattle.put_text.proofs.Putting.{put_same}
 use Rattle.opencv.specs.Moved.{our_params}
-use borrow.Author.Rules.{rules}
 use Rattle.opencv.proofs.put_params.Goals as goal
 
 pub returns : goal.returns

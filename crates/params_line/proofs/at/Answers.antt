@@ -1,7 +1,6 @@
 -- `params_line::at` meets its contract. Assumes nothing.
 use mathlib.Core.Path.{ap, ◌∙◌}
 use Rattle.exact.specs.F64.{f64}
-use borrow.Author.Rules.{rules}
 use Rattle.params_line.proofs.at.Goals as goal
 
 pub returns : goal.returns

@@ -1,7 +1,6 @@
 -- `params_line::bits_at` meets its contract. Assumes nothing.
 use native.Mathlib.Omega.{arith}
 use Rattle.params_line.proofs.Params.{param_past}
-use borrow.Author.Rules.{rules}
 use Rattle.params_line.proofs.bits_at.Goals as goal
 
 pub returns-then-k-many : goal.returns-then-k-many

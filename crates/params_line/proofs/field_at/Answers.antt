@@ -2,7 +2,6 @@
 use mathlib.Core.Path.{sym, ap, refl, ◌∙◌}
 use Rattle.hexadecimal.specs.Hex.{bits_of}
 use Rattle.params_line.proofs.Params.{param_at}
-use borrow.Author.Rules.{rules}
 use Rattle.params_line.proofs.field_at.Goals as goal
 
 pub returns-in-Of : goal.returns-in-Of

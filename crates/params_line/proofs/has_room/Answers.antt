@@ -4,7 +4,6 @@ use Prim.Native.Nat.{◌+◌, ◌*◌, ◌-◌, ◌/◌}
 use native.Mathlib.Omega.{arith}
 use borrow.Author.Tests.{lt-leb}
 use Rattle.params_line.proofs.Putting.{same_test}
-use borrow.Author.Rules.{rules}
 use Rattle.params_line.proofs.has_room.Goals as goal
 
 pub returns-then-long-at : goal.returns-then-long-at

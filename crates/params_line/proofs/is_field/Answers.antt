@@ -2,7 +2,6 @@
 use mathlib.Core.Path.{sym, ap, ◌∙◌}
 use Rattle.hexadecimal.specs.Hex.{is_bits}
 use Rattle.params_line.proofs.Params.{in_chunk}
-use borrow.Author.Rules.{rules}
 use Rattle.params_line.proofs.is_field.Goals as goal
 
 pub returns-in-Of : goal.returns-in-Of

@@ -4,7 +4,6 @@ use native.Mathlib.Omega.{arith}
 use lib.ListN.{length-take}
 use Rattle.decimal.proofs.Bytes.{matched}
 use Rattle.params_line.proofs.Params.{no_fields, that_word, other_word}
-use borrow.Author.Rules.{rules}
 use Rattle.params_line.proofs.is_line.Goals as goal
 
 pub returns-then-n-eq0 : goal.returns-then-n-eq0

@@ -4,7 +4,6 @@ use native.Mathlib.Omega.{arith}
 use lib.Seq.{length-take-le}
 use Rattle.put_text.proofs.Putting.{put_same}
 use Rattle.params_line.proofs.Putting.{field_long, field_made}
-use borrow.Author.Rules.{rules}
 use Rattle.params_line.proofs.put_field.Goals as goal
 
 pub slice_bounds-text-end : goal.slice_bounds-text-end

@@ -1,8 +1,6 @@
 -- `params_line::put_fields` meets its contract. The loop's invariant: what is left, put from here on, makes the whole. Assumes nothing.
 use Prim.Native.Nat.{◌-◌}
-use lib.ListN.{length}
-use borrow.Author.Rules.{rules}
-use Rattle.params_line.proofs.Putting.{Going, none_put, one_put, all_put}
+use Rattle.params_line.proofs.Putting.{none_put, one_put, all_put}
 use Rattle.params_line.proofs.put_fields.Goals as goal
 
 pub loop-i-init : goal.loop-i-init

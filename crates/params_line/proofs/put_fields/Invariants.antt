@@ -1,8 +1,7 @@
 -- `params_line::put_fields` meets its contract. The loop's invariant: what is left, put from here on, makes the whole. Assumes nothing.
 use Prim.Native.Nat.{◌-◌}
 use lib.ListN.{length}
-use borrow.Author.Rules.{rules}
-use Rattle.params_line.proofs.Putting.{Going, none_put, one_put, all_put}
+use Rattle.params_line.proofs.Putting.{Going}
 use Rattle.params_line.proofs.put_fields.Given as goal
 
 abbrev pub invariant-loop-i : goal.invariant-loop-i

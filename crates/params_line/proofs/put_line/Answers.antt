@@ -2,7 +2,6 @@
 use mathlib.Core.Bool.{not}
 use mathlib.Core.Path.{ap}
 use Rattle.params_line.proofs.Putting.{line_left, fields_fit, line_put}
-use borrow.Author.Rules.{rules}
 use Rattle.params_line.proofs.put_line.Goals as goal
 
 pub returns-then-not-has_room : goal.returns-then-not-has_room

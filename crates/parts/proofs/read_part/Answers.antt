@@ -5,7 +5,6 @@ use Prim.Native.Nat.{◌≤◌}
 use native.Mathlib.Omega.{arith}
 use lib.ListN.{length, drop, length-append}
 use lib.Seq.{length-take-le}
-use borrow.Author.Rules.{rules}
 use Rattle.parts.proofs.read_part.Goals as goal
 
 pub slice_bounds-read_full-end-3 : goal.slice_bounds-read_full-end-3

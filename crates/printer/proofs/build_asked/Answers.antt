@@ -8,7 +8,6 @@ use Rattle.job.specs.declared.Started.{Started}
 use Rattle.job.proofs.Laws.{started_one_to_one}
 use Rattle.distortion_table.proofs.Calls.{fresh_opens}
 use Rattle.printer.specs.Made.{build_sized, started, build_asked}
-use borrow.Author.Rules.{rules}
 use Rattle.printer.proofs.build_asked.Goals as goal
 
 pub build_sized-requires : goal.build_sized-requires

@@ -1,7 +1,6 @@
 -- `printer::build_parsed` meets its contract. Assumes nothing.
 use mathlib.Core.Path.{sym, ap, ◌∙◌}
 use Rattle.printer.specs.Made.{build_parsed}
-use borrow.Author.Rules.{rules}
 use Rattle.printer.proofs.build_parsed.Goals as goal
 
 pub returns-in-Refused : goal.returns-in-Refused

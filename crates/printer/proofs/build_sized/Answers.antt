@@ -14,7 +14,6 @@ use Rattle.camera.specs.declared.Camera.{Camera}
 use Rattle.distortion_table.specs.Answer.{Answer, told_status, told_turned, whole_table}
 use Rattle.distortion_table.specs.declared.Turned.{Turned}
 use Rattle.printer.specs.Made.{most_cells, Outcome, in_room, outcome_of, over, unbuilt, build_whole, build_sized}
-use borrow.Author.Rules.{rules}
 use Rattle.printer.proofs.build_sized.Goals as goal
 
 module _ (room : List Float) (camera : Camera) (width height : ℕ) where

@@ -6,7 +6,6 @@ use lib.Ieee.{Float}
 use lib.ListN.{length, drop}
 use lib.Seq.{length-take-le, take_at}
 use Rattle.distortion_table.specs.Answer.{told_turned}
-use borrow.Author.Rules.{rules}
 use Rattle.printer.proofs.fill.Goals as goal
 
 pub slice_bounds-distort_table-end-2 : goal.slice_bounds-distort_table-end-2

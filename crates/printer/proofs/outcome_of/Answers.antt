@@ -6,7 +6,6 @@ use Rattle.distortion_table.specs.Answer.{told_status}
 use Rattle.distortion_table.specs.declared.Status.{Status}
 use Rattle.distortion_table.specs.declared.Status.TheVariants.{Finished, Refused, Running}
 use Rattle.printer.specs.Made.{a_table, outcome_of}
-use borrow.Author.Rules.{rules}
 use Rattle.printer.proofs.outcome_of.Goals as goal
 
 not_refused :

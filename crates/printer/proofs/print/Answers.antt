@@ -9,7 +9,6 @@ use Rattle.put_text.specs.Placed.{written, with_text}
 use Rattle.printer.specs.Made.{Outcome, in_room, build, held, made_in, blank_room, made}
 use Rattle.printer.specs.Printed.{made_text, printed}
 use Rattle.printer.proofs.Whole.{no_room, fits, all_put, counts}
-use borrow.Author.Rules.{rules}
 use Rattle.printer.proofs.print.Goals as goal
 
 -- what is shown of what was built in the room of zeros is what is printed

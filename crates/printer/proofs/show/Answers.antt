@@ -19,7 +19,6 @@ use Rattle.printer.specs.Made.{most_cells, told_built, HasRoom, held}
 use Rattle.printer.specs.Printed.{made_text}
 use Rattle.printer.specs.declared.Built.{Built}
 use Rattle.printer.specs.declared.Built.TheVariants.{Table, Refused}
-use borrow.Author.Rules.{rules}
 use Rattle.printer.proofs.show.Goals as goal
 
 -- the bytes of what was built, and a buffer with them at its start

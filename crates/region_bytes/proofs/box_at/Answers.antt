@@ -1,6 +1,5 @@
 -- `region_bytes::box_at` meets its contract. Each edge at its place. Assumes nothing.
 use mathlib.Core.Path.{refl}
-use borrow.Author.Rules.{rules}
 use Rattle.region_bytes.proofs.box_at.Goals as goal
 
 pub returns : goal.returns

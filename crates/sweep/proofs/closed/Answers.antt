@@ -1,6 +1,5 @@
 -- `sweep::closed` meets its contract. Assumes nothing.
 use mathlib.Core.Path.{refl}
-use borrow.Author.Rules.{rules}
 use Rattle.lens.proofs.Laws.{verdict_one_to_one}
 use Rattle.region.specs.Region.{wrong}
 use Rattle.sweep.proofs.closed.Goals as goal

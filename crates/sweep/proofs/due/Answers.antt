@@ -1,6 +1,5 @@
 -- `sweep::due` meets its contract. Assumes nothing.
 use native.Mathlib.Omega.{arith}
-use borrow.Author.Rules.{rules}
 use Rattle.sweep.proofs.due.Goals as goal
 
 pub returns-then-all-done : goal.returns-then-all-done

@@ -1,6 +1,5 @@
 -- `sweep::first_after` meets its contract. Assumes nothing.
 use mathlib.Core.Path.{refl}
-use borrow.Author.Rules.{rules}
 use borrow.Author.Tests.{eq-eqb, ne_eqb}
 use Rattle.sweep.proofs.first_after.Goals as goal
 

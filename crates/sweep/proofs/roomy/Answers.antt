@@ -1,7 +1,6 @@
 -- `sweep::roomy` meets its contract. Assumes nothing.
 use mathlib.Core.Path.{refl, sym, ◌∙◌}
-use borrow.Author.Rules.{rules}
-use borrow.Author.Tests.{le-ltb, lt-ltb, not-true, not-false}
+use borrow.Author.Tests.{le-ltb, lt-ltb}
 use Rattle.sweep.proofs.roomy.Goals as goal
 
 pub returns-then-not-sized : goal.returns-then-not-sized

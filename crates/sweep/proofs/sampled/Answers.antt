@@ -1,7 +1,6 @@
 -- `sweep::sampled` meets its contract. Assumes nothing.
 use mathlib.Core.Path.{refl}
 use native.Mathlib.Omega.{arith}
-use borrow.Author.Rules.{rules}
 use Rattle.plans.proofs.Tallies.{at_most_one}
 use Rattle.sweep.proofs.sampled.Goals as goal
 

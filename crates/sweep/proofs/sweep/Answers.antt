@@ -5,7 +5,6 @@ use Prim.Native.Nat.{ℕ, ◌-◌, ◌^◌, ◌≤◌, ◌<◌, min}
 use native.Mathlib.Nat.{min-le_right}
 use native.Mathlib.Omega.{arith}
 use borrow.Author.Tests.{ltb-true}
-use borrow.Author.Rules.{rules}
 use lib.Dec.{ltb}
 use Rattle.region.specs.Size.{sized, Sized}
 use Rattle.region.proofs.Size.{is_sized}

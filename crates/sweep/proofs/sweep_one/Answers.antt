@@ -1,7 +1,6 @@
 -- `sweep::sweep_one` meets its contract. Assumes nothing.
-use mathlib.Core.Path.{◌≡◌, sym, ap, ◌∙◌}
+use mathlib.Core.Path.{sym, ap, ◌∙◌}
 use native.Mathlib.Omega.{arith}
-use borrow.Author.Rules.{rules}
 use Rattle.lens.specs.Undistorted.{Told, told}
 use Rattle.lens.proofs.Laws.{told_one_to_one}
 use Rattle.engine.specs.Engine.{undistort}

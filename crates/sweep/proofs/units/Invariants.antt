@@ -1,18 +1,9 @@
 -- `sweep::units` meets its contract. The loop's invariant: the units left from here meet what all of them meet. Assumes nothing.
-use mathlib.Core.Path.{◌≡◌, refl, sym, ap, ◌∙◌}
-use Prim.Native.Nat.{ℕ, ◌+◌, ◌*◌, ◌^◌, ◌≤◌, ◌<◌}
-use native.Mathlib.Omega.{arith}
-use borrow.Author.Rules.{rules}
-use Rattle.lens.specs.Undistorted.{told}
-use Rattle.engine.specs.Engine.{undistort}
-use Rattle.engine.proofs.Laws.{most_updates}
+use mathlib.Core.Path.{◌≡◌}
+use Prim.Native.Nat.{◌+◌, ◌*◌, ◌^◌, ◌≤◌, ◌<◌}
 use Rattle.turns.specs.Turns.{turn, met}
-use Rattle.turns.proofs.Laws.{met_none, met_refused, met_done}
-use Rattle.border.specs.Border.{border_at}
 use Rattle.plans.specs.Plan.{swept}
-use Rattle.plans.proofs.AtBorder.{swept_counts}
-use Rattle.plans.proofs.Tallies.{at_most_one}
-use Rattle.sweep.specs.Sweep.{by_mark, told_swept}
+use Rattle.sweep.specs.Sweep.{by_mark}
 use Rattle.sweep.proofs.units.Given as goal
 
 abbrev pub invariant-loop-left : goal.invariant-loop-left

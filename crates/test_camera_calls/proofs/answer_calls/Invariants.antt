@@ -1,6 +1,5 @@
 -- `test_camera_calls::answer_calls` is safe and ends. The measure is how many calls are left. Assumes nothing.
 use Prim.Native.Nat.{◌≤◌, ◌-◌}
-use borrow.Author.Rules.{rules}
 use Rattle.test_camera_calls.proofs.answer_calls.Given as goal
 
 abbrev pub invariant-loop-n : goal.invariant-loop-n

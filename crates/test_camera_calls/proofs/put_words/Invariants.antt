@@ -1,7 +1,6 @@
 -- `test_camera_calls::put_words` is safe and ends. The measure is how many words are left; the invariant also keeps the buffer's length. Assumes nothing.
 use mathlib.Core.Path.{◌≡◌}
-use Prim.Native.Nat.{ℕ, ◌≤◌, ◌-◌}
-use borrow.Author.Rules.{rules}
+use Prim.Native.Nat.{◌≤◌, ◌-◌}
 use lib.ListN.{length}
 use Rattle.test_camera_calls.proofs.put_words.Given as goal
 

@@ -1,6 +1,5 @@
 -- `test_camera_calls::say_words` is safe and ends. The measure is how many words are left. Assumes nothing.
 use Prim.Native.Nat.{◌≤◌, ◌-◌}
-use borrow.Author.Rules.{rules}
 use Rattle.test_camera_calls.proofs.say_words.Given as goal
 
 abbrev pub invariant-loop-i : goal.invariant-loop-i

@@ -1,7 +1,6 @@
 -- `test_head_calls::answer_all` is safe and ends. The measure is what is left of the count's own end; the invariant says nothing.
 -- Assumes nothing.
 use Prim.Native.Nat.{◌-◌}
-use borrow.Author.Rules.{rules}
 use Rattle.test_head_calls.proofs.answer_all.Given as goal
 
 abbrev pub invariant-loop-lines : goal.invariant-loop-lines

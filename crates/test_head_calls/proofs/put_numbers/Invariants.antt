@@ -1,6 +1,5 @@
 -- `test_head_calls::put_numbers` is safe and ends. The measure is how many numbers are left; the invariant also bounds what the line says. Assumes nothing.
-use Prim.Native.Nat.{ℕ, ◌≤◌, ◌-◌}
-use borrow.Author.Rules.{rules}
+use Prim.Native.Nat.{◌-◌}
 use Rattle.test_head_calls.proofs.put_numbers.Given as goal
 
 abbrev pub invariant-loop-i : goal.invariant-loop-i

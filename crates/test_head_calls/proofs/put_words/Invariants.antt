@@ -1,8 +1,6 @@
 -- `test_head_calls::put_words` is safe and ends. The measure is how many words are left; the invariant also bounds what the line says, and keeps the buffer's length. Assumes nothing.
-use mathlib.Core.Path.{◌≡◌}
-use Prim.Native.Nat.{ℕ, ◌≤◌, ◌-◌}
+use Prim.Native.Nat.{◌-◌}
 use lib.ListN.{length}
-use borrow.Author.Rules.{rules}
 use Rattle.test_head_calls.proofs.put_words.Given as goal
 
 abbrev pub invariant-loop-i : goal.invariant-loop-i

@@ -1,6 +1,5 @@
 -- `test_head_calls::same_numbers` is safe and ends. The measure is how many numbers are left. Assumes nothing.
 use Prim.Native.Nat.{◌≤◌, ◌-◌}
-use borrow.Author.Rules.{rules}
 use Rattle.test_head_calls.proofs.same_numbers.Given as goal
 
 abbrev pub invariant-loop-i : goal.invariant-loop-i

@@ -1,6 +1,5 @@
 -- `test_head_calls::turn_each_bit` is safe and ends. The measure is how many bits are left; the place is one of the buffer. Assumes nothing.
 use Prim.Native.Nat.{◌≤◌, ◌-◌}
-use borrow.Author.Rules.{rules}
 use Rattle.test_head_calls.proofs.turn_each_bit.Given as goal
 
 abbrev pub invariant-loop-bit : goal.invariant-loop-bit

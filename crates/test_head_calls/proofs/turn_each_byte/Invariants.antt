@@ -1,6 +1,5 @@
 -- `test_head_calls::turn_each_byte` is safe and ends. The measure is how many bytes are left; the invariant also bounds what the line says. Assumes nothing.
-use Prim.Native.Nat.{ℕ, ◌≤◌, ◌-◌}
-use borrow.Author.Rules.{rules}
+use Prim.Native.Nat.{◌-◌}
 use Rattle.test_head_calls.proofs.turn_each_byte.Given as goal
 
 abbrev pub invariant-loop-at : goal.invariant-loop-at

@@ -2,7 +2,6 @@
 use mathlib.Core.Path.{sym}
 use native.Mathlib.Omega.{arith}
 use lib.Seq.{length-take-le}
-use borrow.Author.Rules.{rules}
 use Rattle.test_table_lookups.proofs.answer_question.Goals as goal
 
 pub slice_bounds-lookup-end : goal.slice_bounds-lookup-end

@@ -1,9 +1,7 @@
 -- `test_table_lookups::cells` is safe and ends, and gives as many numbers as it has places for. The measure is the number of places that are left. Assumes nothing.
-use mathlib.Core.Path.{◌≡◌, refl, sym, ◌∙◌}
+use mathlib.Core.Path.{◌≡◌}
 use Prim.Native.Nat.{◌≤◌, ◌-◌}
-use native.Mathlib.Omega.{arith}
-use lib.ListN.{length, length-set}
-use borrow.Author.Rules.{rules}
+use lib.ListN.{length}
 use Rattle.test_table_lookups.proofs.cells.Given as goal
 
 abbrev pub invariant-loop-i : goal.invariant-loop-i

@@ -1,6 +1,6 @@
 -- `test_table_vectors::answer_fresh` is safe and ends: a width and a height of at most 4,096 have a product. Assumes nothing.
 use native.Mathlib.Omega.{arith}
-use borrow.Author.Rules.{rules, scaled_Fits}
+use borrow.Author.Rules.{scaled_Fits}
 use Rattle.test_table_vectors.proofs.answer_fresh.Goals as goal
 
 pub overflow_mul-cells : goal.overflow_mul-cells

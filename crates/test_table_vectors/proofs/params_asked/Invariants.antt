@@ -1,6 +1,5 @@
 -- `test_table_vectors::params_asked` is safe and ends. The measure is the number of parameters that are left. Assumes nothing.
 use Prim.Native.Nat.{◌≤◌, ◌-◌}
-use borrow.Author.Rules.{rules}
 use Rattle.test_table_vectors.proofs.params_asked.Given as goal
 
 abbrev pub invariant-loop-i : goal.invariant-loop-i

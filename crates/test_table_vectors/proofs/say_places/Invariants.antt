@@ -1,6 +1,5 @@
 -- `test_table_vectors::say_places` is safe and ends. The measure is the number of places that are left. Assumes nothing.
 use Prim.Native.Nat.{◌≤◌, ◌-◌}
-use borrow.Author.Rules.{rules}
 use lib.ListN.{length}
 use Rattle.test_table_vectors.proofs.say_places.Given as goal
 

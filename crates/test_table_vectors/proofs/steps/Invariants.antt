@@ -1,7 +1,6 @@
 -- `test_table_vectors::steps` is safe and ends: the table keeps its length, and the measure is the number of turns that are left. Assumes nothing.
 use mathlib.Core.Path.{◌≡◌}
 use lib.ListN.{length}
-use borrow.Author.Rules.{rules}
 use Rattle.test_table_vectors.proofs.steps.Given as goal
 
 abbrev pub invariant-loop-more : goal.invariant-loop-more

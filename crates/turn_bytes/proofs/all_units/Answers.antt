@@ -1,6 +1,5 @@
 -- `turn_bytes::all_units` meets its contract. Assumes nothing.
 use native.Mathlib.Omega.{arith}
-use borrow.Author.Rules.{rules}
 use Rattle.region.proofs.Size.{bounded}
 use Rattle.turn_bytes.proofs.all_units.Goals as goal
 

@@ -5,7 +5,6 @@ use Rattle.little_endian.proofs.Laws.{put_whole}
 use Rattle.job_bytes.specs.Bytes.{record_bytes}
 use Rattle.turn_bytes.specs.Turn.{report}
 use Rattle.job_bytes.proofs.Laws.{length_record}
-use borrow.Author.Rules.{rules}
 use Rattle.turn_bytes.proofs.give.Goals as goal
 
 pub all_units-all-requires : goal.all_units-all-requires

@@ -1,6 +1,5 @@
 -- `turn_bytes::own` meets its contract. Assumes nothing.
 use mathlib.Core.Path.{sym, ◌∙◌}
-use borrow.Author.Rules.{rules}
 use Rattle.job_bytes.specs.Check.{whole}
 use Rattle.turn_bytes.proofs.Turning.{own_refused, own_damaged, own_right}
 use Rattle.turn_bytes.proofs.own.Goals as goal

@@ -2,7 +2,6 @@
 use mathlib.Core.Path.{refl}
 use mathlib.Core.List.{[], ◌∷◌}
 use native.Mathlib.Omega.{arith}
-use borrow.Author.Rules.{rules}
 use Rattle.turn_bytes.proofs.Turning.{first_put, one_more, all_words}
 use Rattle.turn_bytes.proofs.put_report.Goals as goal
 

@@ -1,6 +1,5 @@
 -- `turn_bytes::status_number` meets its contract. Assumes nothing.
 use mathlib.Core.Path.{refl}
-use borrow.Author.Rules.{rules}
 use Rattle.turn_bytes.proofs.status_number.Goals as goal
 
 pub returns-in-Running : goal.returns-in-Running

@@ -1,6 +1,5 @@
 -- `turn_bytes::turn` meets its contract: by how it starts. Assumes nothing.
 use mathlib.Core.Path.{subst}
-use borrow.Author.Rules.{rules}
 use lib.ListN.{length}
 use Rattle.table_plans.specs.Tables.{f32s}
 use Rattle.turn_bytes.specs.Turn.{Starts}

@@ -1,5 +1,4 @@
 -- `turn_bytes::verdict` meets its contract. Assumes nothing.
-use borrow.Author.Rules.{rules}
 use Rattle.turn_bytes.proofs.verdict.Goals as goal
 
 pub returns-in-Refused : goal.returns-in-Refused

@@ -2,7 +2,6 @@
 use mathlib.Core.Path.{refl, ap}
 use Rattle.camera.specs.declared.Camera.TheVariants.{BrownConrady}
 use Rattle.camera.proofs.Models.{last_model}
-use borrow.Author.Rules.{rules}
 use Rattle.camera.proofs.numbers.camera_of.Goals as goal
 
 pub returns-then-model-eq0 : goal.returns-then-model-eq0

@@ -1,6 +1,5 @@
 -- `camera::numbers::of_thin_prism` meets its contract. Assumes nothing.
 use mathlib.Core.Path.{refl}
-use borrow.Author.Rules.{rules}
 use Rattle.camera.proofs.numbers.of_thin_prism.Goals as goal
 
 pub returns : goal.returns

@@ -1,5 +1,4 @@
 -- `camera::numbers::padded` meets its contract. Assumes nothing.
-use borrow.Author.Rules.{rules}
 use Rattle.camera.proofs.numbers.padded.Goals as goal
 
 pub returns-in-Affine : goal.returns-in-Affine

@@ -1,13 +1,8 @@
 -- `distortion_table::filler::fill` meets its contract. Its loop is the filler's of plans, whatever a cell holds two of. Assumes nothing.
-use mathlib.Core.Path.{◌≡◌, sym, ap, ◌∙◌}
-use Prim.Native.Nat.{◌-◌, ◌*◌}
-use native.Mathlib.Nat.{le-mul_of_pos_right}
-use native.Mathlib.Omega.{arith}
-use borrow.Author.Rules.{rules}
-use lib.ListN.{length-set}
+use Prim.Native.Nat.{◌-◌}
 use Rattle.engine.specs.Engine.{distort}
-use Rattle.plans.proofs.Filler.{Filled, none_filled, all_filled, one_refused, one_filled}
-use Rattle.cell.specs.Cell.{f32, cell_by, told}
+use Rattle.plans.proofs.Filler.{Filled}
+use Rattle.cell.specs.Cell.{f32, cell_by}
 use Rattle.distortion_table.proofs.filler.fill.Given as goal
 
 abbrev pub invariant-loop-i : goal.invariant-loop-i

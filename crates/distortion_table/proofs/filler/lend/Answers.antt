@@ -1,6 +1,5 @@
 -- `distortion_table::filler::lend` meets its contract. Assumes nothing.
 use native.Mathlib.Omega.{arith}
-use borrow.Author.Rules.{rules}
 use Rattle.table_plans.specs.Tables.{f32s}
 use Rattle.distortion_table.proofs.Parts.{lent_whole}
 use Rattle.distortion_table.proofs.filler.lend.Goals as goal

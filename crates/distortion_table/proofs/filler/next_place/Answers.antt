@@ -1,7 +1,6 @@
 -- `distortion_table::filler::next_place` meets its contract. Assumes nothing.
 use native.Mathlib.Nat.{suc-mul}
 use native.Mathlib.Omega.{arith}
-use borrow.Author.Rules.{rules}
 use Rattle.distortion_table.proofs.filler.next_place.Goals as goal
 
 pub returns-then-u-width : goal.returns-then-u-width

@@ -3,14 +3,12 @@ use mathlib.Core.Path.{sym, ap, ap₂, ◌∙◌}
 use Prim.Native.Nat.{◌-◌}
 use native.Mathlib.Nat.{le-mul_of_pos_right}
 use native.Mathlib.Omega.{arith}
-use borrow.Author.Rules.{rules}
 use mir.Syntax.{w16}
 use mir.ValLaws.{to_z-of_z}
 use lib.ListN.{length-set}
-use Rattle.engine.specs.Engine.{distort}
 use Rattle.plans.specs.Plan.{numbers}
-use Rattle.plans.proofs.Filler.{Filled, none_filled, all_filled, one_refused, one_filled}
-use Rattle.cell.specs.Cell.{i16, cell_by, told16}
+use Rattle.plans.proofs.Filler.{none_filled, all_filled, one_refused, one_filled}
+use Rattle.cell.specs.Cell.{told16}
 use Rattle.distortion_table.proofs.filler16.fill.Goals as goal
 
 pub nonzero_rem-place : goal.nonzero_rem-place

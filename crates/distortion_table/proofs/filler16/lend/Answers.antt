@@ -1,6 +1,5 @@
 -- `distortion_table::filler16::lend` meets its contract. Assumes nothing.
 use native.Mathlib.Omega.{arith}
-use borrow.Author.Rules.{rules}
 use Rattle.table_plans.specs.Tables.{i16s}
 use Rattle.distortion_table.proofs.Parts.{lent_whole}
 use Rattle.distortion_table.proofs.filler16.lend.Goals as goal
