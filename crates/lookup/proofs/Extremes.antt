@@ -4,7 +4,7 @@ use lib.Dec.{nleb→lt}
 use lib.Ieee.{Float}
 use Rattle.exact.specs.Fraction.{Fraction, Proper, cross, ◌≼◌, over, whole, opposite, ◌⊟◌, exactly}
 use Rattle.exact.proofs.Fractions.{whole_proper, opposite_proper, exactly_proper, over-≼, ⊞-zero, ⊞-mono, ⊟-mono, ⊠-not-negative, ≼_refl, ≼_trans}
-use Rattle.lookup.specs.Enclosed.{at_most_lem, lesser, greater, size, least, greatest, largest, Enclosed, EnclosedWithRoom}
+use Rattle.lookup.specs.Enclosed.{at_most, lesser, greater, size, least, greatest, largest, Enclosed, EnclosedWithRoom}
 
 -- ---- of each cell
 
@@ -24,22 +24,22 @@ one_of false p q = q
 
 lesser_proper : {a b : Fraction} → Proper a → Proper b → Proper (lesser a b)
 unfolding lesser
-lesser_proper {a} {b} p q = one_of (at_most_lem a b) p q
+lesser_proper {a} {b} p q = one_of (at_most a b) p q
 
 greater_proper : {a b : Fraction} → Proper a → Proper b → Proper (greater a b)
 unfolding greater
-greater_proper {a} {b} p q = one_of (at_most_lem a b) q p
+greater_proper {a} {b} p q = one_of (at_most a b) q p
 
 module _ (a b : Fraction) where
-  is : T (at_most_lem a b) → a ≼ b
+  is : T (at_most a b) → a ≼ b
   is h = record { holds = leb→le (cross a b) (cross b a) h }
 
-  is_not : T (not (at_most_lem a b)) → b ≼ a
+  is_not : T (not (at_most a b)) → b ≼ a
   is_not h = record { holds = omega (arith, nleb→lt (cross a b) (cross b a) h) }
 
   lesser-≼ : (lesser a b ≼ a) × (lesser a b ≼ b)
   unfolding lesser
-  lesser-≼ = go (at_most_lem a b) is is_not
+  lesser-≼ = go (at_most a b) is is_not
     where
       go : (t : Bool) → (T t → a ≼ b) → (T (not t) → b ≼ a) → (cond t a b ≼ a) × (cond t a b ≼ b)
       go true h k = (≼_refl a, h tt)
@@ -47,7 +47,7 @@ module _ (a b : Fraction) where
 
   ≼-greater : (a ≼ greater a b) × (b ≼ greater a b)
   unfolding greater
-  ≼-greater = go (at_most_lem a b) is is_not
+  ≼-greater = go (at_most a b) is is_not
     where
       go : (t : Bool) → (T t → a ≼ b) → (T (not t) → b ≼ a) → (a ≼ cond t b a) × (b ≼ cond t b a)
       go true h k = (h tt, ≼_refl b)

@@ -22,14 +22,14 @@ used table region width height point k =
 -- ---- of two numbers
 
 -- whether a ≼ b
-abbrev pub at_most_lem : Fraction → Fraction → Bool
-at_most_lem a b = nat_le (cross a b) (cross b a)
+abbrev pub at_most : Fraction → Fraction → Bool
+at_most a b = nat_le (cross a b) (cross b a)
 
 unfoldable pub lesser : Fraction → Fraction → Fraction
-lesser a b = cond (at_most_lem a b) a b
+lesser a b = cond (at_most a b) a b
 
 unfoldable pub greater : Fraction → Fraction → Fraction
-greater a b = cond (at_most_lem a b) b a
+greater a b = cond (at_most a b) b a
 
 -- without its sign
 abbrev pub size : Fraction → Fraction
