@@ -11,12 +11,11 @@
 ghost use Rattle.std.specs.Prelude.{◌<◌, ◌≤◌, length};
 
 use hexadecimal::Bits;
+use thirty_seconds::Multiple;
 
 const STDIN_FILENO: i32 = 0;
 
 const STDOUT_FILENO: i32 = 1;
-
-use thirty_seconds::Multiple;
 
 // Writes the question's line again, with its answer in width digits.
 fn say(line: &[u8], answer: u64, width: usize) {
