@@ -38,7 +38,7 @@ def entries(model, operation, record):
 
 
 def exported(name, body):
-    return f"#[no_mangle]\npub extern \"C\" fn {name}{SIGNATURE} {{\n{body}\n}}\n"
+    return f"#[unsafe(no_mangle)]\npub extern \"C\" fn {name}{SIGNATURE} {{\n{body}\n}}\n"
 
 
 def matched(call, answered):
@@ -80,7 +80,7 @@ def camera(model, operation):
 def table(model):
     """A whole table, and how many units were done."""
     name = TABLE[model].name
-    return (f"#[no_mangle]\npub extern \"C\" fn table_{model}({TYPED}, width: usize, height: usize, table: &mut [f32]) -> usize {{\n"
+    return (f"#[unsafe(no_mangle)]\npub extern \"C\" fn table_{model}({TYPED}, width: usize, height: usize, table: &mut [f32]) -> usize {{\n"
             f"    let turned = distortion_table::distort_table(camera::Camera::{name}({camera_of(model)}), width, height, table);\n"
             f"    turned.job.at.done\n}}\n")
 
@@ -103,7 +103,7 @@ ONE_NUMBER = {  # ours and the platform's
 }
 
 folder = sys.argv[1]
-rattle = [f(m, o) for f in (ours, camera) for m, o in pairs("ours")] + [table(m) for m in MODELS]
+rattle = ["#![tactic(auto)]\n"] + [f(m, o) for f in (ours, camera) for m, o in pairs("ours")] + [table(m) for m in MODELS]
 rattle += [exported("ours_" + name, body) for name, (body, _) in ONE_NUMBER.items()]
 names = {side: [f"{side}_{m}_{o}" for m, o in pairs(side)] for side in ("rust", "ours", "camera")}
 for side in ("rust", "ours"):

@@ -1,5 +1,5 @@
 /* Five lens models, the table of a lens built between frames, lookup in it, lists of observations; root, arctangent and
- * tangent. Link target/staticlib/liblens_c.a, made by `rt staticlib lens_c`: archives are made for x86-64 Linux only.
+ * tangent. Link target/staticlib/liblens_c.a, made by `tools/make-archive`: archives are made for x86-64 Linux only.
  * docs/HEAD.md says how a head budgets its time and memory, docs/C.md how to build and what is proved.
  * This header is where refusals and layouts are told in full.
  *

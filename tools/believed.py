@@ -7,23 +7,23 @@ import re
 import sys
 
 TABLE = [
-    ("what is owed, of a job", "distortion_table", "specs/Held", ["BuiltJob", "Held", "held-plan", "held-state"]),
-    ("what is owed", "plans", "specs/Built", ["Built", "progress-of", "doable", "unit-number", "border-number",
-                                        "sample-number", "content-number", "content-at", "region-of", "edges-below",
-                                        "settled-at", "before-refused", "first-no", "sum-below"]),
+    ("what is owed, of a job", "distortion_table", "specs/Held", ["BuiltJob", "Held", "held_plan", "held_state"]),
+    ("what is owed", "plans", "specs/Built", ["Built", "progress_of", "doable", "unit_number", "border_number",
+                                        "sample_number", "content_number", "content_at", "region_of", "edges_below",
+                                        "settled_at", "before_refused", "first_no", "sum_below"]),
     ("but for a zero's sign among the edges", "alike_plans", "specs/AlikePlans", ["BuiltAlike", "AlikeProgress", "AlikeRegions"]),
-    ("a sweep, a plan, a state", "plans", "specs/Plan", ["Content", "Sweep", "Plan", "State", "nowhere", "begun", "fresh", "one-no", "all-units",
-                                                   "found", "too-strict", "cells-done", "cell-in"]),
-    ("calls, and A", "plans", "specs/Calls", ["both-or-neither", "tallied", "samples-done", "possible", "sound", "admitted", "judged", "Build", "allowed"]),
+    ("a sweep, a plan, a state", "plans", "specs/Plan", ["Content", "Sweep", "Plan", "State", "nowhere", "begun", "fresh", "one_no", "all_units",
+                                                   "found", "too_strict", "cells_done", "cell_in"]),
+    ("calls, and A", "plans", "specs/Calls", ["both_or_neither", "tallied", "samples_done", "possible", "sound", "admitted", "judged", "Build", "allowed"]),
     ("a call, by the contract", "distortion_table", "proofs/Calls", ["Called", "Called16", "Turns"]),
     ("a call, by the contract of `lens_turn`, `lens_turn16`", "lens_c", "proofs/Laws", ["Turned", "Turned16"]),
-    ("what firmware holds", "turn_bytes", "specs/Calls", ["HeldBytes", "bytes-plan", "bytes-state", "bytes-said"]),
-    ("our table's plan", "table_plans", "specs/Tables", ["Engine", "full", "Border", "corners-once", "opens-for", "sweep-by",
-                                                  "table-by", "sweep-with", "full-sweep", "Kind", "f32s", "i16s", "full-table"]),
-    ("a cell", "cell", "specs/Cell", ["cell-point", "f32", "both-held", "i16", "of-pixel", "cell-by"]),
-    ("the border", "border", "specs/Border", ["before", "outside", "pixel", "pairs", "top-and-bottom", "left-and-right", "border",
-                                        "samples", "border-at"]),
-    ("edges and region", "border", "specs/Edges", ["lowered", "raised", "widened", "edges-after", "two", "mid", "doubled"]),
+    ("what firmware holds", "turn_bytes", "specs/Calls", ["HeldBytes", "bytes_plan", "bytes_state", "bytes_said"]),
+    ("our table's plan", "table_plans", "specs/Tables", ["Engine", "full", "Border", "corners_once", "opens_for", "sweep_by",
+                                                  "table_by", "sweep_with", "full_sweep", "Kind", "f32s", "i16s", "full_table"]),
+    ("a cell", "cell", "specs/Cell", ["cell_point", "f32", "both_held", "i16", "of_pixel", "cell_by"]),
+    ("the border", "border", "specs/Border", ["before", "outside", "pixel", "pairs", "top_and_bottom", "left_and_right", "border",
+                                        "samples", "border_at"]),
+    ("edges and region", "border", "specs/Edges", ["lowered", "raised", "widened", "edges_after", "two", "mid", "doubled"]),
 ]
 
 
@@ -32,7 +32,7 @@ def lines_of(crate, name, wanted):
     text = open(f"crates/{crate}/{name}.antt", encoding="utf-8").read().split("\n")
     found = {}
     for i, line in enumerate(text):
-        m = re.match(r"( *)(?:abbrev |unfoldable )?pub (?:record |data )?([^\s:]+)", line)
+        m = re.match(r"( *)(?:(?:abbrev|unfoldable) )?pub (?:(?:abbrev|unfoldable|record|data) )?([^\s:]+)", line)
         if not m or m.group(2) not in wanted or line.lstrip().startswith("pub mod"):
             continue
         if m.group(2) in found:

@@ -13,7 +13,7 @@ fn variable(name: &str) -> String {
     env::var(name).unwrap_or_else(|_| stop(&format!("cargo didn't set {name}")))
 }
 
-/// The archive: LENS_ARCHIVE, or what `rt staticlib lens_c` leaves in this repository.
+/// The archive: LENS_ARCHIVE, or what tools/make-archive leaves in this repository.
 fn archive(repository: &Path) -> PathBuf {
     let path = match env::var_os("LENS_ARCHIVE") {
         Some(path) => PathBuf::from(path),
@@ -22,7 +22,7 @@ fn archive(repository: &Path) -> PathBuf {
     if !path.is_file() {
         stop(&format!(
             "there is no archive at {}.\n\
-             Make it with the Rattle kit, in {}:\n\n    rt staticlib lens_c\n\n\
+             Make it with the Rattle kit, in {}:\n\n    tools/make-archive\n\n\
              or set LENS_ARCHIVE to the absolute path of a liblens_c.a that was made elsewhere, from the same sources.",
             path.display(),
             repository.display()

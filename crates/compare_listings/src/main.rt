@@ -6,7 +6,10 @@
 
 use compare::{Judging, LINE};
 use lens::{Judgement, Refusal};
-use libc::{STDERR_FILENO, STDOUT_FILENO};
+use std::fs::File;
+use std::io::{Error, ErrorKind, Print, Read, Seek, SeekFrom};
+
+const STDERR_FILENO: i32 = 2;
 
 // What is read ahead of a file, and what is gathered before it is written.
 const AHEAD: usize = 4096;
@@ -14,14 +17,14 @@ const AHEAD: usize = 4096;
 // What is told of a pair of lines fits behind so many bytes: two lines, or one.
 const ROOM: usize = 3904;
 
-// A file that is being read: which bytes that were read ahead are still to be taken, how many the line has, and whether
-// a read failed. A line of no bytes says that there are no more.
+// A file that is being read: which bytes that were read ahead are still to be taken, how many the line has, and why a
+// read failed, if one did. A line of no bytes says that there are no more.
 #[derive(Clone, Copy)]
 struct Reading {
     from: usize,
     end: usize,
     length: usize,
-    failed: bool,
+    failed: Option<Error>,
 }
 
 fn at_start() -> Reading {
@@ -29,22 +32,28 @@ fn at_start() -> Reading {
         from: 0,
         end: 0,
         length: 0,
-        failed: false,
+        failed: None,
     }
 }
 
 // Reads ahead, where nothing is left to be taken.
-fn refilled(fd: i32, ahead: &mut [u8; AHEAD], r: Reading) -> Reading {
+fn refilled(file: &mut File, ahead: &mut [u8; AHEAD], r: Reading) -> Reading {
     if r.from < r.end {
         return r;
     }
-    let got = libc::read(fd, ahead);
-    let n = io::count(got, ahead);
-    Reading {
-        from: 0,
-        end: n,
-        length: r.length,
-        failed: got < 0,
+    match file.read(ahead) {
+        Ok(n) => Reading {
+            from: 0,
+            end: n,
+            length: r.length,
+            failed: None,
+        },
+        Err(error) => Reading {
+            from: 0,
+            end: 0,
+            length: r.length,
+            failed: Some(error),
+        },
     }
 }
 
@@ -72,7 +81,7 @@ fn moved(ahead: &[u8], line: &mut [u8], r: Reading) -> Reading {
         from: stop,
         end,
         length: behind,
-        failed: false,
+        failed: None,
     }
 }
 
@@ -93,16 +102,21 @@ fn complete(line: &[u8; LINE], n: usize) -> bool {
 }
 
 // Takes the next line. Each turn moves a byte or ends, so no line comes to the end of the turns.
-fn next_line(fd: i32, ahead: &mut [u8; AHEAD], line: &mut [u8; LINE], reading: Reading) -> Reading {
+fn next_line(
+    file: &mut File,
+    ahead: &mut [u8; AHEAD],
+    line: &mut [u8; LINE],
+    reading: Reading,
+) -> Reading {
     let mut r = Reading {
         from: reading.from,
         end: reading.end,
         length: 0,
-        failed: false,
+        failed: None,
     };
     let mut turns = LINE;
     while turns > 0 {
-        r = refilled(fd, ahead, r);
+        r = refilled(file, ahead, r);
         if r.from >= r.end {
             return r;
         }
@@ -117,7 +131,7 @@ fn next_line(fd: i32, ahead: &mut [u8; AHEAD], line: &mut [u8; LINE], reading: R
 
 // Whether there is no line more, or none that could be read whole.
 fn none_left(r: Reading) -> bool {
-    if r.failed {
+    if r.failed.is_some() {
         return true;
     }
     r.length == 0
@@ -136,21 +150,22 @@ fn judged_line(s: Judging, line: &[u8; LINE], n: usize) -> Judging {
     judged(s, line, n)
 }
 
-// A file judged to its end, and whether a read failed.
+// A file judged to its end, and why a read failed, if one did.
 #[derive(Clone, Copy)]
 struct Through {
     state: Judging,
-    failed: bool,
+    failed: Option<Error>,
 }
 
-fn judge(fd: i32) -> Through {
+// No file comes to the end of the turns.
+fn judge(file: &mut File) -> Through {
     let mut ahead = [0u8; AHEAD];
     let mut line = [0u8; LINE];
     let mut r = at_start();
     let mut s = compare::start();
     let mut turns = u64::MAX;
     while turns > 0 {
-        r = next_line(fd, &mut ahead, &mut line, r);
+        r = next_line(file, &mut ahead, &mut line, r);
         if none_left(r) {
             return Through {
                 state: s,
@@ -162,36 +177,39 @@ fn judge(fd: i32) -> Through {
     }
     Through {
         state: s,
-        failed: true,
+        failed: Some(Error::from(ErrorKind::FileTooLarge)),
     }
 }
 
-// What has been told: how many cells differ, how many bytes are gathered to be written, and whether all before them
-// are.
+// What has been told: how many cells differ, how many bytes are gathered to be written, and why what stood before them
+// is not written, if it isn't.
 #[derive(Clone, Copy)]
 struct Told {
     count: u64,
     at: usize,
-    written: bool,
+    failed: Option<Error>,
 }
 
 // Writes what is gathered.
-fn flushed(out: &[u8], told: Told) -> Told {
+fn flushed(rt: &impl Print, out: &[u8], told: Told) -> Told {
     let n = parts::held(told.at, out);
-    let written = io::write_all(STDOUT_FILENO, &out[..n]);
+    let failed = match rt.write_all(&out[..n]) {
+        Ok(()) => told.failed,
+        Err(error) => Some(error),
+    };
     Told {
         count: told.count,
         at: 0,
-        written: if told.written { written } else { false },
+        failed,
     }
 }
 
 // The same only where there is no room for what the next lines tell.
-fn with_room(out: &[u8], told: Told) -> Told {
+fn with_room(rt: &impl Print, out: &[u8], told: Told) -> Told {
     if told.at <= ROOM {
         return told;
     }
-    flushed(out, told)
+    flushed(rt, out, told)
 }
 
 // Compares the first bytes of two lines, and gathers what is printed of them.
@@ -203,12 +221,13 @@ fn gathered(out: &mut [u8], told: Told, old: &[u8], n: usize, new: &[u8], m: usi
     Told {
         count: compare::counted(told.count, difference),
         at,
-        written: told.written,
+        failed: told.failed,
     }
 }
 
 // The same of arrays, with room made before.
 fn told_more(
+    rt: &impl Print,
     out: &mut [u8; AHEAD],
     told: Told,
     old: &[u8; LINE],
@@ -216,21 +235,21 @@ fn told_more(
     new: &[u8; LINE],
     m: usize,
 ) -> Told {
-    let room = with_room(out, told);
+    let room = with_room(rt, out, told);
     gathered(out, room, old, n, new, m)
 }
 
-fn flushed_out(out: &[u8; AHEAD], told: Told) -> Told {
-    flushed(out, told)
+fn flushed_out(rt: &impl Print, out: &[u8; AHEAD], told: Told) -> Told {
+    flushed(rt, out, told)
 }
 
-// How the second reading ended: whether a read failed, whether all was written, how many cells differ, and whether both
+// How the second reading ended: why a read failed or not all was written, if so, how many cells differ, and whether both
 // files were listings of one size this time too. If so, what was written is the report of what was read.
 #[derive(Clone, Copy)]
 struct Ending {
-    old_failed: bool,
-    new_failed: bool,
-    written: bool,
+    old_failed: Option<Error>,
+    new_failed: Option<Error>,
+    write_failed: Option<Error>,
     as_before: bool,
     count: u64,
 }
@@ -253,7 +272,7 @@ fn ended(old: Reading, new: Reading, s: Judging, t: Judging, told: Told) -> Endi
     Ending {
         old_failed: old.failed,
         new_failed: new.failed,
-        written: told.written,
+        write_failed: told.failed,
         as_before: as_before(old.length, new.length, s, t),
         count: told.count,
     }
@@ -293,7 +312,7 @@ fn over(old: Reading, new: Reading, s: Judging, t: Judging) -> bool {
 
 // Compares two files line by line, and writes what is told, as long as both have a listing's lines. No file comes to
 // the end of the turns.
-fn compare_files(first: i32, second: i32) -> Ending {
+fn compare_files(rt: &impl Print, first: &mut File, second: &mut File) -> Ending {
     let mut ahead = [0u8; AHEAD];
     let mut further = [0u8; AHEAD];
     let mut line = [0u8; LINE];
@@ -306,7 +325,7 @@ fn compare_files(first: i32, second: i32) -> Ending {
     let mut told = Told {
         count: 0,
         at: 0,
-        written: true,
+        failed: None,
     };
     let mut turns = u64::MAX;
     while turns > 0 {
@@ -315,112 +334,117 @@ fn compare_files(first: i32, second: i32) -> Ending {
         s = judged_line(s, &line, old.length);
         t = judged_line(t, &other, new.length);
         if over(old, new, s, t) {
-            told = flushed_out(&out, told);
+            told = flushed_out(rt, &out, told);
             return ended(old, new, s, t, told);
         }
-        told = told_more(&mut out, told, &line, old.length, &other, new.length);
+        told = told_more(rt, &mut out, told, &line, old.length, &other, new.length);
         turns -= 1;
     }
     ended(old, new, s, t, told)
 }
 
 // Writes the last line.
-fn tell_count(count: u64) {
+fn tell_count(rt: &impl Print, count: u64) {
     let mut out = [0u8; LINE];
     let n = listing_lines::count_line(&mut out, 0, count);
     let k = parts::held(n, &out);
-    io::write_all(STDOUT_FILENO, &out[..k]);
+    let _ = rt.write_all(&out[..k]);
+}
+
+// Goes back to a file's start, or says why it can't, and answers whether it could.
+fn at_its_start(file: &mut File, path: &[u8]) -> bool {
+    match file.seek(SeekFrom::Start(0)) {
+        Ok(_) => true,
+        Err(error) => {
+            parts::fail(path, error);
+            false
+        }
+    }
+}
+
+// Says what there is to say of how the second reading ended: why it failed, or how many cells differ.
+fn tell_ending(rt: &impl Print, end: Ending, old: &[u8], new: &[u8]) {
+    if let Some(error) = end.old_failed {
+        parts::fail(old, error);
+    } else if let Some(error) = end.new_failed {
+        parts::fail(new, error);
+    } else if let Some(error) = end.write_failed {
+        parts::fail(b"standard output", error);
+    } else if !end.as_before {
+        io::write_all(STDERR_FILENO, b"the files changed while they were read\n");
+    } else {
+        tell_count(rt, end.count);
+    }
 }
 
 // Compares two files that are listings of one size.
-fn tell(first: i32, second: i32, old: &[u8], new: &[u8]) {
-    if libc::lseek(first, 0, libc::SEEK_SET) != 0 {
-        os::fail(old);
+fn tell(rt: &impl Print, first: &mut File, second: &mut File, old: &[u8], new: &[u8]) {
+    if !at_its_start(first, old) {
         return;
     }
-    if libc::lseek(second, 0, libc::SEEK_SET) != 0 {
-        os::fail(new);
+    if !at_its_start(second, new) {
         return;
     }
-    let end = compare_files(first, second);
-    if end.old_failed {
-        os::fail(old);
-        return;
-    }
-    if end.new_failed {
-        os::fail(new);
-        return;
-    }
-    if !end.written {
-        os::fail(b"standard output");
-        return;
-    }
-    if !end.as_before {
-        io::write_all(STDERR_FILENO, b"the files changed while they were read\n");
-        return;
-    }
-    tell_count(end.count);
+    let end = compare_files(rt, first, second);
+    tell_ending(rt, end, old, new);
 }
 
 // Writes a refusal's line.
-fn refuse(refusal: Refusal) {
+fn refuse(rt: &impl Print, refusal: Refusal) {
     let mut out = [0u8; LINE];
     let n = listing_lines::refused_line(&mut out, 0, refusal);
     let k = parts::held(n, &out);
-    io::write_all(STDOUT_FILENO, &out[..k]);
+    let _ = rt.write_all(&out[..k]);
 }
 
 // Judges two files, and compares them if both are taken.
-fn run(first: i32, second: i32, old: &[u8], new: &[u8]) {
+fn run(rt: &impl Print, first: &mut File, second: &mut File, old: &[u8], new: &[u8]) {
     let one = judge(first);
-    if one.failed {
-        os::fail(old);
+    if let Some(error) = one.failed {
+        parts::fail(old, error);
         return;
     }
     let two = judge(second);
-    if two.failed {
-        os::fail(new);
+    if let Some(error) = two.failed {
+        parts::fail(new, error);
         return;
     }
-    let s = one.state;
-    let t = two.state;
-    match compare::verdict(s, t) {
-        Judgement::Taken => tell(first, second, old, new),
-        Judgement::Refused(refusal) => refuse(refusal),
+    match compare::verdict(one.state, two.state) {
+        Judgement::Taken => tell(rt, first, second, old, new),
+        Judgement::Refused(refusal) => refuse(rt, refusal),
     }
 }
 
-// Opens a file that can be read twice, or says why there is none, and answers -1.
-fn opened(path: &[u8]) -> i32 {
-    let fd = os::open_read(path);
-    if fd < 0 {
-        os::fail(path);
-        return -1;
+// Opens a file that can be read twice, or says why there is none.
+fn opened(rt: &HostRuntime, path: &[u8]) -> Option<File> {
+    match parts::open(rt, path) {
+        Ok(mut file) => {
+            if file.stream_position().is_ok() {
+                return Some(file);
+            }
+            io::write_all(STDERR_FILENO, path);
+            io::write_all(STDERR_FILENO, b": cannot be read twice\n");
+            None
+        }
+        Err(error) => {
+            parts::fail(path, error);
+            None
+        }
     }
-    if libc::lseek(fd, 0, libc::SEEK_CUR) < 0 {
-        io::write_all(STDERR_FILENO, path);
-        io::write_all(STDERR_FILENO, b": cannot be read twice\n");
-        return -1;
-    }
-    fd
 }
 
-fn main() {
-    if os::arg_count() != 3 {
+fn main(rt: HostRuntime) {
+    if !parts::is_given(&rt, 2) || parts::is_given(&rt, 3) {
         io::write_all(STDERR_FILENO, b"usage: compare_listings OLD NEW\n");
         return;
     }
     let mut first = io::buffer();
     let mut second = io::buffer();
-    let n = os::arg(1, &mut first);
-    let m = os::arg(2, &mut second);
-    let old = opened(&first[..n]);
-    if old < 0 {
-        return;
+    let n = parts::argument(&rt, 1, &mut first);
+    let m = parts::argument(&rt, 2, &mut second);
+    if let Some(mut old) = opened(&rt, &first[..n]) {
+        if let Some(mut new) = opened(&rt, &second[..m]) {
+            run(&rt, &mut old, &mut new, &first[..n], &second[..m]);
+        }
     }
-    let new = opened(&second[..m]);
-    if new < 0 {
-        return;
-    }
-    run(old, new, &first[..n], &second[..m]);
 }

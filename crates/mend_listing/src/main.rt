@@ -5,10 +5,13 @@
 #![tactic(auto)]
 
 use lens::Refusal;
-use libc::{STDERR_FILENO, STDOUT_FILENO};
 use mending::{LINE, MAP, OUTPUT};
 use printer::{Built, NUMBERS};
 use region::Region;
+use std::fs::File;
+use std::io::{Error, ErrorKind, Print, Read, Result};
+
+const STDERR_FILENO: i32 = 2;
 
 // One byte more than a camera file may have: a longer one is seen to be longer and refused, not cut.
 const INPUT: usize = 4097;
@@ -17,23 +20,23 @@ const INPUT: usize = 4097;
 const PIECE: usize = 4096;
 
 // Writes what is printed, or says that it can't be.
-fn print(out: &[u8]) {
-    if !io::write_all(STDOUT_FILENO, out) {
-        os::fail(b"standard output");
+fn print(rt: &impl Print, out: &[u8]) {
+    if let Err(error) = rt.write_all(out) {
+        parts::fail(b"standard output", error);
     }
 }
 
 // Writes a refusal's line.
-fn refuse(refusal: Refusal) {
+fn refuse(rt: &impl Print, refusal: Refusal) {
     let mut out = [0u8; LINE];
     let n = listing_lines::refused_line(&mut out, 0, refusal);
     let k = parts::held(n, &out);
-    print(&out[..k]);
+    print(rt, &out[..k]);
 }
 
 // Reads the next piece.
-fn next(fd: i32, piece: &mut [u8; PIECE]) -> isize {
-    libc::read(fd, piece)
+fn next(file: &mut File, piece: &mut [u8; PIECE]) -> Result<usize> {
+    file.read(piece)
 }
 
 // Takes what a read has put into the piece, behind n bytes of a line that are held from before, and answers how many
@@ -45,9 +48,9 @@ fn taken(
     width: usize,
     height: usize,
     piece: &[u8],
-    got: isize,
+    got: usize,
 ) -> usize {
-    let k = io::count(got, piece);
+    let k = parts::held(got, piece);
     mending::feed(map, line, n, width, height, &piece[..k])
 }
 
@@ -59,31 +62,32 @@ fn taken_on(
     width: usize,
     height: usize,
     piece: &[u8; PIECE],
-    got: isize,
+    got: usize,
 ) -> usize {
     taken(map, line, n, width, height, piece, got)
 }
 
-// Keeps what a file gives of a table of this size. Answers whether it was read to its end. No file comes to the end of
-// the turns.
-fn keep_all(fd: i32, map: &mut [u32; MAP], width: usize, height: usize) -> bool {
+// Keeps what a file gives of a table of this size, to its end, or answers why it couldn't be read. No file comes to the
+// end of the turns.
+fn keep_all(file: &mut File, map: &mut [u32; MAP], width: usize, height: usize) -> Result<()> {
     let mut piece = [0u8; PIECE];
     let mut line = [0u8; LINE];
     let mut n = 0;
     let mut turns = u64::MAX;
     while turns > 0 {
-        let got = next(fd, &mut piece);
-        if got <= 0 {
-            return got == 0;
+        let got = next(file, &mut piece)?;
+        if got == 0 {
+            return Ok(());
         }
         n = taken_on(map, &mut line, n, width, height, &piece, got);
         turns -= 1;
     }
-    false
+    Err(Error::from(ErrorKind::FileTooLarge))
 }
 
 // Writes what is printed of a fresh table, whose numbers stand in the room, and of what was kept.
 fn tell(
+    rt: &impl Print,
     width: usize,
     height: usize,
     updates: u32,
@@ -93,12 +97,13 @@ fn tell(
 ) {
     let mut out = [0u8; OUTPUT];
     let n = mending::write_mended(&mut out, width, height, updates, region, room, map);
-    print(&out[..n]);
+    print(rt, &out[..n]);
 }
 
 // Mends a listing by a fresh table.
 fn mend(
-    listing: i32,
+    rt: &impl Print,
+    listing: &mut File,
     path: &[u8],
     width: usize,
     height: usize,
@@ -107,67 +112,98 @@ fn mend(
     room: &[f32; NUMBERS],
 ) {
     let mut map = [0u32; MAP];
-    if !keep_all(listing, &mut map, width, height) {
-        os::fail(path);
+    if let Err(error) = keep_all(listing, &mut map, width, height) {
+        parts::fail(path, error);
         return;
     }
-    tell(width, height, updates, region, room, &map);
+    tell(rt, width, height, updates, region, room, &map);
 }
 
-// Whether a file of which n bytes were read has no more, or more than are looked at.
-fn ended(fd: i32, n: usize) -> bool {
-    if n >= INPUT {
-        return true;
+// What was read at once: how many bytes, and why no more, if that was for a read that failed.
+#[derive(Clone, Copy)]
+struct Got {
+    n: usize,
+    failed: Option<Error>,
+}
+
+// Reads until the buffer is full, the file ends or a read fails.
+fn read_full(file: &mut File, buf: &mut [u8]) -> Got {
+    let mut n = 0;
+    while n < buf.len() {
+        match file.read(&mut buf[n..]) {
+            Ok(0) => break,
+            Ok(more) => n += more,
+            Err(error) => {
+                return Got {
+                    n,
+                    failed: Some(error),
+                };
+            }
+        }
+    }
+    Got { n, failed: None }
+}
+
+// Whether a file that was read so far has no more, or more than are looked at; else why it wasn't read to its end.
+fn ended(file: &mut File, got: Got) -> Result<()> {
+    if got.n >= INPUT {
+        return Ok(());
     }
     let mut more = [0u8; 1];
-    libc::read(fd, &mut more) == 0
+    if file.read(&mut more)? == 0 {
+        return Ok(());
+    }
+    match got.failed {
+        Some(error) => Err(error),
+        // It ended, and then went on.
+        None => Err(Error::from_raw_os_error(0)),
+    }
 }
 
 // Builds the camera's table, and mends the listing by it.
-fn run(camera: i32, listing: i32, first: &[u8], second: &[u8]) {
+fn run(rt: &impl Print, camera: &mut File, listing: &mut File, first: &[u8], second: &[u8]) {
     let mut input = [0u8; INPUT];
-    let n = io::read_full(camera, &mut input);
-    if !ended(camera, n) {
-        os::fail(first);
+    let got = read_full(camera, &mut input);
+    if let Err(error) = ended(camera, got) {
+        parts::fail(first, error);
         return;
     }
+    let n = parts::held(got.n, &input);
     let mut room = [0.0f32; NUMBERS];
     match printer::build(&input[..n], &mut room) {
-        Built::Refused(refusal) => refuse(refusal),
+        Built::Refused(refusal) => refuse(rt, refusal),
         Built::Table {
             width,
             height,
             updates,
             region,
-        } => mend(listing, second, width, height, updates, region, &room),
+        } => mend(rt, listing, second, width, height, updates, region, &room),
     }
 }
 
-// Opens a file, or says why it can't be, and answers -1.
-fn opened(path: &[u8]) -> i32 {
-    let fd = os::open_read(path);
-    if fd < 0 {
-        os::fail(path);
+// Opens a file, or says why it can't be.
+fn opened(rt: &HostRuntime, path: &[u8]) -> Option<File> {
+    match parts::open(rt, path) {
+        Ok(file) => Some(file),
+        Err(error) => {
+            parts::fail(path, error);
+            None
+        }
     }
-    fd
 }
 
-fn main() {
-    if os::arg_count() != 3 {
+fn main(rt: HostRuntime) {
+    if !parts::is_given(&rt, 2) || parts::is_given(&rt, 3) {
         io::write_all(STDERR_FILENO, b"usage: mend_listing CAMERA LISTING\n");
         return;
     }
     let mut first = io::buffer();
     let mut second = io::buffer();
-    let n = os::arg(1, &mut first);
-    let m = os::arg(2, &mut second);
-    let camera = opened(&first[..n]);
-    if camera < 0 {
-        return;
+    let n = parts::argument(&rt, 1, &mut first);
+    let m = parts::argument(&rt, 2, &mut second);
+    if let Some(mut camera) = opened(&rt, &first[..n]) {
+        if let Some(mut listing) = opened(&rt, &second[..m]) {
+            run(&rt, &mut camera, &mut listing, &first[..n], &second[..m]);
+        }
     }
-    let listing = opened(&second[..m]);
-    if listing < 0 {
-        return;
-    }
-    run(camera, listing, &first[..n], &second[..m]);
 }

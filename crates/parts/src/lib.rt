@@ -3,8 +3,12 @@
 // bytes.
 #![tactic(auto)]
 
+mod files;
+
 ghost use Rattle.std.specs.Prelude.{cond, ◌≡◌, ltb, length};
 ghost use Rattle.io.specs.Counts.{IsPrefixLen};
+
+pub use files::{argument, fail, is_given, open};
 
 const STDIN_FILENO: i32 = 0;
 

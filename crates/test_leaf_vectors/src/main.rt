@@ -11,12 +11,11 @@
 ghost use Rattle.std.specs.Prelude.{◌<◌, ◌≤◌, length};
 
 use hexadecimal::Bits;
+use thirty_seconds::Multiple;
 
 const STDIN_FILENO: i32 = 0;
 
 const STDOUT_FILENO: i32 = 1;
-
-use thirty_seconds::Multiple;
 
 // Writes the question's line again, with its answer in width digits.
 fn say(line: &[u8], answer: u64, width: usize) {
@@ -68,13 +67,24 @@ fn answer(line: &[u8]) {
     }
 }
 
+// The index of the first end of a line from `at` on, or the text's length where there is none.
+fn line_end(text: &[u8], at: usize) -> usize
+    requires { at ≤ length text.now }
+    ensures { (at ≤ result) × (result ≤ length text.now) }
+{
+    match text[at..].iter().position(|byte| *byte == b'\n') {
+        Some(n) => at + n,
+        None => text.len(),
+    }
+}
+
 // Answers the line of text that starts at index `at`, and gives the index past its end. A last line
 // that the text cuts off is bad, however much of it is there.
 fn answer_at(text: &[u8], at: usize) -> usize
     requires { at < length text.now }
     ensures { (at < result) × (result ≤ length text.now) }
 {
-    let end = bytes::scan::find(text, at, text.len(), b'\n');
+    let end = line_end(text, at);
     if end < text.len() {
         answer(&text[at..end]);
         end + 1

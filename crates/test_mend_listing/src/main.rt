@@ -8,12 +8,11 @@
 #![tactic(auto)]
 
 use lens::Refusal;
-
-const STDOUT_FILENO: i32 = 1;
-
 use mending::{LINE, MAP, OUTPUT};
 use printer::{Built, NUMBERS};
 use region::Region;
+
+const STDOUT_FILENO: i32 = 1;
 
 // The longest part: one byte more than a camera file may have; and the longest listing.
 const PART: usize = 4097;

@@ -12,12 +12,11 @@
 ghost use Rattle.std.specs.Prelude.{◌≡◌, length};
 
 use lens::{Distorted, Point};
+use region::Region;
 
 const STDIN_FILENO: i32 = 0;
 
 const STDOUT_FILENO: i32 = 1;
-
-use region::Region;
 
 // The fields of a line, and its bytes: a field has 16 digits, and a tab or the line's end after them.
 const FIELDS: usize = 33;

@@ -20,12 +20,11 @@ ghost use Rattle.std.specs.Prelude.{◌≡◌, ◌≤◌, length};
 use distortion_table::{Status, Turned};
 use job::{Job, Started};
 use lens::Refusal;
+use region::Region;
 
 const STDIN_FILENO: i32 = 0;
 
 const STDOUT_FILENO: i32 = 1;
-
-use region::Region;
 
 // The fields of a line, and its bytes: a field has 16 digits, and a tab or the line's end after them.
 // All lines are of one length, so that one is read at a time, and there may be any number of them.
