@@ -1,0 +1,11 @@
+-- `test_leaf_vectors::answer_all` is safe and ends. The invariant: each line answered was a byte or more, so the count fits.
+-- The measure is what is left of the text. Assumes nothing.
+use Prim.Native.Nat.{◌≤◌, ◌-◌}
+use lib.ListN.{length}
+use Rattle.test_leaf_vectors.proofs.answer_all.Given as goal
+
+abbrev pub invariant-loop-at : goal.invariant-loop-at
+invariant-loop-at l = (l.lines ≤ l.at) × (l.at ≤ length l.text)
+
+abbrev pub decreases-loop-at : goal.decreases-loop-at
+decreases-loop-at l = length l.text - l.at
