@@ -243,8 +243,8 @@ fn flushed_out(rt: &impl Print, out: &[u8; AHEAD], told: Told) -> Told {
     flushed(rt, out, told)
 }
 
-// How the second reading ended: why a read failed or not all was written, if so, how many cells differ, and whether both
-// files were listings of one size this time too. If so, what was written is the report of what was read.
+// How the second reading ended: why a read failed or not all was written, if so, how many cells differ, and whether
+// both files were listings of one size this time too. If so, what was written is the report of what was read.
 #[derive(Clone, Copy)]
 struct Ending {
     old_failed: Option<Error>,
