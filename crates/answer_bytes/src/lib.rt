@@ -16,7 +16,7 @@ ghost use Rattle.answer_bytes.specs.Answer.{distorted, undistorted, slopes, para
 ghost use Rattle.answer_bytes.specs.Answer.{undistort_bytes, dx_distort_x_bytes, dx_distort_params_bytes};
 
 use camera::{Camera, Differentiated};
-use lens::{Pixel, Point, Settled};
+use lens::{Pixel, Point, Refusal, Settled};
 
 // Where a Jacobian's bytes have the count of columns, and how many they are.
 const COLUMNS: usize = 8 * lens::ENTRIES;

@@ -17,7 +17,7 @@ use affine::AffineParams;
 use brown_conrady::BrownConradyParams;
 use enhanced_unified::EnhancedUnifiedParams;
 use kannala_brandt::KannalaBrandtParams;
-use lens::{Jacobian, Pixel, Point, Refusal};
+use lens::{Jacobian, Pixel, Point, Refusal, Settled};
 use thin_prism::ThinPrismParams;
 
 pub mod numbers;

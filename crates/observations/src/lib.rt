@@ -7,7 +7,7 @@ ghost use Rattle.lens.specs.Undistorted.{told};
 ghost use Rattle.observations.specs.Observations.{refusal_of, rounds, beside, found, seen, listed, observe_all};
 
 use camera::Camera;
-use lens::{Pixel, Point, Refusal};
+use lens::{Pixel, Point, Refusal, Settled};
 
 // A pixel, and what undistort makes of it: number 0 with its answer and flag, or a refusal's number with zeros and no.
 #[derive(Clone, Copy)]
