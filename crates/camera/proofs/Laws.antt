@@ -1,7 +1,7 @@
 -- What a caller may rely on, of the definitions of specs/ and of the contracts of src/; ByHand and Reached have more.
 -- Assumes nothing.
 use mathlib.Core.Path.{◌≡◌, refl, sym, ap, ◌∙◌}
-use Rattle.core.specs.declared.result.Result.TheVariants.{Ok, Err}
+use Rattle.std.specs.declared.result.Result.TheVariants.{Ok, Err}
 use mathlib.Core.Bool.{true, false, ◌&&◌}
 use mathlib.Core.Logic.{◌↔◌, ◌⊎◌}
 use Prim.Native.Nat.{ℕ, suc, ◌≤◌}
@@ -81,8 +81,8 @@ pub determined :
     Determined distort-contract.Post × Determined undistort-contract.Post
     × Determined dx-distort-x-contract.Post × Determined dx-distort-params-contract.Post
 determined = (
-  λ κ a s s' r r' p q. told_pixel_one_to_one r r' (p ∙ sym q),
-  λ κ a s s' r r' p q. told_one_to_one r r' (p ∙ sym q),
+  λ κ a s s' r r' p q. p ∙ sym q,
+  λ κ a s s' r r' p q. p ∙ sym q,
   λ κ a s s' r r' p q. p ∙ sym q,
   λ κ a s s' r r' p q. p ∙ sym q,
 )
@@ -95,8 +95,8 @@ pub determined_parts :
 determined_parts = (
   λ κ a s s' r r' p q. p ∙ sym q,
   λ κ a s s' r r' p q. p ∙ sym q,
-  λ κ a s s' r r' p q. told_pixel_one_to_one r r' (p ∙ sym q),
-  λ κ a s s' r r' p q. told_one_to_one r r' (p ∙ sym q),
+  λ κ a s s' r r' p q. p ∙ sym q,
+  λ κ a s s' r r' p q. p ∙ sym q,
   λ κ a s s' r r' p q. p ∙ sym q,
 )
 

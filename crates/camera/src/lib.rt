@@ -165,14 +165,14 @@ fn pixel_of(camera: Camera, point: Point) -> Pixel
 
 // The pixel of a point, for a camera and a point that 4 and 5 do not refuse: a table judges its camera once.
 pub fn distort_judged(camera: Camera, point: Point) -> Result<Pixel, Refusal>
-    ensures { told_pixel result ≡ told_pixel (distort_judged camera point) }
+    ensures { result ≡ distort_judged camera point }
 {
     lens::finite_pixel(pixel_of(camera, point))
 }
 
 // 4, by the mark of what is given, then 5, and then 11 of the pixel, which is worked out whatever is given.
 fn judged_pixel(given: f64, fx: f64, fy: f64, pixel: Pixel) -> Result<Pixel, Refusal>
-    ensures { told_pixel result ≡ told_pixel (judged_pixel (eq given given) fx fy pixel) }
+    ensures { result ≡ judged_pixel (eq given given) fx fy pixel }
 {
     if given == given {
         if either_zero(fx, fy) {
@@ -186,7 +186,7 @@ fn judged_pixel(given: f64, fx: f64, fy: f64, pixel: Pixel) -> Result<Pixel, Ref
 // The pixel of a point, for each model. For affine a finite pixel says that all that is given is finite: nothing has
 // to be tested twice.
 fn distort_affine(p: AffineParams, point: Point) -> Result<Pixel, Refusal>
-    ensures { told_pixel result ≡ told_pixel (distort (Camera.Affine p) point) }
+    ensures { result ≡ distort (Camera.Affine p) point }
 {
     let pixel = affine::distort(p, point);
     if lens::both_finite(pixel.0, pixel.1) {
@@ -199,28 +199,28 @@ fn distort_affine(p: AffineParams, point: Point) -> Result<Pixel, Refusal>
 }
 
 fn distort_enhanced_unified(p: EnhancedUnifiedParams, point: Point) -> Result<Pixel, Refusal>
-    ensures { told_pixel result ≡ told_pixel (distort (Camera.EnhancedUnified p) point) }
+    ensures { result ≡ distort (Camera.EnhancedUnified p) point }
 {
     let given = mark_enhanced_unified(p, point.0, point.1);
     judged_pixel(given, p.fx, p.fy, enhanced_unified::distort(p, point))
 }
 
 fn distort_kannala_brandt(p: KannalaBrandtParams, point: Point) -> Result<Pixel, Refusal>
-    ensures { told_pixel result ≡ told_pixel (distort (Camera.KannalaBrandt p) point) }
+    ensures { result ≡ distort (Camera.KannalaBrandt p) point }
 {
     let given = mark_kannala_brandt(p, point.0, point.1);
     judged_pixel(given, p.fx, p.fy, kannala_brandt::distort(p, point))
 }
 
 fn distort_brown_conrady(p: BrownConradyParams, point: Point) -> Result<Pixel, Refusal>
-    ensures { told_pixel result ≡ told_pixel (distort (Camera.BrownConrady p) point) }
+    ensures { result ≡ distort (Camera.BrownConrady p) point }
 {
     let given = mark_brown_conrady(p, point.0, point.1);
     judged_pixel(given, p.fx, p.fy, brown_conrady::distort(p, point))
 }
 
 fn distort_thin_prism(p: ThinPrismParams, point: Point) -> Result<Pixel, Refusal>
-    ensures { told_pixel result ≡ told_pixel (distort (Camera.ThinPrism p) point) }
+    ensures { result ≡ distort (Camera.ThinPrism p) point }
 {
     let given = mark_thin_prism(p, point.0, point.1);
     judged_pixel(given, p.bc.fx, p.bc.fy, thin_prism::distort(p, point))
@@ -228,7 +228,7 @@ fn distort_thin_prism(p: ThinPrismParams, point: Point) -> Result<Pixel, Refusal
 
 // The pixel of a point: one match on the camera for all that is asked.
 pub fn distort(camera: Camera, point: Point) -> Result<Pixel, Refusal>
-    ensures { told_pixel result ≡ told_pixel (distort camera point) }
+    ensures { result ≡ distort camera point }
 {
     match camera {
         Camera::Affine(p) => distort_affine(p, point),
@@ -256,32 +256,26 @@ fn point_of(camera: Camera, pixel: Pixel) -> Result<Settled, Refusal>
 fn finite_point(found: Result<Settled, Refusal>) -> Result<Settled, Refusal>
     ensures { result ≡ finite_point found }
 {
-    match found {
-        Err(refusal) => Err(refusal),
-        Ok(settled) => {
-            if lens::both_finite(settled.point.0, settled.point.1) {
-                return Ok(settled);
-            }
-            Err(Refusal::AnswerNotFinite)
-        }
+    let settled = found?;
+    if lens::both_finite(settled.point.0, settled.point.1) {
+        return Ok(settled);
     }
+    Err(Refusal::AnswerNotFinite)
 }
 
 // The point of a pixel, for a camera and a pixel that 4 and 5 do not refuse.
 pub fn undistort_judged(camera: Camera, pixel: Pixel) -> Result<Settled, Refusal>
-    ensures { told result ≡ told (undistort_judged camera pixel) }
+    ensures { result ≡ undistort_judged camera pixel }
 {
     finite_point(point_of(camera, pixel))
 }
 
 // The point of a pixel, with the updates it took and whether it settled.
 pub fn undistort(camera: Camera, pixel: Pixel) -> Result<Settled, Refusal>
-    ensures { told result ≡ told (undistort camera pixel) }
+    ensures { result ≡ undistort camera pixel }
 {
-    match judged(camera, pixel.0, pixel.1) {
-        Err(refusal) => Err(refusal),
-        Ok(()) => undistort_judged(camera, pixel),
-    }
+    judged(camera, pixel.0, pixel.1)?;
+    undistort_judged(camera, pixel)
 }
 
 // The most updates that undistort makes.
