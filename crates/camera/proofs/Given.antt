@@ -80,11 +80,14 @@ module _ (camera : Camera) (point : Point) where
   tests true false = refl
   tests false z = refl
 
-  pub told_by_tests : {s : Float} {pixel : Pixel} {t : Distorted} → s ≡ mark (all_finite (parameters camera) && (finite point.0 && finite point.1)) → pixel ≡ pixel_of camera point → t ≡ by_tests (eq s s) (zero_focal camera) pixel → t ≡ distort camera point
+  pub told_by_tests :
+      {s : Float} {z : Bool} {pixel : Pixel} {t : Distorted} → s ≡ mark (all_finite (parameters camera) && (finite point.0 && finite point.1))
+      → z ≡ zero_focal camera → pixel ≡ pixel_of camera point → t ≡ by_tests (eq s s) z pixel → t ≡ distort camera point
   unfolding judged
-  told_by_tests {s} {pixel} e f h =
+  told_by_tests {s} {z} {pixel} e k f h =
       let g = all_finite (parameters camera) && (finite point.0 && finite point.1) in
       h
+      ∙ ap (λ (b : Bool). by_tests (eq s s) b pixel) k
       ∙ ap (λ (b : Bool). by_tests b (zero_focal camera) pixel) (ap (λ (d : Float). eq d d) e ∙ mark_itself g)
       ∙ ap (by_tests g (zero_focal camera)) f
       ∙ tests g (zero_focal camera)
