@@ -2,7 +2,7 @@
 // answer's bytes in a buffer that the caller lends. What is refused writes nothing.
 #![tactic(auto)]
 
-ghost use Rattle.std.specs.Prelude.{true, ◌≡◌, ◌≤◌, length};
+ghost use Rattle.std.specs.Prelude.{true, ◌≡◌, ◌≤◌, length, IfOk};
 ghost use Rattle.little_endian.specs.Bytes.{floats, put};
 ghost use Rattle.lens.specs.Distorted.{told_pixel};
 ghost use Rattle.lens.specs.Undistorted.{told};
@@ -152,25 +152,27 @@ fn put_entries(answer: &mut [u8], numbers: &[f64; lens::ENTRIES])
         ((length numbers.now ≡ entries) × (all_finite numbers.now ≡ true)) }
     ensures { answer.new ≡ put 0 (floats numbers.now) answer.old }
 {
-    let mut i = 0;
-    while i < lens::ENTRIES {
+    for i in 0..lens::ENTRIES {
         little_endian::put(answer, 8 * i, 8, f64::to_bits(numbers[i]));
-        i += 1;
     }
 }
 
 fn give_jacobian(told: Result<Jacobian, Refusal>, answer: &mut [u8]) -> u8
-    requires { told.number ≡ 0 → all_finite told.jacobian.entries ≡ true }
+    requires { IfOk told (λ j. all_finite j.entries ≡ true) }
     ensures { given result answer.new ≡ give_jacobian told answer.old }
 {
-    let code = given::code(told.number, answer.len() == JACOBIAN);
-    if code == 0 {
-        let jacobian = told.jacobian;
-        let entries = jacobian.entries;
-        put_entries(answer, &entries);
-        little_endian::put(answer, COLUMNS, 8, jacobian.columns as u64);
+    let right = answer.len() == JACOBIAN;
+    match told {
+        Ok(jacobian) => {
+            let code = given::code(0, right);
+            if code == 0 {
+                put_entries(answer, &jacobian.entries);
+                little_endian::put(answer, COLUMNS, 8, jacobian.columns as u64);
+            }
+            code
+        }
+        Err(refusal) => given::code(lens::number(refusal), right),
     }
-    code
 }
 
 // The derivative of distort by the point: its entries row by row, then how many columns.
