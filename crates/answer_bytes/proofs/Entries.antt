@@ -10,6 +10,7 @@ use Rattle.std.specs.declared.result.Result.TheVariants.{Ok, Err}
 use mathlib.Core.Bool.{Bool, true, false, not, ◌&&◌}
 use mathlib.Core.List.{List, [], ◌∷◌}
 use Prim.Native.Nat.{ℕ, zero, suc, ◌+◌, ◌*◌, ◌≤◌, ◌<◌}
+use native.Mathlib.Nat.{add-zero}
 use native.Mathlib.Omega.{arith}
 use lib.Dec.{T}
 use lib.Ieee.{Float, nan, inf, fin, binary64, to_bits, is_nan}
@@ -17,7 +18,7 @@ use lib.Ieee.Scale.{finite}
 use lib.ListN.{length, get_or}
 use lib.Seq.{sets}
 use Rattle.little_endian.specs.Bytes.{bytes, floats, put}
-use Rattle.little_endian.proofs.Writing.{Floatwise, no_float, next_float, every_float, fitting, length_bytes, length_floats}
+use Rattle.little_endian.proofs.Writing.{Floatwise, next_float, every_float, fitting, length_bytes, length_floats}
 use Rattle.lens.specs.Finite.{all_finite}
 use Rattle.lens.specs.Jacobian.{entries}
 use Rattle.lens.specs.Refusal.{number}
@@ -79,7 +80,11 @@ pub record Entered (out₀ : List ℕ) (numbers : List Float) (out : List ℕ) (
   pub so_far : Floatwise out₀ 0 numbers out i
 
 pub none_entered : (out : List ℕ) (numbers : List Float) → (columns_place ≤ length out) × ((length numbers ≡ entries) × (all_finite numbers ≡ true)) → Entered out numbers out 0
-none_entered out numbers h = record { count = h.1.0; sound = h.1.1; so_far = no_float out 0 numbers (omega (arith, h.1.0, h.0)) }
+none_entered out numbers h = record {
+  count = h.1.0;
+  sound = h.1.1;
+  so_far = record { within = omega arith; fits = omega (arith, h.1.0, h.0); long = refl; left = ap (λ (k : ℕ). sets out k (floats numbers)) (add-zero 0) };
+}
 
 pub next_entered :
     (out₀ : List ℕ) (numbers : List Float) (out : List ℕ) (i : ℕ) (d : Float) (after : List ℕ) →

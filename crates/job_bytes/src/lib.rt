@@ -100,10 +100,8 @@ fn check_word(bytes: &[u8]) -> u64
     ensures { result ≡ check_of bytes.now }
 {
     let mut sum = CHECK_START;
-    let mut i = 0;
-    while i < CHECK / 8 {
-        sum = std::num::wrapping_add_u64(sum, little_endian::word(bytes, 8 * i));
-        i += 1;
+    for i in 0..CHECK / 8 {
+        sum = sum.wrapping_add(little_endian::word(bytes, 8 * i));
     }
     sum
 }
@@ -203,25 +201,19 @@ pub fn write(job: Job, out: &mut [u8])
 fn known_mark(mark: u8, started: Result<Job, Refusal>) -> Result<Job, Refusal>
     ensures { result ≡ known_mark mark started }
 {
-    match started {
-        Ok(job) => {
-            if mark <= 1 {
-                return Ok(job);
-            }
-            Err(Refusal::ImpossibleRecord)
-        }
-        Err(refusal) => Err(refusal),
+    let job = started?;
+    if mark <= 1 {
+        return Ok(job);
     }
+    Err(Refusal::ImpossibleRecord)
 }
 
 // A fresh record of the camera that is asked for, or why there is none.
 fn started(asked: Result<Camera, Refusal>, width: usize, height: usize, mark: u8) -> Result<Job, Refusal>
     ensures { result ≡ started asked width height mark }
 {
-    match asked {
-        Ok(camera) => known_mark(mark, job::fresh(camera, width, height, mark == 1)),
-        Err(refusal) => Err(refusal),
-    }
+    let camera = asked?;
+    known_mark(mark, job::fresh(camera, width, height, mark == 1))
 }
 
 // Hands a record over, if the buffer is of its length.

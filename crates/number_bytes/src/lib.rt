@@ -9,31 +9,17 @@ ghost use Rattle.number_bytes.specs.Number.{slope_value, give_slope, tangent_byt
 
 use lens::Refusal;
 
-// What the tangent tells: 0 and the slope, or 10 and zero.
-#[derive(Clone, Copy)]
-struct ToldSlope {
-    number: u8,
-    slope: f64,
-}
-
-fn told_slope(slope: Option<f64>) -> ToldSlope
-    ensures { (result.number ≡ slope_number slope) × (result.slope ≡ slope_value slope) }
+// Hands a slope over, or 10 where there is none.
+fn give_slope(slope: Option<f64>, answer: &mut [u8]) -> u8
+    ensures { given result answer.new ≡ give_slope (slope_number slope) (slope_value slope) answer.old }
 {
-    match slope {
-        Some(slope) => ToldSlope { number: 0, slope },
-        None => ToldSlope {
-            number: lens::number(Refusal::AngleTooLarge),
-            slope: 0.0,
-        },
-    }
-}
-
-fn give_slope(told: ToldSlope, answer: &mut [u8]) -> u8
-    ensures { given result answer.new ≡ give_slope told.number told.slope answer.old }
-{
-    let code = given::code(told.number, answer.len() == 8);
+    let right = answer.len() == 8;
+    let Some(slope) = slope else {
+        return given::code(lens::number(Refusal::AngleTooLarge), right);
+    };
+    let code = given::code(0, right);
     if code == 0 {
-        little_endian::put_floats(answer, 0, &[told.slope]);
+        little_endian::put_floats(answer, 0, &[slope]);
     }
     code
 }
@@ -43,6 +29,5 @@ pub fn tangent(theta: f64, answer: &mut [u8]) -> u8
     ensures is { given result answer.new ≡ tangent_bytes theta answer.old }
     ensures near { Tangent theta (tangent theta) }
 {
-    let told = told_slope(arctan::tangent(theta));
-    give_slope(told, answer)
+    give_slope(arctan::tangent(theta), answer)
 }

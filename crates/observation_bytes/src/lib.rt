@@ -54,10 +54,8 @@ fn see_each(camera: Camera, list: &mut [u8], count: usize)
     requires { 40 * count ≤ length list.old }
     ensures { list.new ≡ each (seen_bytes camera) count list.old }
 {
-    let mut i = 0;
-    while i < count {
+    for i in 0..count {
         see(camera, list, LENGTH * i);
-        i += 1;
     }
 }
 

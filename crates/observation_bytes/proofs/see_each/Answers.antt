@@ -1,4 +1,4 @@
--- `observation_bytes::see_each` meets its contract. The measure is how many records are left. Assumes nothing.
+-- `observation_bytes::see_each` meets its contract. Assumes nothing.
 use Prim.Native.Nat.{◌-◌}
 use native.Mathlib.Omega.{arith}
 use Rattle.observation_bytes.proofs.Pass.{none, as_long, next, all}

@@ -1,5 +1,4 @@
--- `observation_bytes::see_each` meets its contract. The measure is how many records are left. Assumes nothing.
-use Prim.Native.Nat.{◌-◌}
+-- `observation_bytes::see_each` meets its contract. Assumes nothing.
 use Rattle.lens.specs.declared.Pixel.{Pixel}
 use Rattle.camera.specs.declared.Camera.{Camera}
 use Rattle.observations.specs.Observations.{seen}
@@ -13,6 +12,3 @@ find camera pixel = seen camera (blank pixel)
 
 abbrev pub invariant-loop-i : goal.invariant-loop-i
 invariant-loop-i l = Recordwise (find l.camera) l.initial.list l.count l.list l.i
-
-abbrev pub decreases-loop-i : goal.decreases-loop-i
-decreases-loop-i l = l.count - l.i
