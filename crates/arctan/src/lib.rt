@@ -83,10 +83,7 @@ fn product(a: u64, b: u64) -> u64
     ensures { result ≡ product a b }
 {
     let corner = (a * 4 % 0x1_0000_0000) * (b * 4 % 0x1_0000_0000);
-    let mut borrow: u64 = 0;
-    if low(a * 16, b) < corner {
-        borrow = 1;
-    }
+    let borrow = u64::from(low(a * 16, b) < corner);
     high(a * 16, b) - borrow
 }
 
@@ -255,11 +252,7 @@ fn solution(top: u64, n: u64) -> u64
     requires { n ≤ 13 * 2 ^ 55 }
     ensures { (result ≡ solution top n) × (result ≤ top) }
 {
-    let w = refined(n);
-    if w < top {
-        return w;
-    }
-    top
+    refined(n).min(top)
 }
 
 // p / q, rounded.

@@ -1,4 +1,5 @@
-// What a formula asks of one f64, and its bit pattern both ways: each answer for every f64.
+// What a formula asks of one f64, and its bit pattern both ways: each answer for every f64. Most are the library's own
+// functions, whose contracts are said here in the words of this repository's formulas.
 #![tactic(auto)]
 
 ghost use Rattle.std.specs.Prelude.{◌≡◌};
@@ -6,12 +7,6 @@ ghost use Rattle.std.specs.Float.{binary32, binary64};
 ghost use Rattle.std.specs.Float.Ieee.{to_bits};
 ghost use Rattle.std.specs.Float.Ieee.Scale.{finite};
 ghost use Rattle.exact.specs.F64.{f64, mark, magnitude, is_zero};
-
-const INFINITY: u64 = 0x7ff0_0000_0000_0000;
-
-const NAN: u64 = 0x7ff8_0000_0000_0000;
-
-const NAN32: u32 = 0x7fc0_0000;
 
 // 0.0 where x is finite, and NaN elsewhere. Marks may be added: many numbers share one comparison, of their sum with
 // itself, where two comparisons of each number with the infinities cost far more.
@@ -21,25 +16,20 @@ pub fn mark(x: f64) -> f64
     x - x
 }
 
-// Whether x is a number, and neither a NaN nor an infinity: no NaN equals itself.
+// Whether x is a number, and neither a NaN nor an infinity.
+#[tactic(auto, using(crate::proofs::Tests::finite_is))]
 pub fn is_finite(x: f64) -> bool
     ensures { result ≡ finite x }
 {
-    let difference = mark(x);
-    difference == difference
+    x.is_finite()
 }
 
 // x without its sign: 0.0 for both zeros.
+#[tactic(auto, using(crate::proofs::Tests::size_is))]
 pub fn magnitude(x: f64) -> f64
     ensures { result ≡ magnitude x }
 {
-    if x < 0.0 {
-        -x
-    } else if x == 0.0 {
-        0.0
-    } else {
-        x
-    }
+    x.abs()
 }
 
 // Whether x is a zero, of either sign.
@@ -53,23 +43,19 @@ pub fn is_zero(x: f64) -> bool
 pub fn to_bits(x: f64) -> u64
     ensures { result ≡ to_bits binary64 x }
 {
-    if x != x { NAN } else { f64::to_bits(x) }
+    std::num::f64_to_bits_with_nan(x)
 }
 
 // The same of an f32.
 pub fn to_bits32(x: f32) -> u32
     ensures { result ≡ to_bits binary32 x }
 {
-    if x != x { NAN32 } else { f32::to_bits(x) }
+    std::num::f32_to_bits_with_nan(x)
 }
 
 // The f64 of a bit pattern. Every pattern of a NaN gives a NaN.
 pub fn of_bits(bits: u64) -> f64
     ensures { result ≡ f64 bits }
 {
-    if INFINITY < bits % 0x8000_0000_0000_0000 {
-        0.0 / 0.0
-    } else {
-        f64::from_bits(bits)
-    }
+    std::num::f64_from_bits_with_nan(bits)
 }

@@ -5,8 +5,8 @@ ghost use Rattle.std.specs.Prelude.{◌≡◌, ◌+◌, ◌-◌, ◌*◌, ◌^�
 ghost use Rattle.std.proofs.lemmas.List.Edits.{sets};
 ghost use Rattle.little_endian.specs.Bytes.{value, bytes, half, word, float, floats, put};
 
-// The number of all bytes from place at on, where they are fewer than eight. It is seldom asked for, and so is kept out of
-// its callers' code: one that reads twelve numbers runs 171 instructions, and with this loop laid out in it 320.
+// The number of all bytes from place at on, where they are fewer than eight. It is seldom asked for, and so is kept out
+// of its callers' code: one that reads twelve numbers runs 171 instructions, and with this loop laid out in it 320.
 #[inline(never)]
 fn last(bytes: &[u8], at: usize) -> u64
     requires { (at ≤ length bytes.now) × (length bytes.now < at + 8) }

@@ -18,7 +18,7 @@ const LEAD: u64 = 0x10_0000_0000_0000;
 
 // A root on its way. `twice` is two times the digits found so far, and `rest` is what their square
 // leaves of n, counted in steps of the last digit's weight, so that both stay below 2^56.
-#[derive(Clone, Copy)]
+#[derive(Debug, Clone, Copy, PartialEq, Eq)]
 pub struct Partial {
     pub rest: u64,
     pub twice: u64,
@@ -26,7 +26,7 @@ pub struct Partial {
 
 // A number above zero: its significand, less the leading digit, and the power of two that stands
 // beside the significand with 52 zeros after it.
-#[derive(Clone, Copy)]
+#[derive(Debug, Clone, Copy, PartialEq, Eq)]
 pub struct Scaled {
     pub tail: u64,
     pub power: u64,
@@ -82,11 +82,10 @@ fn digits(rest: u64) -> Partial
         rest,
         twice: 0x20_0000_0000_0000,
     };
-    let mut from = LEAD;
-    while 16 < from {
+    for turn in 0..6u32 {
+        let from = LEAD >> (8 * turn);
         let mid = four(p, from);
         p = four(mid, from >> 4);
-        from = from >> 8;
     }
     four(p, 16)
 }
@@ -99,7 +98,7 @@ fn take_apart(bits: u64) -> Scaled
     let field = bits >> 52;
     let tail = bits % LEAD;
     if field == 0 {
-        let zeros = u64::leading_zeros(tail) as u64;
+        let zeros = tail.leading_zeros() as u64;
         Scaled {
             tail: (tail << (zeros - 11)) - LEAD,
             power: 1033 - zeros,
@@ -152,7 +151,7 @@ pub fn root(x: f64) -> f64
     ensures { result ≡ root x }
 {
     if x > 0.0 {
-        let bits = f64::to_bits(x);
+        let bits = x.to_bits();
         if bits < INFINITY {
             return above_zero(bits);
         }

@@ -20,7 +20,7 @@ pub fn thirty_seconds(x: f64) -> Option<i16>
     if -1024.015625 <= x {
         // 32,767.5 / 32, a tie that goes to 32,768
         if x < 1023.984375 {
-            let pattern = f64::to_bits(x + SHIFT) as i64;
+            let pattern = (x + SHIFT).to_bits() as i64;
             let number = (pattern - PATTERN) as i16;
             return Some(number);
         }
