@@ -7,7 +7,7 @@ use native.Mathlib.Omega.{arith}
 use borrow.Author.Tests.{ltb-false}
 use lib.Dec.{ltb, eqb}
 use Rattle.lens.specs.declared.Pixel.{Pixel}
-use Rattle.lens.specs.declared.Undistorted.{Undistorted}
+use Rattle.lens.specs.Undistorted.{Undistorted}
 use Rattle.region.specs.declared.Region.{Region}
 use Rattle.turns.specs.Turns.{finished, refused, running}
 use Rattle.plans.specs.Plan.{Content, Plan, State, one_no, nowhere, all_units}

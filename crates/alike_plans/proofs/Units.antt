@@ -1,5 +1,6 @@
 -- Unit by unit: both plans refuse with the same numbers up to the first that either refuses, and count the same. Assumes nothing.
 use mathlib.Core.Path.{◌≡◌, refl, ap, ap₂, ◌∙◌}
+use Rattle.core.specs.declared.result.Result.TheVariants.{Ok, Err}
 use mathlib.Core.Bool.{Bool, true, false, cond, not, ◌&&◌, true≢false}
 use Prim.Native.Nat.{ℕ, zero, suc, ◌+◌, ◌-◌, ◌≤◌, ◌<◌}
 use native.Mathlib.Omega.{arith}
@@ -9,12 +10,10 @@ use Rattle.exact.proofs.Alike.{≐-refl}
 use Rattle.lens.specs.Judgement.{verdict}
 use Rattle.lens.specs.Refusal.{number}
 use Rattle.lens.specs.Undistorted.{told}
-use Rattle.lens.specs.declared.Judgement.{Judgement}
-use Rattle.lens.specs.declared.Judgement.TheVariants.{Taken}
+use Rattle.lens.specs.Judgement.{Judgement}
 use Rattle.lens.specs.declared.Pixel.{Pixel}
 use Rattle.lens.specs.declared.Refusal.TheVariants.{SampleUnsettled}
-use Rattle.lens.specs.declared.Undistorted.{Undistorted}
-use Rattle.lens.specs.declared.Undistorted.TheVariants.{At, Refused}
+use Rattle.lens.specs.Undistorted.{Undistorted}
 use Rattle.lens.proofs.Laws.{verdict_one_to_one}
 use Rattle.lens.specs.Alike.{AlikeSettled}
 use Rattle.region.specs.Region.{increments, wrong}
@@ -72,10 +71,10 @@ module _ (f g : ℕ → ℕ) (step : (n : ℕ) → ((m : ℕ) → m < n → f m 
 -- ---- samples
 
 told_alike : (u v : Undistorted) → AlikeFound u v → AlikeSettled (told u).settled (told v).settled
-told_alike (At a) (At b) h = h
-told_alike (At a) (Refused s) h = absurd h
-told_alike (Refused r) (At b) h = absurd h
-told_alike (Refused r) (Refused s) h = record { point = record { x = ≐-refl; y = ≐-refl }; updates = refl; flag = refl }
+told_alike (Ok a) (Ok b) h = h
+told_alike (Ok a) (Err s) h = absurd h
+told_alike (Err r) (Ok b) h = absurd h
+told_alike (Err r) (Err s) h = record { point = record { x = ≐-refl; y = ≐-refl }; updates = refl; flag = refl }
 
 module _ (sweep : Sweep) (sample : Pixel → Undistorted) (h : (pixel : Pixel) → AlikeFound (sample pixel) (sweep.sample pixel)) where
   abbrev other : Sweep
@@ -99,10 +98,10 @@ module _ (sweep : Sweep) (sample : Pixel → Undistorted) (h : (pixel : Pixel) �
   first_same = firsts_same (λ k. (settled_at other k).flag) (λ k. (settled_at sweep k).flag) (λ k. (settled_alike k).flag)
 
   number_same : (u v : Undistorted) → AlikeFound u v → sample_number other u ≡ sample_number sweep v
-  number_same (At a) (At b) k = ap (λ (f : Bool). cond (sweep.strict && not f) (number SampleUnsettled) 0) k.flag
-  number_same (At a) (Refused s) k = absurd k
-  number_same (Refused r) (At b) k = absurd k
-  number_same (Refused r) (Refused s) k = ap number k
+  number_same (Ok a) (Ok b) k = ap (λ (f : Bool). cond (sweep.strict && not f) (number SampleUnsettled) 0) k.flag
+  number_same (Ok a) (Err s) k = absurd k
+  number_same (Err r) (Ok b) k = absurd k
+  number_same (Err r) (Err s) k = ap number k
 
   judged_same : wrong (increments (region_of other) sweep.width sweep.height) ≡ wrong (increments (region_of sweep) sweep.width sweep.height)
   judged_same = increments_refused_alike sweep.width sweep.height (edges_below other sweep.samples) (edges_below sweep sweep.samples) (edges_alike sweep.samples)
@@ -117,10 +116,10 @@ module _ (sweep : Sweep) (sample : Pixel → Undistorted) (h : (pixel : Pixel) �
       judged : Judgement
       judged = wrong (increments (region_of other) sweep.width sweep.height)
 
-      taken : verdict judged ≡ 0 → judged ≡ Taken
-      taken e = verdict_one_to_one judged Taken e
+      taken : verdict judged ≡ 0 → judged ≡ Ok tt
+      taken e = verdict_one_to_one judged (Ok tt) e
 
-      at_last : (n : ℕ) (l : Bool) → l ≡ false → cond (eqb n 0) (cond l 0 (verdict judged)) n ≡ 0 → judged ≡ Taken
+      at_last : (n : ℕ) (l : Bool) → l ≡ false → cond (eqb n 0) (cond l 0 (verdict judged)) n ≡ 0 → judged ≡ Ok tt
       at_last zero true q e = absurd (true≢false q)
       at_last zero false q e = taken e
       at_last (suc n) l q e = let z : suc n ≡ 0 = rw (eqb-suc-zero n) at e in absurd (omega (arith, z))

@@ -1,10 +1,9 @@
 -- A plan with another engine, whose samples are alike and whose cells are the same, and what a build by it owes.
 -- Definitions only.
-use Rattle.std.specs.Prelude.{◌≡◌, List, ℕ, min}
+use Rattle.std.specs.Prelude.{◌≡◌, List, ℕ, min, Ok, Err}
 use Rattle.exact.specs.Alike.{◌≐◌}
 use Rattle.lens.specs.declared.Pixel.{Pixel}
-use Rattle.lens.specs.declared.Undistorted.{Undistorted}
-use Rattle.lens.specs.declared.Undistorted.TheVariants.{At, Refused}
+use Rattle.lens.specs.Undistorted.{Undistorted}
 use Rattle.lens.specs.Alike.{AlikeSettled}
 use Rattle.region.specs.declared.Region.{Region}
 use Rattle.plans.specs.Built.{progress_of, doable, Built}
@@ -13,10 +12,10 @@ use Rattle.plans.specs.declared.Progress.{Progress}
 
 -- alike points with the same updates and flag, or the same refusal
 abbrev pub AlikeFound : Undistorted → Undistorted → Type 0
-AlikeFound (At a) (At b) = AlikeSettled a b
-AlikeFound (At a) (Refused s) = ⊥
-AlikeFound (Refused r) (At b) = ⊥
-AlikeFound (Refused r) (Refused s) = r ≡ s
+AlikeFound (Ok a) (Ok b) = AlikeSettled a b
+AlikeFound (Ok a) (Err s) = ⊥
+AlikeFound (Err r) (Ok b) = ⊥
+AlikeFound (Err r) (Err s) = r ≡ s
 
 pub record AlikeRegions (a b : Region) : Type 0 where
   pub left : a.left ≐ b.left

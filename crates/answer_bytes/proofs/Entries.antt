@@ -1,5 +1,7 @@
 -- Finite numbers put one behind the other, as they are. Assumes nothing.
 use mathlib.Core.Path.{◌≡◌, refl, sym, ap, ◌∙◌, subst}
+use Rattle.core.specs.declared.result.Result.{Result}
+use Rattle.core.specs.declared.result.Result.TheVariants.{Ok, Err}
 use mathlib.Core.Bool.{Bool, true, false, not, ◌&&◌}
 use mathlib.Core.List.{List, [], ◌∷◌}
 use Prim.Native.Nat.{ℕ, zero, suc, ◌+◌, ◌*◌, ◌≤◌, ◌<◌}
@@ -20,8 +22,6 @@ use Rattle.lens.proofs.Laws.{number_within}
 use Rattle.camera.specs.declared.Camera.{Camera}
 use Rattle.camera.specs.declared.Differentiated.{Differentiated}
 use Rattle.camera.proofs.Laws.{jacobians_finite}
-use Rattle.camera_bytes.specs.declared.Asked.{Asked}
-use Rattle.camera_bytes.specs.declared.Asked.TheVariants.{Of, Refused}
 use Rattle.answer_bytes.specs.Answer.{columns_place, slopes, parameter_slopes}
 
 -- ---- what is given is finite
@@ -33,15 +33,15 @@ abbrev Sound : Differentiated → Type 0
 Sound d = d.number ≡ 0 → all_finite d.jacobian.entries ≡ true
 
 -- of an operation whose answers are sound where there is a camera, and whose refusals are told by their number
-module _ (operation : Asked → Differentiated) (of : (camera : Camera) → Sound (operation (Of camera))) (told : (r : Refusal) → (operation (Refused r)).number ≡ number r) where
-  finite_of : (asked : Asked) {d : Differentiated} → d ≡ operation asked → Sound d
-  finite_of (Of camera) e = subst Sound (sym e) (of camera)
-  finite_of (Refused r) e = subst Sound (sym e) (λ z. absurd (none r (sym (told r) ∙ z)))
+module _ (operation : Result Camera Refusal → Differentiated) (of : (camera : Camera) → Sound (operation (Ok camera))) (told : (r : Refusal) → (operation (Err r)).number ≡ number r) where
+  finite_of : (asked : Result Camera Refusal) {d : Differentiated} → d ≡ operation asked → Sound d
+  finite_of (Ok camera) e = subst Sound (sym e) (of camera)
+  finite_of (Err r) e = subst Sound (sym e) (λ z. absurd (none r (sym (told r) ∙ z)))
 
-pub slopes_finite : (asked : Asked) (point : Point) {d : Differentiated} → d ≡ slopes asked point → Sound d
+pub slopes_finite : (asked : Result Camera Refusal) (point : Point) {d : Differentiated} → d ≡ slopes asked point → Sound d
 slopes_finite asked point = finite_of (λ a. slopes a point) (λ camera. (jacobians_finite camera point).0) (λ r. refl) asked
 
-pub parameter_slopes_finite : (asked : Asked) (point : Point) {d : Differentiated} → d ≡ parameter_slopes asked point → Sound d
+pub parameter_slopes_finite : (asked : Result Camera Refusal) (point : Point) {d : Differentiated} → d ≡ parameter_slopes asked point → Sound d
 parameter_slopes_finite asked point = finite_of (λ a. parameter_slopes a point) (λ camera. (jacobians_finite camera point).1) (λ r. refl) asked
 
 -- ---- a finite number is no NaN

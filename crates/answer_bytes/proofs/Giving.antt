@@ -1,5 +1,8 @@
 -- From the parts of a call to what it hands back. Assumes nothing.
 use mathlib.Core.Path.{◌≡◌, refl, ap, ap₂, ◌∙◌}
+use Rattle.core.specs.declared.result.Result.{Result}
+use Rattle.camera.specs.declared.Camera.{Camera}
+use Rattle.lens.specs.declared.Refusal.{Refusal}
 use mathlib.Core.Bool.{Bool, true, false}
 use mathlib.Core.List.{List, [], ◌∷◌, ◌++◌}
 use Prim.Native.Nat.{ℕ, ◌+◌, ◌*◌}
@@ -14,7 +17,6 @@ use Rattle.lens.specs.declared.Settled.{Settled}
 use Rattle.camera.specs.declared.Differentiated.{Differentiated}
 use Rattle.given.specs.Given.{Given, flag_number}
 use Rattle.answer_bytes.specs.Answer.{point_bytes, jacobian_bytes, columns_place, jacobian_length, give_jacobian}
-use Rattle.camera_bytes.specs.declared.Asked.{Asked}
 
 -- ---- the answers' bytes, as they are put one behind the other
 
@@ -74,7 +76,7 @@ module _ {Q D T W : Type 0} (told : D → T) (number : T → ℕ) (value : T →
 
 -- the same of a derivative, which is told as it is
 pub jacobian_call :
-    (operation : Asked → Differentiated) (asked read : Asked) (g : Given) (d : Differentiated) (lent : List ℕ) →
+    (operation : Result Camera Refusal → Differentiated) (asked read : Result Camera Refusal) (g : Given) (d : Differentiated) (lent : List ℕ) →
     g ≡ give_jacobian d lent →
     d ≡ operation asked →
     asked ≡ read →

@@ -1,5 +1,8 @@
 -- What a caller may rely on, of the definitions of specs/ and of the contracts of src/. Assumes nothing.
 use mathlib.Core.Path.{◌≡◌, refl, sym, ap, ap₂, ◌∙◌}
+use Rattle.core.specs.declared.result.Result.{Result}
+use Rattle.core.specs.declared.result.Result.TheVariants.{Ok}
+use Rattle.lens.specs.declared.Refusal.{Refusal}
 use mathlib.Core.List.{List, [], ◌∷◌, ◌++◌, append-nil, append_assoc}
 use Prim.Native.Nat.{ℕ, ◌*◌, ◌^◌, ◌≤◌, ◌<◌}
 use native.Mathlib.Omega.{arith}
@@ -13,21 +16,17 @@ use Rattle.little_endian.proofs.Laws.{length_bytes, length_floats, value_bytes, 
 use Rattle.lens.specs.Distorted.{told_pixel}
 use Rattle.lens.specs.Jacobian.{entries}
 use Rattle.lens.specs.Undistorted.{told}
-use Rattle.lens.specs.declared.Distorted.{Distorted}
-use Rattle.lens.specs.declared.Distorted.TheVariants as pixels
+use Rattle.lens.specs.Distorted.{Distorted}
 use Rattle.lens.specs.declared.Jacobian.{Jacobian}
 use Rattle.lens.specs.declared.Pixel.{Pixel}
 use Rattle.lens.specs.declared.Settled.{Settled}
-use Rattle.lens.specs.declared.Undistorted.{Undistorted}
-use Rattle.lens.specs.declared.Undistorted.TheVariants as points
+use Rattle.lens.specs.Undistorted.{Undistorted}
 use Rattle.camera.specs.Camera.{distort, undistort, dx_distort_x, dx_distort_params}
 use Rattle.camera.specs.declared.Camera.{Camera}
 use Rattle.given.specs.Given.{Given, given, flag_number}
 use Rattle.given.proofs.Laws.{both, Untouched, refused_kept, filled}
 use Rattle.camera.specs.Numbers.{last, count}
 use Rattle.camera_bytes.specs.Reading.{camera_of, read}
-use Rattle.camera_bytes.specs.declared.Asked.{Asked}
-use Rattle.camera_bytes.specs.declared.Asked.TheVariants.{Of}
 use Rattle.camera_bytes.proofs.Counted.{read_camera}
 use Rattle.answer_bytes.specs.Answer.{pixel_bytes, point_bytes, jacobian_bytes, columns_place, jacobian_length}
 use Rattle.answer_bytes.specs.Answer.{give_jacobian, given_pixel, given_point, distorted, undistorted, slopes}
@@ -91,32 +90,32 @@ module _ (model : ℕ) (params lent : List ℕ) (x y : Float) (known : model ≤
   abbrev camera : Camera
   camera = camera_of model params
 
-  is_read : (f : Asked → Given) → f (read model params) ≡ f (Of camera)
+  is_read : (f : Result Camera Refusal → Given) → f (read model params) ≡ f (Ok camera)
   is_read f = ap f (read_camera model params known counted)
 
   -- what is given of the camera that is read, where the camera's own answer is known
-  by_camera : {D : Type 0} (operation : Asked → D) (give : D → Given) (d : D) → operation (Of camera) ≡ d
+  by_camera : {D : Type 0} (operation : Result Camera Refusal → D) (give : D → Given) (d : D) → operation (Ok camera) ≡ d
       → give (operation (read model params)) ≡ give d
-  by_camera operation give d e = is_read (λ (a : Asked). give (operation a)) ∙ ap give e
+  by_camera operation give d e = is_read (λ (a : Result Camera Refusal). give (operation a)) ∙ ap give e
 
   -- Where the camera answers a pixel, 0 is returned, and 16 bytes are the pixel's.
   pub distort_answered :
-      (pixel : Pixel) → distort camera record { 0 = x; 1 = y } ≡ pixels.At pixel → length lent ≡ 16
+      (pixel : Pixel) → distort camera record { 0 = x; 1 = y } ≡ Ok pixel → length lent ≡ 16
       → distort_bytes model params x y lent ≡ given 0 (pixel_bytes pixel)
   unfolding distort_bytes
   distort_answered pixel e f =
-      by_camera (λ (a : Asked). distorted a record { 0 = x; 1 = y })
-      (λ (d : Distorted). given_pixel (told_pixel d) lent) (pixels.At pixel) e
+      by_camera (λ (a : Result Camera Refusal). distorted a record { 0 = x; 1 = y })
+      (λ (d : Distorted). given_pixel (told_pixel d) lent) (Ok pixel) e
       ∙ filled 16 0 (pixel_bytes pixel) lent refl f
 
   -- Where it answers a point, 24 bytes are that, with its updates and flag.
   pub undistort_answered :
-      (s : Settled) → undistort camera record { 0 = x; 1 = y } ≡ points.At s → length lent ≡ 24
+      (s : Settled) → undistort camera record { 0 = x; 1 = y } ≡ Ok s → length lent ≡ 24
       → undistort_bytes model params x y lent ≡ given 0 (point_bytes s)
   unfolding undistort_bytes
   undistort_answered s e f =
-      by_camera (λ (a : Asked). undistorted a record { 0 = x; 1 = y }) (λ (d : Undistorted). given_point (told d) lent)
-      (points.At s) e
+      by_camera (λ (a : Result Camera Refusal). undistorted a record { 0 = x; 1 = y }) (λ (d : Undistorted). given_point (told d) lent)
+      (Ok s) e
       ∙ filled 24 0 (point_bytes s) lent refl f
 
   -- Where it answers a Jacobian, so many bytes are that, by the point and by the parameters.
@@ -126,7 +125,7 @@ module _ (model : ℕ) (params lent : List ℕ) (x y : Float) (known : model ≤
       dx_distort_x_bytes model params x y lent
       ≡ given 0 (jacobian_bytes (dx_distort_x camera record { 0 = x; 1 = y }).jacobian)
   unfolding dx_distort_x_bytes
-  dx_distort_x_answered e f = is_read (λ (a : Asked). give_jacobian (slopes a record { 0 = x; 1 = y }) lent)
+  dx_distort_x_answered e f = is_read (λ (a : Result Camera Refusal). give_jacobian (slopes a record { 0 = x; 1 = y }) lent)
       ∙ filled jacobian_length _ _ lent e f
 
   pub dx_distort_params_answered :
@@ -135,7 +134,7 @@ module _ (model : ℕ) (params lent : List ℕ) (x y : Float) (known : model ≤
       dx_distort_params_bytes model params x y lent
       ≡ given 0 (jacobian_bytes (dx_distort_params camera record { 0 = x; 1 = y }).jacobian)
   unfolding dx_distort_params_bytes
-  dx_distort_params_answered e f = is_read (λ (a : Asked). give_jacobian
+  dx_distort_params_answered e f = is_read (λ (a : Result Camera Refusal). give_jacobian
       (parameter_slopes a record { 0 = x; 1 = y }) lent) ∙ filled jacobian_length _ _ lent e f
 
 -- ---- what a caller reads out of an answer's bytes

@@ -1,24 +1,22 @@
 -- The four operations over bytes, each as what is handed in and the buffer lent, and the number and the buffer that
 -- come back. Definitions only.
-use Rattle.std.specs.Prelude.{List, [], ◌∷◌, ◌++◌, ℕ, ◌+◌, ◌*◌, Float}
+use Rattle.std.specs.Prelude.{List, [], ◌∷◌, ◌++◌, ℕ, ◌+◌, ◌*◌, Float, Result, Ok, Err}
+use Rattle.camera.specs.declared.Camera.{Camera}
+use Rattle.lens.specs.declared.Refusal.{Refusal}
 use Rattle.little_endian.specs.Bytes.{bytes, floats}
 use Rattle.lens.specs.Distorted.{ToldPixel, told_pixel}
 use Rattle.lens.specs.Jacobian.{entries}
 use Rattle.lens.specs.Undistorted.{Told, told}
-use Rattle.lens.specs.declared.Distorted.{Distorted}
-use Rattle.lens.specs.declared.Distorted.TheVariants as pixels
+use Rattle.lens.specs.Distorted.{Distorted}
 use Rattle.lens.specs.declared.Jacobian.{Jacobian}
 use Rattle.lens.specs.declared.Pixel.{Pixel}
 use Rattle.lens.specs.declared.Point.{Point}
 use Rattle.lens.specs.declared.Settled.{Settled}
-use Rattle.lens.specs.declared.Undistorted.{Undistorted}
-use Rattle.lens.specs.declared.Undistorted.TheVariants as points
+use Rattle.lens.specs.Undistorted.{Undistorted}
 use Rattle.camera.specs.Camera.{distort, undistort, refused, dx_distort_x, dx_distort_params}
 use Rattle.camera.specs.declared.Differentiated.{Differentiated}
 use Rattle.camera_bytes.specs.Reading.{read}
 use Rattle.given.specs.Given.{Given, flag_number, answered}
-use Rattle.camera_bytes.specs.declared.Asked.{Asked}
-use Rattle.camera_bytes.specs.declared.Asked.TheVariants.{Of, Refused}
 
 -- ---- an answer's bytes
 
@@ -56,21 +54,21 @@ give_jacobian d lent = answered jacobian_length d.number (jacobian_bytes d.jacob
 
 -- ---- the camera's operation, or why there is no camera
 
-abbrev pub distorted : Asked → Point → Distorted
-distorted (Of camera) point = distort camera point
-distorted (Refused refusal) point = pixels.Refused refusal
+abbrev pub distorted : Result Camera Refusal → Point → Distorted
+distorted (Ok camera) point = distort camera point
+distorted (Err refusal) point = Err refusal
 
-abbrev pub undistorted : Asked → Pixel → Undistorted
-undistorted (Of camera) pixel = undistort camera pixel
-undistorted (Refused refusal) pixel = points.Refused refusal
+abbrev pub undistorted : Result Camera Refusal → Pixel → Undistorted
+undistorted (Ok camera) pixel = undistort camera pixel
+undistorted (Err refusal) pixel = Err refusal
 
-abbrev pub slopes : Asked → Point → Differentiated
-slopes (Of camera) point = dx_distort_x camera point
-slopes (Refused refusal) point = refused refusal
+abbrev pub slopes : Result Camera Refusal → Point → Differentiated
+slopes (Ok camera) point = dx_distort_x camera point
+slopes (Err refusal) point = refused refusal
 
-abbrev pub parameter_slopes : Asked → Point → Differentiated
-parameter_slopes (Of camera) point = dx_distort_params camera point
-parameter_slopes (Refused refusal) point = refused refusal
+abbrev pub parameter_slopes : Result Camera Refusal → Point → Differentiated
+parameter_slopes (Ok camera) point = dx_distort_params camera point
+parameter_slopes (Err refusal) point = refused refusal
 
 -- ---- the functions
 

@@ -16,8 +16,7 @@ ghost use Rattle.answer_bytes.specs.Answer.{distorted, undistorted, slopes, para
 ghost use Rattle.answer_bytes.specs.Answer.{undistort_bytes, dx_distort_x_bytes, dx_distort_params_bytes};
 
 use camera::{Camera, Differentiated};
-use camera_bytes::Asked;
-use lens::{Distorted, Judgement, Pixel, Point, Settled, Undistorted};
+use lens::{Pixel, Point, Refusal, Settled};
 
 // Where a Jacobian's bytes have the count of columns, and how many they are.
 const COLUMNS: usize = 8 * lens::ENTRIES;
@@ -31,12 +30,12 @@ pub struct ToldPixel {
     pub pixel: Pixel,
 }
 
-pub fn told_pixel(distorted: Distorted) -> ToldPixel
+pub fn told_pixel(distorted: Result<Pixel, Refusal>) -> ToldPixel
     ensures { (result.number ≡ (told_pixel distorted).number) × (result.pixel ≡ (told_pixel distorted).pixel) }
 {
     match distorted {
-        Distorted::At(pixel) => ToldPixel { number: 0, pixel },
-        Distorted::Refused(refusal) => ToldPixel {
+        Ok(pixel) => ToldPixel { number: 0, pixel },
+        Err(refusal) => ToldPixel {
             number: lens::number(refusal),
             pixel: Pixel(0.0, 0.0),
         },
@@ -44,23 +43,23 @@ pub fn told_pixel(distorted: Distorted) -> ToldPixel
 }
 
 // The pixel that a camera gives whose parameters are finite.
-fn distorted_by(camera: Camera, point: Point) -> Distorted
+fn distorted_by(camera: Camera, point: Point) -> Result<Pixel, Refusal>
     requires { all_finite (parameters camera) ≡ true }
     ensures { told_pixel result ≡ told_pixel (distort camera point) }
 {
     match camera::placed(camera, point.0, point.1) {
-        Judgement::Refused(refusal) => Distorted::Refused(refusal),
-        Judgement::Taken => camera::distort_judged(camera, point),
+        Err(refusal) => Err(refusal),
+        Ok(()) => camera::distort_judged(camera, point),
     }
 }
 
 // The pixel that a camera gives, or why there is no camera.
-fn distorted(model: u8, params: &[u8], point: Point) -> Distorted
+fn distorted(model: u8, params: &[u8], point: Point) -> Result<Pixel, Refusal>
     ensures { told_pixel result ≡ told_pixel (distorted (read model params.now) point) }
 {
     match camera_bytes::read_finite(model, params) {
-        Asked::Refused(refusal) => Distorted::Refused(refusal),
-        Asked::Of(camera) => distorted_by(camera, point),
+        Err(refusal) => Err(refusal),
+        Ok(camera) => distorted_by(camera, point),
     }
 }
 
@@ -92,12 +91,12 @@ struct ToldPoint {
     settled: Settled,
 }
 
-fn told_point(undistorted: Undistorted) -> ToldPoint
+fn told_point(undistorted: Result<Settled, Refusal>) -> ToldPoint
     ensures { (result.number ≡ (told undistorted).number) × (result.settled ≡ (told undistorted).settled) }
 {
     match undistorted {
-        Undistorted::At(settled) => ToldPoint { number: 0, settled },
-        Undistorted::Refused(refusal) => {
+        Ok(settled) => ToldPoint { number: 0, settled },
+        Err(refusal) => {
             let point = Point(0.0, 0.0);
             let settled = Settled {
                 point,
@@ -112,22 +111,22 @@ fn told_point(undistorted: Undistorted) -> ToldPoint
     }
 }
 
-fn undistorted_by(camera: Camera, pixel: Pixel) -> Undistorted
+fn undistorted_by(camera: Camera, pixel: Pixel) -> Result<Settled, Refusal>
     requires { all_finite (parameters camera) ≡ true }
     ensures { told result ≡ told (undistort camera pixel) }
 {
     match camera::placed(camera, pixel.0, pixel.1) {
-        Judgement::Refused(refusal) => Undistorted::Refused(refusal),
-        Judgement::Taken => camera::undistort_judged(camera, pixel),
+        Err(refusal) => Err(refusal),
+        Ok(()) => camera::undistort_judged(camera, pixel),
     }
 }
 
-fn undistorted(model: u8, params: &[u8], pixel: Pixel) -> Undistorted
+fn undistorted(model: u8, params: &[u8], pixel: Pixel) -> Result<Settled, Refusal>
     ensures { told result ≡ told (undistorted (read model params.now) pixel) }
 {
     match camera_bytes::read_finite(model, params) {
-        Asked::Refused(refusal) => Undistorted::Refused(refusal),
-        Asked::Of(camera) => undistorted_by(camera, pixel),
+        Err(refusal) => Err(refusal),
+        Ok(camera) => undistorted_by(camera, pixel),
     }
 }
 
@@ -161,8 +160,8 @@ fn slopes_by(camera: Camera, point: Point) -> Differentiated
     ensures { result ≡ dx_distort_x camera point }
 {
     match camera::placed(camera, point.0, point.1) {
-        Judgement::Refused(refusal) => camera::refused(refusal),
-        Judgement::Taken => camera::dx_distort_x_judged(camera, point),
+        Err(refusal) => camera::refused(refusal),
+        Ok(()) => camera::dx_distort_x_judged(camera, point),
     }
 }
 
@@ -170,8 +169,8 @@ fn slopes(model: u8, params: &[u8], point: Point) -> Differentiated
     ensures { result ≡ slopes (read model params.now) point }
 {
     match camera_bytes::read_finite(model, params) {
-        Asked::Refused(refusal) => camera::refused(refusal),
-        Asked::Of(camera) => slopes_by(camera, point),
+        Err(refusal) => camera::refused(refusal),
+        Ok(camera) => slopes_by(camera, point),
     }
 }
 
@@ -181,8 +180,8 @@ fn parameter_slopes_by(camera: Camera, point: Point) -> Differentiated
     ensures { result ≡ dx_distort_params camera point }
 {
     match camera::placed(camera, point.0, point.1) {
-        Judgement::Refused(refusal) => camera::refused(refusal),
-        Judgement::Taken => camera::dx_distort_params_judged(camera, point),
+        Err(refusal) => camera::refused(refusal),
+        Ok(()) => camera::dx_distort_params_judged(camera, point),
     }
 }
 
@@ -190,8 +189,8 @@ fn parameter_slopes(model: u8, params: &[u8], point: Point) -> Differentiated
     ensures { result ≡ parameter_slopes (read model params.now) point }
 {
     match camera_bytes::read_finite(model, params) {
-        Asked::Refused(refusal) => camera::refused(refusal),
-        Asked::Of(camera) => parameter_slopes_by(camera, point),
+        Err(refusal) => camera::refused(refusal),
+        Ok(camera) => parameter_slopes_by(camera, point),
     }
 }
 

@@ -13,8 +13,7 @@ use Rattle.arctan.specs.Arctangent.{tiny}
 use Rattle.arctan.specs.Series.{at_most, limit}
 use Rattle.arctan.specs.Tangent.{close, sine, cosine, Between, steep, limit_end, tangent}
 use Rattle.arctan.specs.Owed.{Leads, Answered, Tangent}
-use Rattle.arctan.specs.declared.Slope.{Slope}
-use Rattle.arctan.specs.declared.Slope.TheVariants.{Is}
+use Rattle.std.specs.Prelude.{Option, Some}
 use Rattle.arctan.proofs.Compared.{le_says, le_denies, below_tiny, from_tiny}
 use Rattle.arctan.proofs.Pieces.{unit_proper}
 use Rattle.arctan.proofs.Cases.{at_most_lem, not_at_most}
@@ -73,7 +72,7 @@ module _ (m : ℕ) (e : ℤ) where
   abbrev a : Fraction
   a = over (m * up e) (down e)
 
-  owes : (s : Bool) {t : Bool} (r : Slope) → at_most a limit ≡ t → Answered t s a r → Answered (at_most a limit) s a r
+  owes : (s : Bool) {t : Bool} (r : Option Float) → at_most a limit ≡ t → Answered t s a r → Answered (at_most a limit) s a r
   owes s r h w = subst (λ (t : Bool). Answered t s a r) (sym h) w
 
   up_to : T (le x limit_end) → a ≼ limit
@@ -101,7 +100,7 @@ module _ (m : ℕ) (e : ℤ) where
   found_steep f h k = rw (at_plus m e) at (steep_leads x f (between x tt h k))
 
 -- the answer with the angle's sign; a zero is below 2 ^ -20
-pub with_sign : (s : Bool) (m : ℕ) (e : ℤ) → lt (fin false m e) tiny ≡ false → le (fin false m e) limit_end ≡ true → Is (cond s (neg (steep (fin false m e))) (steep (fin false m e))) ≡ tangent (fin s m e)
+pub with_sign : (s : Bool) (m : ℕ) (e : ℤ) → lt (fin false m e) tiny ≡ false → le (fin false m e) limit_end ≡ true → Some (cond s (neg (steep (fin false m e))) (steep (fin false m e))) ≡ tangent (fin s m e)
 unfolding magnitude
 with_sign true zero e h k = absurd (true≢false (sym (zero_tiny false e) ∙ h))
 with_sign true (suc m) e h k = tangent_minus (fin true (suc m) e) h k (below_zero m e)
@@ -121,12 +120,12 @@ number_owed s m e f = of (lt x tiny) refl (le x limit_end) refl
     a : Fraction
     a = over (m * up e) (down e)
 
-    r : Slope
+    r : Option Float
     r = tangent (fin s m e)
 
     of : (b : Bool) → lt x tiny ≡ b → (c : Bool) → le x limit_end ≡ c → Answered (at_most a limit) s a r
-    of true h c k = owes m e s r (at_most_lem (small m e (so h))) (subst (λ (r : Slope). Answered true s a r) (tangent_tiny (fin s m e) h) (itself m e s f (so h)))
-    of false h true k = owes m e s r (at_most_lem (up_to m e (so k))) (subst (λ (r : Slope). Answered true s a r) (with_sign s m e h k) (steep_owed s m e f h k))
+    of true h c k = owes m e s r (at_most_lem (small m e (so h))) (subst (λ (r : Option Float). Answered true s a r) (tangent_tiny (fin s m e) h) (itself m e s f (so h)))
+    of false h true k = owes m e s r (at_most_lem (up_to m e (so k))) (subst (λ (r : Option Float). Answered true s a r) (with_sign s m e h k) (steep_owed s m e f h k))
     of false h false k = owes m e s r (not_at_most (past m e (so_not k))) (sym (tangent_refused (fin s m e) h k refl))
 
 pub tangent_near : (theta : Float) → T (fits binary64 theta) → Tangent theta (tangent theta)

@@ -5,8 +5,7 @@ use lib.Ieee.Scale.{finite}
 use Rattle.exact.specs.F64.{f64, magnitude, ◌⊕◌, ◌⊖◌, ◌⊘◌}
 use Rattle.arctan.specs.Arctangent.{one, counted, arctangent, tiny}
 use Rattle.arctan.specs.Tangent.{near, close, sine, cosine, solution, ratio, leaving, seam, quarter_end, half_end, unity, two_fifths_cut, three_sevenths_cut, lower, solved, steep, limit_end, tangent}
-use Rattle.arctan.specs.declared.Slope.{Slope}
-use Rattle.arctan.specs.declared.Slope.TheVariants.{Is, TooSteep}
+use Rattle.std.specs.Prelude.{Option, Some, None}
 
 pub yes_way : {X : Type 0} {b : Bool} (x y : X) → b ≡ true → cond b x y ≡ x
 yes_way x y e = ap (λ (t : Bool). cond t x y) e
@@ -57,28 +56,28 @@ module _ (theta : Float) where
   abbrev size : Float
   size = magnitude theta
 
-  abbrev turned : Slope
-  turned = Is (cond (lt theta (f64 0)) (neg (steep size)) (steep size))
+  abbrev turned : Option Float
+  turned = Some (cond (lt theta (f64 0)) (neg (steep size)) (steep size))
 
-  abbrev past : Slope
-  past = cond (finite theta) TooSteep (Is nan)
+  abbrev past : Option Float
+  past = cond (finite theta) None (Some nan)
 
-  pub tangent_tiny : lt size tiny ≡ true → Is theta ≡ tangent theta
+  pub tangent_tiny : lt size tiny ≡ true → Some theta ≡ tangent theta
   unfolding tangent
-  tangent_tiny h = sym (yes_way (Is theta) (cond (le size limit_end) turned past) h)
+  tangent_tiny h = sym (yes_way (Some theta) (cond (le size limit_end) turned past) h)
 
   later : lt size tiny ≡ false → tangent theta ≡ cond (le size limit_end) turned past
   unfolding tangent
-  later h = no_way (Is theta) (cond (le size limit_end) turned past) h
+  later h = no_way (Some theta) (cond (le size limit_end) turned past) h
 
-  pub tangent_minus : lt size tiny ≡ false → le size limit_end ≡ true → lt theta (f64 0) ≡ true → Is (neg (steep size)) ≡ tangent theta
-  tangent_minus h k s = sym (later h ∙ yes_way turned past k ∙ ap Is (yes_way (neg (steep size)) (steep size) s))
+  pub tangent_minus : lt size tiny ≡ false → le size limit_end ≡ true → lt theta (f64 0) ≡ true → Some (neg (steep size)) ≡ tangent theta
+  tangent_minus h k s = sym (later h ∙ yes_way turned past k ∙ ap Some (yes_way (neg (steep size)) (steep size) s))
 
-  pub tangent_plus : lt size tiny ≡ false → le size limit_end ≡ true → lt theta (f64 0) ≡ false → Is (steep size) ≡ tangent theta
-  tangent_plus h k s = sym (later h ∙ yes_way turned past k ∙ ap Is (no_way (neg (steep size)) (steep size) s))
+  pub tangent_plus : lt size tiny ≡ false → le size limit_end ≡ true → lt theta (f64 0) ≡ false → Some (steep size) ≡ tangent theta
+  tangent_plus h k s = sym (later h ∙ yes_way turned past k ∙ ap Some (no_way (neg (steep size)) (steep size) s))
 
-  pub tangent_refused : lt size tiny ≡ false → le size limit_end ≡ false → finite theta ≡ true → TooSteep ≡ tangent theta
-  tangent_refused h k n = sym (later h ∙ no_way turned past k ∙ yes_way TooSteep (Is nan) n)
+  pub tangent_refused : lt size tiny ≡ false → le size limit_end ≡ false → finite theta ≡ true → None ≡ tangent theta
+  tangent_refused h k n = sym (later h ∙ no_way turned past k ∙ yes_way None (Some nan) n)
 
-  pub tangent_none : lt size tiny ≡ false → le size limit_end ≡ false → finite theta ≡ false → Is nan ≡ tangent theta
-  tangent_none h k n = sym (later h ∙ no_way turned past k ∙ no_way TooSteep (Is nan) n)
+  pub tangent_none : lt size tiny ≡ false → le size limit_end ≡ false → finite theta ≡ false → Some nan ≡ tangent theta
+  tangent_none h k n = sym (later h ∙ no_way turned past k ∙ no_way None (Some nan) n)

@@ -8,8 +8,7 @@ use Rattle.exact.proofs.Fractions.{over_proper, over-≼, ≼_trans, ≼-or-≺,
 use Rattle.arctan.specs.Series.{Arctangent, ArctangentBy, Angle, AngleBy, arctangent_bound, tangent_bound, at_most, limit}
 use Rattle.arctan.specs.Owed.{slope_number, Past, PastBy, Answered, AnsweredBy, Tangent, TangentBy, falling}
 use Rattle.arctan.specs.Tangent.{steep, limit_end, tangent}
-use Rattle.arctan.specs.declared.Slope.{Slope}
-use Rattle.arctan.specs.declared.Slope.TheVariants.{Is, TooSteep}
+use Rattle.std.specs.Prelude.{Option, Some, None}
 use Rattle.arctan.specs.Arctangent.{forward, arctangent, tiny}
 use Rattle.arctan.proofs.Cases.{at_most_lem, not_at_most}
 use Rattle.arctan.proofs.Near.{arctangent_near, zero_itself, minus_turned, plus_itself, minus_infinite, zero_tiny}
@@ -62,20 +61,20 @@ pub tangent_within : (theta : Float) → T (fits binary64 theta) → Tangent the
 tangent_within = tangent_near
 
 -- A NaN gives a NaN.
-pub tangent_nan : tangent nan ≡ Is nan
+pub tangent_nan : tangent nan ≡ Some nan
 tangent_nan = tangent_near nan (unfold fits in tt)
 
 -- And so do the infinities.
-pub tangent_infinite : (s : Bool) → tangent (inf s) ≡ Is nan
+pub tangent_infinite : (s : Bool) → tangent (inf s) ≡ Some nan
 tangent_infinite s = tangent_near (inf s) (unfold fits in tt)
 
 -- A zero keeps its sign.
-pub tangent_zero : (s : Bool) (e : ℤ) → tangent (fin s 0 e) ≡ Is (fin s 0 e)
+pub tangent_zero : (s : Bool) (e : ℤ) → tangent (fin s 0 e) ≡ Some (fin s 0 e)
 unfolding magnitude
 tangent_zero s e = sym (tangent_tiny (fin s 0 e) (zero_tiny false e))
 
 -- It is refused exactly past 99/64.
-pub tangent_refused_past : (s : Bool) (m : ℕ) (e : ℤ) → T (fits binary64 (fin s m e)) → (tangent (fin s m e) ≡ TooSteep) ↔ (limit ≺ over (m * up e) (down e))
+pub tangent_refused_past : (s : Bool) (m : ℕ) (e : ℤ) → T (fits binary64 (fin s m e)) → (tangent (fin s m e) ≡ None) ↔ (limit ≺ over (m * up e) (down e))
 tangent_refused_past s m e f = (λ r. past r (≼-or-≺ a limit), λ h. owed (not_at_most h))
   where
     a : Fraction
@@ -84,13 +83,13 @@ tangent_refused_past s m e f = (λ r. past r (≼-or-≺ a limit), λ h. owed (n
     owed : {t : Bool} → at_most a limit ≡ t → Answered t s a (tangent (fin s m e))
     owed h = subst (λ (t : Bool). Answered t s a (tangent (fin s m e))) h (tangent_near (fin s m e) f)
 
-    past : tangent (fin s m e) ≡ TooSteep → (a ≼ limit) ⊎ (limit ≺ a) → limit ≺ a
-    past r (inl h) = absurd (subst (λ (x : Slope). Answered true s a x) r (owed (at_most_lem h)))
+    past : tangent (fin s m e) ≡ None → (a ≼ limit) ⊎ (limit ≺ a) → limit ≺ a
+    past r (inl h) = absurd (subst (λ (x : Option Float). Answered true s a x) r (owed (at_most_lem h)))
     past r (inr h) = h
 
-ten : (r : Slope) → slope_number r ≡ 10 → r ≡ TooSteep
-ten (Is t) h = absurd (omega arith)
-ten TooSteep h = refl
+ten : (r : Option Float) → slope_number r ≡ 10 → r ≡ None
+ten (Some t) h = absurd (omega arith)
+ten None h = refl
 
 -- So the number told is 10 exactly of an angle that is a number past 99/64 in size, and 0 of every other.
 pub tangent_number : (theta : Float) → T (fits binary64 theta) → (slope_number (tangent theta) ≡ 10) ↔ Past theta
@@ -107,7 +106,7 @@ number_odd :
     → tangent (fin (not s) m e) ≡ falling (tangent (fin s m e))
 unfolding magnitude neg
 number_odd s m e true h c k = sym (tangent_tiny (fin (not s) m e) h) ∙ ap falling (tangent_tiny (fin s m e) h)
-number_odd s m e false h true k = sym (with_sign (not s) m e h k) ∙ ap Is (both_signs s (steep (fin false m e))) ∙ ap falling (with_sign s m e h k)
+number_odd s m e false h true k = sym (with_sign (not s) m e h k) ∙ ap Some (both_signs s (steep (fin false m e))) ∙ ap falling (with_sign s m e h k)
 number_odd s m e false h false k = sym (tangent_refused (fin (not s) m e) h k refl) ∙ ap falling (tangent_refused (fin s m e) h k refl)
 
 -- Of -theta it gives the negation, a zero's too, and the same refusal.
@@ -137,9 +136,9 @@ arctangent_still nan f = arctangent_near nan f
 arctangent_still (inf s) f = angle_still (arctangent_near (inf s) f)
 arctangent_still (fin s m e) f = angle_still (arctangent_near (fin s m e) f)
 
-answered_still : (s : Bool) (a : Fraction) (r : Slope) → Answered true s a r → AnsweredBy (over 1 (2 ^ 38)) true s a r
-answered_still s a (Is t) h = record { number = h.number; side = h.side; within = within_wider (over_proper 1 (2 ^ 44) (lit≤ tt)) tighter_back h.within }
-answered_still s a TooSteep h = h
+answered_still : (s : Bool) (a : Fraction) (r : Option Float) → Answered true s a r → AnsweredBy (over 1 (2 ^ 38)) true s a r
+answered_still s a (Some t) h = record { number = h.number; side = h.side; within = within_wider (over_proper 1 (2 ^ 44) (lit≤ tt)) tighter_back h.within }
+answered_still s a None h = h
 
 tangent_still : (theta : Float) → T (fits binary64 theta) → (PastBy (over 3 2) theta → ⊥) → TangentBy (over 3 2) (over 1 (2 ^ 38)) theta (tangent theta)
 tangent_still nan f h = tangent_near nan f
@@ -149,7 +148,7 @@ tangent_still (fin s m e) f h = go (≼-or-≺ a (over 3 2))
     a : Fraction
     a = over (m * up e) (down e)
 
-    r : Slope
+    r : Option Float
     r = tangent (fin s m e)
 
     go : (a ≼ over 3 2) ⊎ (over 3 2 ≺ a) → TangentBy (over 3 2) (over 1 (2 ^ 38)) (fin s m e) r

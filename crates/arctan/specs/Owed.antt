@@ -1,17 +1,15 @@
 -- What the tangent of an angle owes, in the words of the series. Definitions only.
-use Rattle.std.specs.Prelude.{◌≡◌, ℕ, ◌*◌, Bool, true, false, T, Float}
+use Rattle.std.specs.Prelude.{◌≡◌, ℕ, ◌*◌, Bool, true, false, T, Float, Option, Some, None}
 use Rattle.std.specs.Float.{nan, inf, fin}
 use Rattle.std.specs.Float.Ieee.{neg, up, down}
 use Rattle.std.specs.Float.Ieee.Scale.{finite}
 use Rattle.exact.specs.Fraction.{Fraction, Within, over, whole, signed, exactly, ◌≼◌, ◌≺◌}
 use Rattle.arctan.specs.Series.{A, at_most, limit, tangent_bound}
-use Rattle.arctan.specs.declared.Slope.{Slope}
-use Rattle.arctan.specs.declared.Slope.TheVariants.{Is, TooSteep}
 
 -- the number told of an answer: 10 where there is none (docs/RULES.md, 5.1)
-abbrev pub slope_number : Slope → ℕ
-slope_number (Is t) = 0
-slope_number TooSteep = 10
+abbrev pub slope_number : Option Float → ℕ
+slope_number (Some t) = 0
+slope_number None = 10
 
 -- theta is a number past `end` in size
 abbrev pub PastBy : Fraction → Float → Type 0
@@ -24,9 +22,9 @@ abbrev pub Past : Float → Type 0
 Past = PastBy limit
 
 -- the slope of the negative angle
-abbrev pub falling : Slope → Slope
-falling (Is t) = Is (neg t)
-falling TooSteep = TooSteep
+abbrev pub falling : Option Float → Option Float
+falling (Some t) = Some (neg t)
+falling None = None
 
 -- t is a number that has the sign s or is zero, and A leads from its size back to within ε of the angle's, a
 pub record LeadsBy (ε : Fraction) (s : Bool) (a : Fraction) (t : Float) : Type 0 where
@@ -39,20 +37,20 @@ abbrev pub Leads : Bool → Fraction → Float → Type 0
 Leads = LeadsBy tangent_bound
 
 -- where an answer is owed there is such a t, and elsewhere a refusal
-abbrev pub AnsweredBy : Fraction → Bool → Bool → Fraction → Slope → Type 0
-AnsweredBy ε true s a (Is t) = LeadsBy ε s a t
-AnsweredBy ε true s a TooSteep = ⊥
-AnsweredBy ε false s a r = r ≡ TooSteep
+abbrev pub AnsweredBy : Fraction → Bool → Bool → Fraction → Option Float → Type 0
+AnsweredBy ε true s a (Some t) = LeadsBy ε s a t
+AnsweredBy ε true s a None = ⊥
+AnsweredBy ε false s a r = r ≡ None
 
 -- of a number up to `end` in size an answer is owed; a NaN and the infinities give NaN
-abbrev pub TangentBy : Fraction → Fraction → Float → Slope → Type 0
-TangentBy end ε nan r = r ≡ Is nan
-TangentBy end ε (inf s) r = r ≡ Is nan
+abbrev pub TangentBy : Fraction → Fraction → Float → Option Float → Type 0
+TangentBy end ε nan r = r ≡ Some nan
+TangentBy end ε (inf s) r = r ≡ Some nan
 TangentBy end ε (fin s m e) r = AnsweredBy ε (at_most (over (m * up e) (down e)) end) s (over (m * up e) (down e)) r
 
 -- by the limit and the bound
-abbrev pub Answered : Bool → Bool → Fraction → Slope → Type 0
+abbrev pub Answered : Bool → Bool → Fraction → Option Float → Type 0
 Answered = AnsweredBy tangent_bound
 
-abbrev pub Tangent : Float → Slope → Type 0
+abbrev pub Tangent : Float → Option Float → Type 0
 Tangent = TangentBy limit tangent_bound

@@ -1,6 +1,6 @@
 -- The tangent as the code works it out, so that its contract can name one answer. No other crate unfolds what stands
 -- here: they know it by its laws (proofs/Laws.antt), above all that the series leads back from it. Definitions only.
-use Rattle.std.specs.Prelude.{ℕ, zero, suc, ◌+◌, ◌-◌, ◌^◌, min, Bool, cond, ◌&&◌, T, pos, Float}
+use Rattle.std.specs.Prelude.{ℕ, zero, suc, ◌+◌, ◌-◌, ◌^◌, min, Bool, cond, ◌&&◌, T, pos, Float, Option, Some, None}
 use Rattle.std.specs.Float.{nan, binary64}
 use Rattle.std.specs.Float.Ieee.{neg, lt, le, of_int}
 use Rattle.std.specs.Float.Ieee.Scale.{finite}
@@ -9,8 +9,6 @@ use Rattle.exact.specs.Fraction.{over, whole, exactly, ◌≼◌}
 use Rattle.arctan.specs.Series.{limit}
 use Rattle.arctan.specs.Arctangent.{one, tiny, counted, arctangent}
 use Rattle.arctan.specs.Whole.{product, series}
-use Rattle.arctan.specs.declared.Slope.{Slope}
-use Rattle.arctan.specs.declared.Slope.TheVariants.{Is, TooSteep}
 
 -- how far the arctangent of a guess may be off: 2 ^ -46
 abbrev pub near : Float
@@ -119,9 +117,9 @@ abbrev pub limit_end : Float
 limit_end = f64 0x3ff8_c000_0000_0000
 
 -- a theta below 2 ^ -20 in size is its own tangent, as it is its own arctangent
-unfoldable pub tangent : Float → Slope
+unfoldable pub tangent : Float → Option Float
 tangent theta =
     let size = magnitude theta in
-    cond (lt size tiny) (Is theta)
-    (cond (le size limit_end) (Is (cond (lt theta (f64 0)) (neg (steep size)) (steep size)))
-    (cond (finite theta) TooSteep (Is nan)))
+    cond (lt size tiny) (Some theta)
+    (cond (le size limit_end) (Some (cond (lt theta (f64 0)) (neg (steep size)) (steep size)))
+    (cond (finite theta) None (Some nan)))

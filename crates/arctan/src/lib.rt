@@ -181,13 +181,6 @@ pub fn arctangent(x: f64) -> f64
     x
 }
 
-// What the tangent of an angle is: a number, or nothing where the angle is past the limit.
-#[derive(Clone, Copy)]
-pub enum Slope {
-    Is(f64),
-    TooSteep,
-}
-
 // How far the arctangent of a guess may be off: 2^-46.
 const NEAR: f64 = 1.4210854715202004e-14;
 
@@ -342,25 +335,25 @@ fn steep(theta: f64) -> f64
 // The largest angle that has a tangent here.
 const LIMIT: f64 = 1.546875;
 
-// The tangent of theta, for an angle of at most the limit in size; a larger one is too steep, refusal 10. A NaN and the
-// infinities give a NaN, and a zero itself.
-pub fn tangent(theta: f64) -> Slope
+// The tangent of theta, for an angle of at most the limit in size; none of a larger one, which is too steep, refusal 10.
+// A NaN and the infinities give a NaN, and a zero itself.
+pub fn tangent(theta: f64) -> Option<f64>
     ensures is { result ≡ tangent theta }
     ensures near { Tangent theta result }
 {
     let size = exact::magnitude(theta);
     if size < 9.5367431640625e-7 {
-        return Slope::Is(theta);
+        return Some(theta);
     }
     if size <= LIMIT {
         let t = steep(size);
         if theta < 0.0 {
-            return Slope::Is(-t);
+            return Some(-t);
         }
-        return Slope::Is(t);
+        return Some(t);
     }
     if exact::is_finite(theta) {
-        return Slope::TooSteep;
+        return None;
     }
-    Slope::Is(0.0 / 0.0)
+    Some(0.0 / 0.0)
 }

@@ -1,5 +1,6 @@
 -- Which numbers are finite when others are. Assumes nothing.
 use mathlib.Core.Path.{◌≡◌, refl}
+use Rattle.core.specs.declared.result.Result.TheVariants.{Ok, Err}
 use mathlib.Core.Bool.{Bool, true, false, cond, ◌&&◌, ◌||◌, false≢true}
 use Prim.Native.Nat.{ℕ, ◌-◌}
 use native.Mathlib.Omega.{arith}
@@ -8,7 +9,6 @@ use lib.Ieee.{Float, nan, inf, fin, lt, neg, add, sub, div}
 use lib.Ieee.Scale.{finite}
 use Rattle.exact.specs.F64.{◌⊖◌, ◌⊘◌}
 use Rattle.lens.specs.Finite.{all_finite}
-use Rattle.lens.specs.declared.Judgement.TheVariants.{Taken, Refused}
 use Rattle.lens.specs.declared.Point.{Point}
 use Rattle.lens.specs.declared.Refusal.TheVariants.{IncrementNotPositive, AnswerNotFinite}
 use Rattle.region.specs.Region.{four, increments, flat, wrong}
@@ -113,12 +113,12 @@ region_finite region width height p q =
       bottom = minuend region.bottom region.top y;
     }
 
-passed : (f p q : Bool) → cond f (Refused IncrementNotPositive) (cond (p && q) Taken (Refused AnswerNotFinite)) ≡ Taken → (p ≡ true) × (q ≡ true)
+passed : (f p q : Bool) → cond f (Err IncrementNotPositive) (cond (p && q) (Ok tt) (Err AnswerNotFinite)) ≡ Ok tt → (p ≡ true) × (q ≡ true)
 passed true p q h = let z : ◌≡◌ {A = ℕ} 0 1 = cc in absurd (omega arith)
 passed false true true h = (refl, refl)
 passed false true false h = let z : ◌≡◌ {A = ℕ} 0 1 = cc in absurd (omega arith)
 passed false false q h = let z : ◌≡◌ {A = ℕ} 0 1 = cc in absurd (omega arith)
 
-pub taken_finite : (by : Increments) → wrong by ≡ Taken → (finite by.0 ≡ true) × (finite by.1 ≡ true)
+pub taken_finite : (by : Increments) → wrong by ≡ Ok tt → (finite by.0 ≡ true) × (finite by.1 ≡ true)
 unfolding wrong
 taken_finite by h = passed (flat by.0 || flat by.1) (finite by.0) (finite by.1) h

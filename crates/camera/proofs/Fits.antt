@@ -1,11 +1,11 @@
 -- What undistort finds is rounded to f64, whatever its camera and pixel are. Assumes nothing.
 use mathlib.Core.Bool.{Bool, true, false, cond, ◌&&◌}
+use Rattle.core.specs.declared.result.Result.TheVariants.{Ok, Err}
 use lib.Ieee.Scale.{finite}
 use Rattle.arctan.specs.Tangent.{tangent}
 use Rattle.lens.specs.declared.Pixel.{Pixel}
 use Rattle.lens.specs.declared.Refusal.TheVariants.{AnswerNotFinite}
-use Rattle.lens.specs.declared.Undistorted.{Undistorted}
-use Rattle.lens.specs.declared.Undistorted.TheVariants.{At, Refused}
+use Rattle.lens.specs.Undistorted.{Undistorted}
 use Rattle.affine.proofs.Fits as affine
 use Rattle.enhanced_unified.proofs.Fits as eucm
 use Rattle.kannala_brandt.proofs.Fits as kb
@@ -24,10 +24,10 @@ point_fits (BrownConrady p) pixel = bc.undistort_fits p pixel
 point_fits (ThinPrism p) pixel = bc12.undistort_fits p pixel
 
 still_fits : (u : Undistorted) → PointFits u → PointFits (finite_point u)
-still_fits (Refused r) h = tt
-still_fits (At settled) h = go (finite settled.point.0 && finite settled.point.1)
+still_fits (Err r) h = tt
+still_fits (Ok settled) h = go (finite settled.point.0 && finite settled.point.1)
   where
-    go : (b : Bool) → PointFits (cond b (At settled) (Refused AnswerNotFinite))
+    go : (b : Bool) → PointFits (cond b (Ok settled) (Err AnswerNotFinite))
     go true = h
     go false = tt
 

@@ -1,5 +1,6 @@
 -- What is given, tested at once, and a pixel that is worked out before: the parts of `judged` and of `distort`. Assumes nothing.
 use mathlib.Core.Path.{◌≡◌, refl, sym, ap, ◌∙◌, subst}
+use Rattle.core.specs.declared.result.Result.TheVariants.{Ok, Err}
 use mathlib.Core.Bool.{Bool, true, false, cond, ◌&&◌}
 use mathlib.Core.List.{List, [], ◌∷◌, ◌++◌}
 use lib.Dec.{T}
@@ -13,9 +14,7 @@ use Rattle.exact.proofs.Operations.{sum_finite, product_finite}
 use Rattle.lens.specs.Distorted.{ToldPixel, told_pixel, finite_pixel}
 use Rattle.lens.specs.Finite.{all_finite}
 use Rattle.lens.specs.Judgement.{decided}
-use Rattle.lens.specs.declared.Distorted.{Distorted}
-use Rattle.lens.specs.declared.Distorted.TheVariants as pixels
-use Rattle.lens.specs.declared.Judgement.TheVariants as judgement
+use Rattle.lens.specs.Distorted.{Distorted}
 use Rattle.lens.specs.declared.Pixel.{Pixel}
 use Rattle.lens.specs.declared.Point.{Point}
 use Rattle.lens.specs.declared.Refusal.TheVariants.{NotFinite, ZeroFocalLength}
@@ -48,35 +47,35 @@ module _ (camera : Camera) (x y : Float) where
   pub says : {s : Float} {b : Bool} → s ≡ mark (all_finite (parameters camera) && (finite x && finite y)) → eq s s ≡ b → (all_finite (parameters camera) && (finite x && finite y)) ≡ b
   says e t = sym (ap (λ (d : Float). eq d d) e ∙ mark_itself (all_finite (parameters camera) && (finite x && finite y))) ∙ t
 
-  pub judged_zero : (all_finite (parameters camera) && (finite x && finite y)) ≡ true → zero_focal camera ≡ true → judged camera x y ≡ judgement.Refused ZeroFocalLength
+  pub judged_zero : (all_finite (parameters camera) && (finite x && finite y)) ≡ true → zero_focal camera ≡ true → judged camera x y ≡ Err ZeroFocalLength
   unfolding judged
   judged_zero g z = rw (g, z) refl
 
-  pub judged_taken : (all_finite (parameters camera) && (finite x && finite y)) ≡ true → zero_focal camera ≡ false → judged camera x y ≡ judgement.Taken
+  pub judged_taken : (all_finite (parameters camera) && (finite x && finite y)) ≡ true → zero_focal camera ≡ false → judged camera x y ≡ Ok tt
   unfolding judged
   judged_taken g z = rw (g, z) refl
 
-  pub judged_refused : (all_finite (parameters camera) && (finite x && finite y)) ≡ false → judged camera x y ≡ judgement.Refused NotFinite
+  pub judged_refused : (all_finite (parameters camera) && (finite x && finite y)) ≡ false → judged camera x y ≡ Err NotFinite
   unfolding judged
   judged_refused g = rw g refl
 
 -- ---- distort
 
 abbrev by_tests : Bool → Bool → Pixel → Distorted
-by_tests g z pixel = cond g (cond z (pixels.Refused ZeroFocalLength) (finite_pixel pixel)) (pixels.Refused NotFinite)
+by_tests g z pixel = cond g (cond z (Err ZeroFocalLength) (finite_pixel pixel)) (Err NotFinite)
 
-pub zero_told : {g z : Bool} (pixel : Pixel) → g ≡ true → z ≡ true → told_pixel (pixels.Refused ZeroFocalLength) ≡ told_pixel (by_tests g z pixel)
+pub zero_told : {g z : Bool} (pixel : Pixel) → g ≡ true → z ≡ true → told_pixel (Err ZeroFocalLength) ≡ told_pixel (by_tests g z pixel)
 zero_told pixel p q = rw (p, q) refl
 
 pub finite_told : {g z : Bool} (pixel : Pixel) {t : ToldPixel} → t ≡ told_pixel (finite_pixel pixel) → g ≡ true → z ≡ false → t ≡ told_pixel (by_tests g z pixel)
 finite_told pixel e p q = rw (p, q) e
 
-pub refused_told : {g : Bool} (z : Bool) (pixel : Pixel) → g ≡ false → told_pixel (pixels.Refused NotFinite) ≡ told_pixel (by_tests g z pixel)
+pub refused_told : {g : Bool} (z : Bool) (pixel : Pixel) → g ≡ false → told_pixel (Err NotFinite) ≡ told_pixel (by_tests g z pixel)
 refused_told z pixel p = rw p refl
 
 -- a model's pixel, told by the tests
 module _ (camera : Camera) (point : Point) where
-  tests : (g z : Bool) → by_tests g z (pixel_of camera point) ≡ decided (cond g (cond z (judgement.Refused ZeroFocalLength) judgement.Taken) (judgement.Refused NotFinite)) pixels.Refused (finite_pixel (pixel_of camera point))
+  tests : (g z : Bool) → by_tests g z (pixel_of camera point) ≡ decided (cond g (cond z (Err ZeroFocalLength) (Ok tt)) (Err NotFinite)) Err (finite_pixel (pixel_of camera point))
   tests true true = refl
   tests true false = refl
   tests false z = refl
@@ -112,5 +111,5 @@ module _ (p : AffineParams) (point : Point) where
       let down = parts point.1 p.fy p.cy (and_r (finite u) (finite v) both) in
       rw (across.1.0, down.1.0, across.1.1, down.1.1, across.0, down.0) refl
 
-pub found_told : {pixel : Pixel} {b : Bool} → b ≡ (finite pixel.0 && finite pixel.1) → b ≡ true → told_pixel (pixels.At pixel) ≡ told_pixel (finite_pixel pixel)
+pub found_told : {pixel : Pixel} {b : Bool} → b ≡ (finite pixel.0 && finite pixel.1) → b ≡ true → told_pixel (Ok pixel) ≡ told_pixel (finite_pixel pixel)
 found_told {pixel} e t = rw (sym e ∙ t) refl

@@ -1,11 +1,11 @@
 -- A camera whose parameters are known to be finite, or not to be. Assumes nothing.
 use mathlib.Core.Path.{◌≡◌, refl, sym, ap, ◌∙◌}
+use Rattle.core.specs.declared.result.Result.TheVariants.{Err}
 use mathlib.Core.Bool.{Bool, true, false, ◌&&◌}
 use mathlib.Core.List.{List, [], ◌∷◌, ◌++◌}
 use lib.Ieee.{Float}
 use lib.Ieee.Scale.{finite}
 use Rattle.lens.specs.Finite.{all_finite}
-use Rattle.lens.specs.declared.Judgement.TheVariants.{Refused}
 use Rattle.lens.specs.declared.Refusal.TheVariants.{NotFinite}
 use Rattle.thin_prism.specs.declared.ThinPrismParams.{ThinPrismParams}
 use Rattle.camera.specs.Camera.{parameters, placed, judged}
@@ -17,7 +17,7 @@ module _ (camera : Camera) (x y : Float) where
   unfolding judged
   judged_finite e = rw e refl
 
-  pub judged_not : all_finite (parameters camera) ≡ false → judged camera x y ≡ Refused NotFinite
+  pub judged_not : all_finite (parameters camera) ≡ false → judged camera x y ≡ Err NotFinite
   unfolding judged
   judged_not e = rw e refl
 

@@ -1,6 +1,7 @@
 -- What a caller may rely on, of the definitions of specs/ and of the contracts of src/; ByHand and Reached have more.
 -- Assumes nothing.
 use mathlib.Core.Path.{◌≡◌, refl, sym, ap, ◌∙◌}
+use Rattle.core.specs.declared.result.Result.TheVariants.{Ok, Err}
 use mathlib.Core.Bool.{true, false, ◌&&◌}
 use mathlib.Core.Logic.{◌↔◌, ◌⊎◌}
 use Prim.Native.Nat.{ℕ, suc, ◌≤◌}
@@ -25,8 +26,7 @@ use Rattle.lens.specs.declared.Point.{Point}
 use Rattle.lens.specs.declared.Refusal.{Refusal}
 use Rattle.lens.specs.declared.Refusal.TheVariants.{AnswerNotFinite}
 use Rattle.lens.specs.declared.Settled.{Settled}
-use Rattle.lens.specs.declared.Undistorted.{Undistorted}
-use Rattle.lens.specs.declared.Undistorted.TheVariants as found
+use Rattle.lens.specs.Undistorted.{Undistorted}
 use Rattle.lens.proofs.Laws.{told_pixel_one_to_one, told_one_to_one}
 use Rattle.affine.specs.declared.AffineParams.{AffineParams}
 use Rattle.enhanced_unified.specs.EnhancedUnified as eucm
@@ -49,8 +49,6 @@ use Rattle.lens.specs.Distorted.{told_pixel, finite_pixel}
 use Rattle.camera.specs.declared.Camera.{Camera}
 use Rattle.camera.specs.declared.Camera.TheVariants.{Affine, EnhancedUnified, KannalaBrandt, BrownConrady}
 use Rattle.camera.specs.declared.Camera.TheVariants.{ThinPrism}
-use Rattle.lens.specs.declared.Judgement.TheVariants as Judged
-use Rattle.lens.specs.declared.Distorted.TheVariants.{At, Refused}
 use Rattle.camera.proofs.ByHand.{answer}
 use Rattle.camera.proofs.Models.{each_model}
 use Rattle.camera.proofs.Past.{steep_past, first_is_10, first_is_16}
@@ -193,8 +191,8 @@ pub distort_number :
 unfolding judged
 distort_number camera point =
     let pixel = pixel_of camera point in
-    let answer = behind pixel_number (At pixel) (Refused AnswerNotFinite) refl refl (finite pixel.0 && finite pixel.1) in
-    before pixel_number Refused (finite_pixel pixel) (λ r. refl) answer (given camera point.0 point.1)
+    let answer = behind pixel_number (Ok pixel) (Err AnswerNotFinite) refl refl (finite pixel.0 && finite pixel.1) in
+    before pixel_number Err (finite_pixel pixel) (λ r. refl) answer (given camera point.0 point.1)
     (zero_focal camera)
 
 -- Undistort gives 4, 5, 10, 16 or 11 exactly when the table says so, tried in this order.
@@ -203,13 +201,13 @@ pub undistort_number :
 unfolding judged
 undistort_number camera pixel =
     let answer = answer_number (point_of camera pixel) (point_before camera pixel) (too_steep camera pixel) (mirrored camera pixel) (agree camera pixel) in
-    before point_number found.Refused (finite_point (point_of camera pixel)) (λ r. refl) answer
+    before point_number Err (finite_point (point_of camera pixel)) (λ r. refl) answer
     (given camera pixel.0 pixel.1) (zero_focal camera)
 
 -- What a model refuses by itself, before 11 is asked, it refuses with 10 or 16.
 pub model_refuses :
     (camera : Camera) (pixel : Pixel) (r : Refusal)
-    → point_of camera pixel ≡ found.Refused r → (number r ≡ 10) ⊎ (number r ≡ 16)
+    → point_of camera pixel ≡ Err r → (number r ≡ 10) ⊎ (number r ≡ 16)
 model_refuses = own_refusal
 
 -- where kb's Newton ends, for a pixel
@@ -266,7 +264,7 @@ elsewhere_as_before camera pixel =
 -- A point that undistort of eucm answers lies on the pixel's side of the centre, zeros aside.
 pub same_side :
     (p : EnhancedUnifiedParams) (pixel : Pixel) (s : Settled)
-    → undistort (EnhancedUnified p) pixel ≡ found.At s → eucm-laws.SameSide p pixel s.point
+    → undistort (EnhancedUnified p) pixel ≡ Ok s → eucm-laws.SameSide p pixel s.point
 same_side p pixel s h =
     eucm-laws.same_side p pixel s
     (found_own s (judged (EnhancedUnified p) pixel.0 pixel.1) (point_of (EnhancedUnified p) pixel) h)
@@ -287,7 +285,7 @@ dx_distort_params_number camera point = jacobian_number camera point (parameter_
 -- A distort that tells 0 is the pixel of the model's formula.
 pub distort_answered :
     (camera : Camera) (point : Point) → (told_pixel (distort camera point)).number ≡ 0
-    → distort camera point ≡ At (pixel_of camera point)
+    → distort camera point ≡ Ok (pixel_of camera point)
 distort_answered camera point =
     let pixel = pixel_of camera point in
     distort_own (judged camera point.0 point.1) (finite pixel.0 && finite pixel.1) pixel
@@ -365,13 +363,13 @@ updates_limit camera pixel = kept (judged camera pixel.0 pixel.1) (point_of came
 -- The same of a judged camera and pixel.
 pub updates_limit_judged :
     (camera : Camera) (pixel : Pixel) → (told (undistort_judged camera pixel)).settled.updates ≤ limit camera
-updates_limit_judged camera pixel = kept Judged.Taken (point_of camera pixel) (most camera pixel)
+updates_limit_judged camera pixel = kept (Ok tt) (point_of camera pixel) (most camera pixel)
 
 -- Affine and eucm always settle: an answer of theirs has 0 updates and the flag yes.
 pub settled :
     (pixel : Pixel) (s : Settled) (a : AffineParams) (e : EnhancedUnifiedParams)
-    → (undistort (Affine a) pixel ≡ found.At s → (s.updates ≡ 0) × (s.flag ≡ true))
-    × (undistort (EnhancedUnified e) pixel ≡ found.At s → (s.updates ≡ 0) × (s.flag ≡ true))
+    → (undistort (Affine a) pixel ≡ Ok s → (s.updates ≡ 0) × (s.flag ≡ true))
+    × (undistort (EnhancedUnified e) pixel ≡ Ok s → (s.updates ≡ 0) × (s.flag ≡ true))
 settled pixel s a e = (
   λ h. let f = found_own s (judged (Affine a) pixel.0 pixel.1) (point_of (Affine a) pixel) h in
       let t : Undistorted → Settled = λ u. (told u).settled in (sym (ap (λ (u : Undistorted). (t u).updates) f), sym (ap (λ (u : Undistorted). (t u).flag) f)),

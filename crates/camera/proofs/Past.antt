@@ -1,5 +1,7 @@
 -- An angle has no tangent exactly if it is finite and its size is past arctan's limit. Assumes nothing.
 use mathlib.Core.Path.{◌≡◌, refl, sym, ap, ◌∙◌}
+use Rattle.core.specs.declared.option.Option.{Option}
+use Rattle.core.specs.declared.option.Option.TheVariants.{Some, None}
 use mathlib.Core.Logic.{◌↔◌}
 use mathlib.Core.Bool.{Bool, true, false, not, ◌&&◌, false≢true}
 use mathlib.Core.List.{[], ◌∷◌}
@@ -11,8 +13,6 @@ use Rattle.exact.specs.F64.{magnitude}
 use Rattle.exact.specs.Fraction.{exactly, ◌≺◌}
 use Rattle.arctan.specs.Series as series
 use Rattle.arctan.specs.Tangent.{tangent}
-use Rattle.arctan.specs.declared.Slope.{Slope}
-use Rattle.arctan.specs.declared.Slope.TheVariants.{Is, TooSteep}
 use Rattle.arctan.proofs.Laws.{tangent_nan, tangent_infinite, tangent_refused_past}
 use Rattle.lens.specs.Fits.{Fit}
 use Rattle.lens.specs.Rows.{◌when◌, first}
@@ -22,11 +22,11 @@ use Rattle.camera.specs.Rows.{steep}
 abbrev pub Past : Float → Type 0
 Past theta = T (finite theta) × (series.limit ≺ exactly (magnitude theta))
 
-steep_is : (slope : Slope) → steep slope ≡ true → slope ≡ TooSteep
-steep_is TooSteep e = refl
-steep_is (Is t) e = absurd (false≢true e)
+steep_is : (slope : Option Float) → steep slope ≡ true → slope ≡ None
+steep_is None e = refl
+steep_is (Some t) e = absurd (false≢true e)
 
-none : (theta : Float) → tangent theta ≡ Is nan → steep (tangent theta) ≡ true → ⊥
+none : (theta : Float) → tangent theta ≡ Some nan → steep (tangent theta) ≡ true → ⊥
 none theta e h = false≢true (sym (ap steep e) ∙ h)
 
 pub steep_past : (theta : Float) → Fit theta → (steep (tangent theta) ≡ true) ↔ Past theta

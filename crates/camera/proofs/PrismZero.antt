@@ -1,5 +1,6 @@
 -- bc12 with a prism of zeros is judged as bc is, before and behind, and its model's answers are alike. Assumes nothing.
 use mathlib.Core.Path.{◌≡◌, refl, sym, ap, ap₂, ◌∙◌, subst}
+use Rattle.core.specs.declared.result.Result.TheVariants.{Ok, Err}
 use mathlib.Core.Bool.{Bool, true, false, cond, ◌&&◌, true≢false, false≢true}
 use mathlib.Core.List.{List, [], ◌∷◌}
 use lib.Dec.{T}
@@ -14,14 +15,11 @@ use Rattle.lens.specs.Distorted.{told_pixel, finite_pixel}
 use Rattle.lens.specs.Finite.{all_finite}
 use Rattle.lens.specs.Judgement.{decided}
 use Rattle.lens.specs.Undistorted.{told}
-use Rattle.lens.specs.declared.Distorted.TheVariants.{At, Refused}
 use Rattle.lens.specs.declared.Jacobian.{Jacobian}
-use Rattle.lens.specs.declared.Judgement.{Judgement}
-use Rattle.lens.specs.declared.Judgement.TheVariants as Judged
+use Rattle.lens.specs.Judgement.{Judgement}
 use Rattle.lens.specs.declared.Pixel.{Pixel}
 use Rattle.lens.specs.declared.Refusal.TheVariants.{NotFinite, ZeroFocalLength, AnswerNotFinite}
 use Rattle.lens.specs.declared.Settled.{Settled}
-use Rattle.lens.specs.declared.Undistorted.TheVariants as found
 use Rattle.thin_prism.specs.ThinPrism.{NoPrism}
 use Rattle.thin_prism.specs.declared.ThinPrismParams.{ThinPrismParams}
 use Rattle.camera.specs.Camera.{parameters, zero_focal, judged, finite_point, refused, finite_jacobian}
@@ -54,33 +52,33 @@ module _ (p : ThinPrismParams) (zs : NoPrism p) where
 -- ---- behind
 
 pub distort_alike :
-    (j : Judgement) (a b : Pixel) → AlikePixels a b → pixel_number (decided j Refused (finite_pixel a)) ≡ 0
-    → (pixel_number (decided j Refused (finite_pixel b)) ≡ 0)
-    × AlikePixels (told_pixel (decided j Refused (finite_pixel a))).pixel (told_pixel (decided j Refused (finite_pixel b))).pixel
-distort_alike (Judged.Refused r) a b h e = absurd (none r e)
-distort_alike Judged.Taken a b h e =
+    (j : Judgement) (a b : Pixel) → AlikePixels a b → pixel_number (decided j Err (finite_pixel a)) ≡ 0
+    → (pixel_number (decided j Err (finite_pixel b)) ≡ 0)
+    × AlikePixels (told_pixel (decided j Err (finite_pixel a))).pixel (told_pixel (decided j Err (finite_pixel b))).pixel
+distort_alike (Err r) a b h e = absurd (none r e)
+distort_alike (Ok _) a b h e =
     go (finite a.0 && finite a.1) (finite b.0 && finite b.1) (ap₂ ◌&&◌ (≐-finite h.u) (≐-finite h.v)) e
   where
     go :
-        (f g : Bool) → f ≡ g → pixel_number (cond f (At a) (Refused AnswerNotFinite)) ≡ 0
-        → (pixel_number (cond g (At b) (Refused AnswerNotFinite)) ≡ 0)
-        × AlikePixels (told_pixel (cond f (At a) (Refused AnswerNotFinite))).pixel (told_pixel (cond g (At b) (Refused AnswerNotFinite))).pixel
+        (f g : Bool) → f ≡ g → pixel_number (cond f (Ok a) (Err AnswerNotFinite)) ≡ 0
+        → (pixel_number (cond g (Ok b) (Err AnswerNotFinite)) ≡ 0)
+        × AlikePixels (told_pixel (cond f (Ok a) (Err AnswerNotFinite))).pixel (told_pixel (cond g (Ok b) (Err AnswerNotFinite))).pixel
     go true true i e = (refl, h)
     go true false i e = absurd (true≢false i)
     go false g i e = absurd (none AnswerNotFinite e)
 
 pub undistort_alike :
-    (j : Judgement) (a b : Settled) → (T (finite a.point.0) → AlikeSettled a b) → point_number (decided j found.Refused (finite_point (found.At a))) ≡ 0
-    → (point_number (decided j found.Refused (finite_point (found.At b))) ≡ 0)
-    × AlikeSettled (told (decided j found.Refused (finite_point (found.At a)))).settled (told (decided j found.Refused (finite_point (found.At b)))).settled
-undistort_alike (Judged.Refused r) a b h e = absurd (none r e)
-undistort_alike Judged.Taken a b h e = go (finite a.point.0) (finite a.point.1) refl refl e
+    (j : Judgement) (a b : Settled) → (T (finite a.point.0) → AlikeSettled a b) → point_number (decided j Err (finite_point (Ok a))) ≡ 0
+    → (point_number (decided j Err (finite_point (Ok b))) ≡ 0)
+    × AlikeSettled (told (decided j Err (finite_point (Ok a)))).settled (told (decided j Err (finite_point (Ok b)))).settled
+undistort_alike (Err r) a b h e = absurd (none r e)
+undistort_alike (Ok _) a b h e = go (finite a.point.0) (finite a.point.1) refl refl e
   where
     go :
         (f g : Bool) → finite a.point.0 ≡ f → finite a.point.1 ≡ g
-        → point_number (cond (f && g) (found.At a) (found.Refused AnswerNotFinite)) ≡ 0
-        → (point_number (finite_point (found.At b)) ≡ 0)
-        × AlikeSettled (told (cond (f && g) (found.At a) (found.Refused AnswerNotFinite))).settled (told (finite_point (found.At b))).settled
+        → point_number (cond (f && g) (Ok a) (Err AnswerNotFinite)) ≡ 0
+        → (point_number (finite_point (Ok b)) ≡ 0)
+        × AlikeSettled (told (cond (f && g) (Ok a) (Err AnswerNotFinite))).settled (told (finite_point (Ok b))).settled
     go true true i k e =
         let s = h (subst T (sym i) tt) in
         rw (sym (≐-finite s.point.x) ∙ i, sym (≐-finite s.point.y) ∙ k) (refl, s)
@@ -98,8 +96,8 @@ pub jacobian_alike :
     (j : Judgement) (a b : Jacobian) → AlikeJacobians a b → slope_number (decided j refused (finite_jacobian a)) ≡ 0
     → (slope_number (decided j refused (finite_jacobian b)) ≡ 0)
     × AlikeJacobians (decided j refused (finite_jacobian a)).jacobian (decided j refused (finite_jacobian b)).jacobian
-jacobian_alike (Judged.Refused r) a b h e = absurd (none r e)
-jacobian_alike Judged.Taken a b h e = go (all_finite a.entries) (all_finite b.entries) (all_alike_finite a.entries b.entries h.entries) e
+jacobian_alike (Err r) a b h e = absurd (none r e)
+jacobian_alike (Ok _) a b h e = go (all_finite a.entries) (all_finite b.entries) (all_alike_finite a.entries b.entries h.entries) e
   where
     go :
         (f g : Bool) → f ≡ g → slope_number (cond f record { number = 0; jacobian = a } (refused AnswerNotFinite)) ≡ 0
@@ -124,6 +122,6 @@ focal_finite p x y a e =
     let fx = and_both (finite p.bc.fx) _ all in
     (subst T (sym fx.0) tt, subst T (sym (and_both (finite p.bc.fy) _ fx.1).0) tt)
   where
-    go : (g z : Bool) → slope_number (decided (cond g (cond z (Judged.Refused ZeroFocalLength) Judged.Taken) (Judged.Refused NotFinite)) refused (finite_jacobian a)) ≡ 0 → g ≡ true
+    go : (g z : Bool) → slope_number (decided (cond g (cond z (Err ZeroFocalLength) (Ok tt)) (Err NotFinite)) refused (finite_jacobian a)) ≡ 0 → g ≡ true
     go true z e = refl
     go false z e = absurd (none NotFinite e)

@@ -9,7 +9,7 @@ use Rattle.lens.specs.Constants.{zeros, ones, int}
 use Rattle.lens.specs.Finite.{all_finite}
 use Rattle.lens.specs.Undistorted.{told}
 use Rattle.lens.specs.declared.Point.{Point}
-use Rattle.lens.specs.declared.Undistorted.{Undistorted}
+use Rattle.lens.specs.Undistorted.{Undistorted}
 use Rattle.affine.specs.Affine as affine
 use Rattle.enhanced_unified.specs.EnhancedUnified as eucm
 use Rattle.brown_conrady.specs.BrownConrady as bc

@@ -1,5 +1,7 @@
 -- A pixel whose kb angle is past the tangent's limit: 1 1 0 0 with no distortion, and (4, 0). Newton starts at the root of 4, is at 4 after one update, and the next step is 0. Assumes nothing.
 use mathlib.Core.Path.{◌≡◌, refl, ap, ◌∙◌}
+use Rattle.core.specs.declared.result.Result.TheVariants.{Err}
+use Rattle.core.specs.declared.option.Option.TheVariants.{None}
 use mathlib.Core.Bool.{true, false}
 use Prim.Native.Nat.{◌*◌, ◌^◌}
 use native.Mathlib.Nat.{mul-pos}
@@ -13,14 +15,12 @@ use Rattle.exact.specs.Fraction.{over}
 use Rattle.root.specs.Root.{root}
 use Rattle.root.proofs.Laws.{root_exact}
 use Rattle.arctan.specs.Tangent.{tangent}
-use Rattle.arctan.specs.declared.Slope.TheVariants.{TooSteep}
 use Rattle.arctan.proofs.Laws.{tangent_refused_past}
 use Rattle.lens.specs.ByHand.{uv}
 use Rattle.lens.specs.Constants.{eps, int}
 use Rattle.lens.specs.Passes.{passes}
 use Rattle.lens.specs.declared.Pixel.{Pixel}
 use Rattle.lens.specs.declared.Refusal.TheVariants.{AngleTooLarge}
-use Rattle.lens.specs.declared.Undistorted.TheVariants.{Refused}
 use Rattle.kannala_brandt.specs.KannalaBrandt.{camera, powers, polynomial, d_thd_wtr_th, step_from, pass, limit, ended, newton, rth2, undistort}
 use Rattle.kannala_brandt.specs.declared.KannalaBrandtParams.{KannalaBrandtParams}
 use Rattle.kannala_brandt.specs.declared.Reached.{Reached}
@@ -57,7 +57,7 @@ newton_ends : (newton lens (root (rth2 lens pixel))).th ≡ int 4
 unfolding newton
 newton_ends = ap (λ (q : Float). (newton lens (root q)).th) radius ∙ ap (λ (r : Float). (newton lens r).th) root_of_sixteen ∙ ap (λ (th : Float). (from_start th).th) root_of_four ∙ ap (λ (at : Reached). at.th) two_passes
 
-four_steep : tangent (int 4) ≡ TooSteep
+four_steep : tangent (int 4) ≡ None
 unfolding of_int over
 four_steep = (tangent_refused_past false _ _ (of_int-fits binary64 (pos 4))).1 record { holds = lit≤ tt }
 
@@ -65,5 +65,5 @@ off_axis : le (rth2 lens pixel) eps ≡ false
 unfolding le add sub mul div of_bits of_int
 off_axis = refl
 
-pub refused : undistort tangent lens pixel ≡ Refused AngleTooLarge
+pub refused : undistort tangent lens pixel ≡ Err AngleTooLarge
 refused = (refused_exactly lens pixel tangent AngleTooLarge).1 (refl, off_axis, ap tangent newton_ends ∙ four_steep)

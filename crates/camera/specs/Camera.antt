@@ -1,6 +1,6 @@
 -- The four operations of a camera: what refuses a call beforehand, the model's own definition, and what refuses its
 -- answer. Definitions only.
-use Rattle.std.specs.Prelude.{Bool, cond, ◌&&◌, ◌||◌, List, [], ◌∷◌, ◌++◌, ℕ, Float}
+use Rattle.std.specs.Prelude.{Bool, cond, ◌&&◌, ◌||◌, List, [], ◌∷◌, ◌++◌, ℕ, Float, Ok, Err}
 use Rattle.std.specs.Float.Ieee.Scale.{finite}
 use Rattle.exact.specs.F64.{is_zero}
 use Rattle.arctan.specs.Arctangent.{arctangent}
@@ -15,8 +15,7 @@ use Rattle.lens.specs.declared.Pixel.{Pixel}
 use Rattle.lens.specs.declared.Point.{Point}
 use Rattle.lens.specs.declared.Refusal.{Refusal}
 use Rattle.lens.specs.declared.Refusal.TheVariants.{NotFinite, ZeroFocalLength, AnswerNotFinite}
-use Rattle.lens.specs.declared.Undistorted.{Undistorted}
-use Rattle.lens.specs.declared.Undistorted.TheVariants as found
+use Rattle.lens.specs.Undistorted.{Undistorted}
 use Rattle.affine.specs.Affine as affine
 use Rattle.enhanced_unified.specs.EnhancedUnified as eucm
 use Rattle.kannala_brandt.specs.KannalaBrandt as kb
@@ -27,10 +26,8 @@ use Rattle.thin_prism.specs.ThinPrism as bc12
 use Rattle.camera.specs.declared.Camera.{Camera}
 use Rattle.camera.specs.declared.Camera.TheVariants.{Affine, EnhancedUnified, KannalaBrandt, BrownConrady, ThinPrism}
 use Rattle.camera.specs.declared.Differentiated.{Differentiated}
-use Rattle.lens.specs.declared.Distorted.{Distorted}
-use Rattle.lens.specs.declared.Distorted.TheVariants as pixels
-use Rattle.lens.specs.declared.Judgement.{Judgement}
-use Rattle.lens.specs.declared.Judgement.TheVariants.{Taken, Refused}
+use Rattle.lens.specs.Distorted.{Distorted}
+use Rattle.lens.specs.Judgement.{Judgement}
 
 -- ---- before: 4, then 5
 
@@ -59,13 +56,13 @@ zero_focal (ThinPrism p) = either_zero p.bc.fx p.bc.fy
 unfoldable pub judged : Camera → Float → Float → Judgement
 judged camera x y =
     cond (all_finite (parameters camera) && (finite x && finite y))
-    (cond (zero_focal camera) (Refused ZeroFocalLength) Taken)
-    (Refused NotFinite)
+    (cond (zero_focal camera) (Err ZeroFocalLength) (Ok tt))
+    (Err NotFinite)
 
 -- the same where the parameters are known to be finite
 abbrev pub placed : Camera → Float → Float → Judgement
 placed camera x y =
-    cond (finite x && finite y) (cond (zero_focal camera) (Refused ZeroFocalLength) Taken) (Refused NotFinite)
+    cond (finite x && finite y) (cond (zero_focal camera) (Err ZeroFocalLength) (Ok tt)) (Err NotFinite)
 
 -- ---- distort: the model's pixel, or 11
 
@@ -80,39 +77,39 @@ abbrev pub distort_judged : Camera → Point → Distorted
 distort_judged camera point = finite_pixel (pixel_of camera point)
 
 abbrev pub distort : Camera → Point → Distorted
-distort camera point = decided (judged camera point.0 point.1) pixels.Refused (distort_judged camera point)
+distort camera point = decided (judged camera point.0 point.1) Err (distort_judged camera point)
 
 -- ---- undistort: the model's point, or kb's 10, or eucm's 16, or 11
 
 abbrev pub point_of : Camera → Pixel → Undistorted
-point_of (Affine p) pixel = found.At (affine.undistort p pixel)
+point_of (Affine p) pixel = Ok (affine.undistort p pixel)
 point_of (EnhancedUnified p) pixel = eucm.undistort p pixel
 point_of (KannalaBrandt p) pixel = kb.undistort tangent p pixel
-point_of (BrownConrady p) pixel = found.At (bc.undistort p pixel)
-point_of (ThinPrism p) pixel = found.At (bc12.undistort p pixel)
+point_of (BrownConrady p) pixel = Ok (bc.undistort p pixel)
+point_of (ThinPrism p) pixel = Ok (bc12.undistort p pixel)
 
 abbrev pub finite_point : Undistorted → Undistorted
-finite_point (found.At settled) =
-    cond (finite settled.point.0 && finite settled.point.1) (found.At settled) (found.Refused AnswerNotFinite)
-finite_point (found.Refused refusal) = found.Refused refusal
+finite_point (Ok settled) =
+    cond (finite settled.point.0 && finite settled.point.1) (Ok settled) (Err AnswerNotFinite)
+finite_point (Err refusal) = Err refusal
 
 abbrev pub undistort_judged : Camera → Pixel → Undistorted
 undistort_judged camera pixel = finite_point (point_of camera pixel)
 
 abbrev pub undistort : Camera → Pixel → Undistorted
-undistort camera pixel = decided (judged camera pixel.0 pixel.1) found.Refused (undistort_judged camera pixel)
+undistort camera pixel = decided (judged camera pixel.0 pixel.1) Err (undistort_judged camera pixel)
 
 -- before request P6: eucm's point whatever the z of the ray, and no 16
 abbrev pub point_before : Camera → Pixel → Undistorted
 point_before (Affine p) pixel = point_of (Affine p) pixel
-point_before (EnhancedUnified p) pixel = found.At (eucm.undistort_before p pixel)
+point_before (EnhancedUnified p) pixel = Ok (eucm.undistort_before p pixel)
 point_before (KannalaBrandt p) pixel = point_of (KannalaBrandt p) pixel
 point_before (BrownConrady p) pixel = point_of (BrownConrady p) pixel
 point_before (ThinPrism p) pixel = point_of (ThinPrism p) pixel
 
 abbrev pub undistort_before : Camera → Pixel → Undistorted
 undistort_before camera pixel =
-    decided (judged camera pixel.0 pixel.1) found.Refused (finite_point (point_before camera pixel))
+    decided (judged camera pixel.0 pixel.1) Err (finite_point (point_before camera pixel))
 
 -- the most updates that it makes
 abbrev pub limit : Camera → ℕ

@@ -1,19 +1,16 @@
 -- The rows of the refusal table (docs/RULES.md, 5.1) that a call with one point can meet, in the order they are tried:
 -- each number, and when it is given. The laws hold the four operations to them. Definitions only.
-use Rattle.std.specs.Prelude.{Bool, true, false, not, ◌&&◌, List, [], ◌∷◌, Float}
+use Rattle.std.specs.Prelude.{Bool, true, false, not, ◌&&◌, List, [], ◌∷◌, Float, Option, Ok, Err, Some, None}
 use Rattle.std.specs.Float.Ieee.{le}
 use Rattle.std.specs.Float.Ieee.Scale.{finite}
 use Rattle.root.specs.Root.{root}
 use Rattle.arctan.specs.Tangent.{tangent}
-use Rattle.arctan.specs.declared.Slope.{Slope}
-use Rattle.arctan.specs.declared.Slope.TheVariants.{Is, TooSteep}
 use Rattle.lens.specs.Constants.{zeros, eps}
 use Rattle.lens.specs.Finite.{all_finite}
 use Rattle.lens.specs.Rows.{Row, ◌when◌}
 use Rattle.lens.specs.declared.Pixel.{Pixel}
 use Rattle.lens.specs.declared.Point.{Point}
-use Rattle.lens.specs.declared.Undistorted.{Undistorted}
-use Rattle.lens.specs.declared.Undistorted.TheVariants.{At, Refused}
+use Rattle.lens.specs.Undistorted.{Undistorted}
 use Rattle.enhanced_unified.specs.EnhancedUnified as eucm
 use Rattle.kannala_brandt.specs.KannalaBrandt as kb
 use Rattle.camera.specs.Camera.{parameters, zero_focal, pixel_of, point_before, slopes, parameter_slopes}
@@ -25,9 +22,9 @@ abbrev pub not_finite : Camera → Float → Float → Bool
 not_finite camera x y = not (all_finite (parameters camera) && (finite x && finite y))
 
 -- 10: kb's squared radius isn't ≤ EPS, and the angle where Newton ends is past the tangent's limit
-abbrev pub steep : Slope → Bool
-steep TooSteep = true
-steep (Is t) = false
+abbrev pub steep : Option Float → Bool
+steep None = true
+steep (Some t) = false
 
 abbrev pub too_steep : Camera → Pixel → Bool
 too_steep (Affine p) pixel = false
@@ -48,8 +45,8 @@ mirrored (ThinPrism p) pixel = false
 -- 11: a number of the answer is NaN or infinite. Of eucm's the answer is that of whatever z, so that 16 and 11 may both
 -- hold
 abbrev pub point_not_finite : Undistorted → Bool
-point_not_finite (At settled) = not (finite settled.point.0 && finite settled.point.1)
-point_not_finite (Refused refusal) = false
+point_not_finite (Ok settled) = not (finite settled.point.0 && finite settled.point.1)
+point_not_finite (Err refusal) = false
 
 -- ---- the rows of each operation
 

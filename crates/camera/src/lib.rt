@@ -17,7 +17,7 @@ use affine::AffineParams;
 use brown_conrady::BrownConradyParams;
 use enhanced_unified::EnhancedUnifiedParams;
 use kannala_brandt::KannalaBrandtParams;
-use lens::{Distorted, Jacobian, Judgement, Pixel, Point, Refusal, Undistorted};
+use lens::{Jacobian, Pixel, Point, Refusal, Settled};
 use thin_prism::ThinPrismParams;
 
 pub mod numbers;
@@ -120,33 +120,33 @@ pub fn zero_focal(camera: Camera) -> bool
 }
 
 // 4 of the point or pixel (x, y) alone, and then 5: for who knows that the parameters are finite.
-pub fn placed(camera: Camera, x: f64, y: f64) -> Judgement
+pub fn placed(camera: Camera, x: f64, y: f64) -> Result<(), Refusal>
     ensures { result ≡ placed camera x y }
 {
     if lens::both_finite(x, y) {
         if zero_focal(camera) {
-            Judgement::Refused(Refusal::ZeroFocalLength)
+            Err(Refusal::ZeroFocalLength)
         } else {
-            Judgement::Taken
+            Ok(())
         }
     } else {
-        Judgement::Refused(Refusal::NotFinite)
+        Err(Refusal::NotFinite)
     }
 }
 
 // 4 and then 5, before anything is worked out.
-fn judged(camera: Camera, x: f64, y: f64) -> Judgement
+fn judged(camera: Camera, x: f64, y: f64) -> Result<(), Refusal>
     ensures { result ≡ judged camera x y }
 {
     let sum = mark_of(camera, x, y);
     if sum == sum {
         if zero_focal(camera) {
-            Judgement::Refused(Refusal::ZeroFocalLength)
+            Err(Refusal::ZeroFocalLength)
         } else {
-            Judgement::Taken
+            Ok(())
         }
     } else {
-        Judgement::Refused(Refusal::NotFinite)
+        Err(Refusal::NotFinite)
     }
 }
 
@@ -164,62 +164,62 @@ fn pixel_of(camera: Camera, point: Point) -> Pixel
 }
 
 // The pixel of a point, for a camera and a point that 4 and 5 do not refuse: a table judges its camera once.
-pub fn distort_judged(camera: Camera, point: Point) -> Distorted
+pub fn distort_judged(camera: Camera, point: Point) -> Result<Pixel, Refusal>
     ensures { told_pixel result ≡ told_pixel (distort_judged camera point) }
 {
     lens::finite_pixel(pixel_of(camera, point))
 }
 
 // 4, by the mark of what is given, then 5, and then 11 of the pixel, which is worked out whatever is given.
-fn judged_pixel(given: f64, fx: f64, fy: f64, pixel: Pixel) -> Distorted
+fn judged_pixel(given: f64, fx: f64, fy: f64, pixel: Pixel) -> Result<Pixel, Refusal>
     ensures { told_pixel result ≡ told_pixel (judged_pixel (eq given given) fx fy pixel) }
 {
     if given == given {
         if either_zero(fx, fy) {
-            return Distorted::Refused(Refusal::ZeroFocalLength);
+            return Err(Refusal::ZeroFocalLength);
         }
         return lens::finite_pixel(pixel);
     }
-    Distorted::Refused(Refusal::NotFinite)
+    Err(Refusal::NotFinite)
 }
 
 // The pixel of a point, for each model. For affine a finite pixel says that all that is given is finite: nothing has
 // to be tested twice.
-fn distort_affine(p: AffineParams, point: Point) -> Distorted
+fn distort_affine(p: AffineParams, point: Point) -> Result<Pixel, Refusal>
     ensures { told_pixel result ≡ told_pixel (distort (Camera.Affine p) point) }
 {
     let pixel = affine::distort(p, point);
     if lens::both_finite(pixel.0, pixel.1) {
         if either_zero(p.fx, p.fy) {
-            return Distorted::Refused(Refusal::ZeroFocalLength);
+            return Err(Refusal::ZeroFocalLength);
         }
-        return Distorted::At(pixel);
+        return Ok(pixel);
     }
     judged_pixel(mark_affine(p, point.0, point.1), p.fx, p.fy, pixel)
 }
 
-fn distort_enhanced_unified(p: EnhancedUnifiedParams, point: Point) -> Distorted
+fn distort_enhanced_unified(p: EnhancedUnifiedParams, point: Point) -> Result<Pixel, Refusal>
     ensures { told_pixel result ≡ told_pixel (distort (Camera.EnhancedUnified p) point) }
 {
     let given = mark_enhanced_unified(p, point.0, point.1);
     judged_pixel(given, p.fx, p.fy, enhanced_unified::distort(p, point))
 }
 
-fn distort_kannala_brandt(p: KannalaBrandtParams, point: Point) -> Distorted
+fn distort_kannala_brandt(p: KannalaBrandtParams, point: Point) -> Result<Pixel, Refusal>
     ensures { told_pixel result ≡ told_pixel (distort (Camera.KannalaBrandt p) point) }
 {
     let given = mark_kannala_brandt(p, point.0, point.1);
     judged_pixel(given, p.fx, p.fy, kannala_brandt::distort(p, point))
 }
 
-fn distort_brown_conrady(p: BrownConradyParams, point: Point) -> Distorted
+fn distort_brown_conrady(p: BrownConradyParams, point: Point) -> Result<Pixel, Refusal>
     ensures { told_pixel result ≡ told_pixel (distort (Camera.BrownConrady p) point) }
 {
     let given = mark_brown_conrady(p, point.0, point.1);
     judged_pixel(given, p.fx, p.fy, brown_conrady::distort(p, point))
 }
 
-fn distort_thin_prism(p: ThinPrismParams, point: Point) -> Distorted
+fn distort_thin_prism(p: ThinPrismParams, point: Point) -> Result<Pixel, Refusal>
     ensures { told_pixel result ≡ told_pixel (distort (Camera.ThinPrism p) point) }
 {
     let given = mark_thin_prism(p, point.0, point.1);
@@ -227,7 +227,7 @@ fn distort_thin_prism(p: ThinPrismParams, point: Point) -> Distorted
 }
 
 // The pixel of a point: one match on the camera for all that is asked.
-pub fn distort(camera: Camera, point: Point) -> Distorted
+pub fn distort(camera: Camera, point: Point) -> Result<Pixel, Refusal>
     ensures { told_pixel result ≡ told_pixel (distort camera point) }
 {
     match camera {
@@ -240,47 +240,47 @@ pub fn distort(camera: Camera, point: Point) -> Distorted
 }
 
 // The model's point, finite or not, or kb's 10, or eucm's 16.
-fn point_of(camera: Camera, pixel: Pixel) -> Undistorted
+fn point_of(camera: Camera, pixel: Pixel) -> Result<Settled, Refusal>
     ensures { result ≡ point_of camera pixel }
 {
     match camera {
-        Camera::Affine(p) => Undistorted::At(affine::undistort(p, pixel)),
+        Camera::Affine(p) => Ok(affine::undistort(p, pixel)),
         Camera::EnhancedUnified(p) => enhanced_unified::undistort(p, pixel),
         Camera::KannalaBrandt(p) => kannala_brandt::undistort(p, pixel),
-        Camera::BrownConrady(p) => Undistorted::At(brown_conrady::undistort(p, pixel)),
-        Camera::ThinPrism(p) => Undistorted::At(thin_prism::undistort(p, pixel)),
+        Camera::BrownConrady(p) => Ok(brown_conrady::undistort(p, pixel)),
+        Camera::ThinPrism(p) => Ok(thin_prism::undistort(p, pixel)),
     }
 }
 
 // 11 for a point that isn't finite. A refusal stays: 10 and 16 come before 11.
-fn finite_point(found: Undistorted) -> Undistorted
+fn finite_point(found: Result<Settled, Refusal>) -> Result<Settled, Refusal>
     ensures { result ≡ finite_point found }
 {
     match found {
-        Undistorted::Refused(refusal) => Undistorted::Refused(refusal),
-        Undistorted::At(settled) => {
+        Err(refusal) => Err(refusal),
+        Ok(settled) => {
             if lens::both_finite(settled.point.0, settled.point.1) {
-                return Undistorted::At(settled);
+                return Ok(settled);
             }
-            Undistorted::Refused(Refusal::AnswerNotFinite)
+            Err(Refusal::AnswerNotFinite)
         }
     }
 }
 
 // The point of a pixel, for a camera and a pixel that 4 and 5 do not refuse.
-pub fn undistort_judged(camera: Camera, pixel: Pixel) -> Undistorted
+pub fn undistort_judged(camera: Camera, pixel: Pixel) -> Result<Settled, Refusal>
     ensures { told result ≡ told (undistort_judged camera pixel) }
 {
     finite_point(point_of(camera, pixel))
 }
 
 // The point of a pixel, with the updates it took and whether it settled.
-pub fn undistort(camera: Camera, pixel: Pixel) -> Undistorted
+pub fn undistort(camera: Camera, pixel: Pixel) -> Result<Settled, Refusal>
     ensures { told result ≡ told (undistort camera pixel) }
 {
     match judged(camera, pixel.0, pixel.1) {
-        Judgement::Refused(refusal) => Undistorted::Refused(refusal),
-        Judgement::Taken => undistort_judged(camera, pixel),
+        Err(refusal) => Err(refusal),
+        Ok(()) => undistort_judged(camera, pixel),
     }
 }
 
@@ -345,8 +345,8 @@ pub fn dx_distort_x(camera: Camera, point: Point) -> Differentiated
     ensures { result ≡ dx_distort_x camera point }
 {
     match judged(camera, point.0, point.1) {
-        Judgement::Refused(refusal) => refused(refusal),
-        Judgement::Taken => finite_jacobian(slopes(camera, point)),
+        Err(refusal) => refused(refusal),
+        Ok(()) => finite_jacobian(slopes(camera, point)),
     }
 }
 
@@ -375,7 +375,7 @@ pub fn dx_distort_params(camera: Camera, point: Point) -> Differentiated
     ensures { result ≡ dx_distort_params camera point }
 {
     match judged(camera, point.0, point.1) {
-        Judgement::Refused(refusal) => refused(refusal),
-        Judgement::Taken => finite_jacobian(parameter_slopes(camera, point)),
+        Err(refusal) => refused(refusal),
+        Ok(()) => finite_jacobian(parameter_slopes(camera, point)),
     }
 }

@@ -1,5 +1,6 @@
 -- What a caller may rely on, of the definitions of specs/ and of the contracts of src/. Assumes nothing.
 use mathlib.Core.Path.{◌≡◌, sym, ◌∙◌}
+use Rattle.core.specs.declared.result.Result.TheVariants.{Ok, Err}
 use mathlib.Core.Bool.{true, false}
 use mathlib.Core.List.{List}
 use Prim.Native.Nat.{ℕ, ◌%◌, ◌≤◌}
@@ -8,7 +9,6 @@ use Rattle.exact.specs.Determined.{Determined}
 use Rattle.exact.specs.F64.{f64}
 use Rattle.lens.specs.Judgement.{decided}
 use Rattle.camera_bytes.specs.Reading.{camera_of, Plain, judged, read}
-use Rattle.camera_bytes.specs.declared.Asked.TheVariants.{Of, Refused}
 use Rattle.camera_bytes.proofs.Counted.{read_judged}
 use Rattle.camera_bytes.proofs.Patterns.{plain_finite, odd_not}
 use Rattle.camera_bytes.proofs.read_finite.Reads as read-finite-contract
@@ -32,7 +32,7 @@ pub judged_determined : Determined judged-contract.Post
 judged_determined κ a s s' r r' p q = p ∙ sym q
 
 -- What is asked for is the camera, or the refusal that the model's number and the count of bytes give.
-pub read_is : (model : ℕ) (p : List ℕ) → read model p ≡ decided (judged model p) Refused (Of (camera_of model p))
+pub read_is : (model : ℕ) (p : List ℕ) → read model p ≡ decided (judged model p) Err (Ok (camera_of model p))
 read_is model p = read_judged model p
 
 -- A bit pattern is a finite number's exactly if it is below the infinity's, its sign aside.

@@ -1,5 +1,6 @@
 -- A camera whose parameters are finite, by their bit patterns. Assumes nothing.
 use mathlib.Core.Path.{◌≡◌, refl, sym, ap, ap₂, ◌∙◌}
+use Rattle.core.specs.declared.result.Result.TheVariants.{Ok, Err}
 use mathlib.Core.Bool.{Bool, true, false, cond, ◌&&◌}
 use mathlib.Core.List.{List, [], ◌∷◌}
 use mathlib.Core.Logic.{inl, inr}
@@ -28,7 +29,6 @@ use Rattle.camera.proofs.Laws.{camera_first, parameters_are, table_ends}
 use Rattle.camera.proofs.Models.{each_model}
 use Rattle.camera_bytes.specs.Reading.{at, camera_of, finite_only, Plain}
 use Rattle.camera_bytes.specs.Putting.{SameTo, FiniteTo, Broken, Two, All}
-use Rattle.camera_bytes.specs.declared.Asked.TheVariants.{Of, Refused}
 
 -- ---- a finite number's pattern
 
@@ -104,15 +104,15 @@ module _ (model : ℕ) (p : List ℕ) where
       ∙ sym (camera_first (at p) model)
 
   -- where all are finite, so are the camera's
-  pub whole_finite : {camera : Camera} (n : List Float) → All p n → camera ≡ numbers.camera_of model (numbers.at n) → Of camera ≡ finite_only (Of (camera_of model p))
+  pub whole_finite : {camera : Camera} (n : List Float) → All p n → camera ≡ numbers.camera_of model (numbers.at n) → Ok camera ≡ finite_only (Ok (camera_of model p))
   unfolding camera_of
   whole_finite n a c =
       let f : all_finite (parameters (camera_of model p)) ≡ true =
       ap all_finite (parameters_are (at p) model) ∙ first_finite (count model) (at p) (λ j h. a.sound j (omega (arith, table_ends.1 model))) in
-      rw f (ap Of (c ∙ same_camera n a.same))
+      rw f (ap Ok (c ∙ same_camera n a.same))
 
   -- and where one that is there isn't, the camera's aren't
-  pub whole_broken : length p ≡ 8 * count model → Broken p → Refused NotFinite ≡ finite_only (Of (camera_of model p))
+  pub whole_broken : length p ≡ 8 * count model → Broken p → Err NotFinite ≡ finite_only (Ok (camera_of model p))
   unfolding camera_of
   whole_broken e b =
       let f : all_finite (parameters (camera_of model p)) ≡ false =

@@ -1,15 +1,13 @@
 -- The camera that a model's number and its parameters' bytes ask for, or 1, or 3. Definitions only.
-use Rattle.std.specs.Prelude.{cond, List, ℕ, ◌*◌, ◌%◌, ◌<◌, eqb, leb, Float, length}
+use Rattle.std.specs.Prelude.{cond, List, ℕ, ◌*◌, ◌%◌, ◌<◌, eqb, leb, Float, length, Result, Ok, Err}
+use Rattle.lens.specs.declared.Refusal.{Refusal}
 use Rattle.little_endian.specs.Bytes.{float}
 use Rattle.lens.specs.Finite.{all_finite}
-use Rattle.lens.specs.declared.Judgement.{Judgement}
-use Rattle.lens.specs.declared.Judgement.TheVariants as Judged
+use Rattle.lens.specs.Judgement.{Judgement}
 use Rattle.lens.specs.declared.Refusal.TheVariants.{UnknownModel, WrongCount, NotFinite}
 use Rattle.camera.specs.Camera.{parameters}
 use Rattle.camera.specs.Numbers as numbers
 use Rattle.camera.specs.declared.Camera.{Camera}
-use Rattle.camera_bytes.specs.declared.Asked.{Asked}
-use Rattle.camera_bytes.specs.declared.Asked.TheVariants.{Of, Refused}
 
 -- the f64 at place 8k
 abbrev pub at : List ℕ → ℕ → Float
@@ -24,22 +22,22 @@ camera_of model p = numbers.camera_of model (at p)
 unfoldable pub judged : ℕ → List ℕ → Judgement
 judged model p =
     cond (leb model numbers.last)
-    (cond (eqb (length p) (8 * numbers.count model)) Judged.Taken (Judged.Refused WrongCount))
-    (Judged.Refused UnknownModel)
+    (cond (eqb (length p) (8 * numbers.count model)) (Ok tt) (Err WrongCount))
+    (Err UnknownModel)
 
-unfoldable pub read : ℕ → List ℕ → Asked
+unfoldable pub read : ℕ → List ℕ → Result Camera Refusal
 read model p =
     cond (leb model numbers.last)
-    (cond (eqb (length p) (8 * numbers.count model)) (Of (camera_of model p)) (Refused WrongCount))
-    (Refused UnknownModel)
+    (cond (eqb (length p) (8 * numbers.count model)) (Ok (camera_of model p)) (Err WrongCount))
+    (Err UnknownModel)
 
 -- ---- 1, 3, then 4
 
-abbrev pub finite_only : Asked → Asked
-finite_only (Of camera) = cond (all_finite (parameters camera)) (Of camera) (Refused NotFinite)
-finite_only (Refused refusal) = Refused refusal
+abbrev pub finite_only : Result Camera Refusal → Result Camera Refusal
+finite_only (Ok camera) = cond (all_finite (parameters camera)) (Ok camera) (Err NotFinite)
+finite_only (Err refusal) = Err refusal
 
-abbrev pub read_finite : ℕ → List ℕ → Asked
+abbrev pub read_finite : ℕ → List ℕ → Result Camera Refusal
 read_finite model p = finite_only (read model p)
 
 -- a finite number's bit pattern: without its sign, below the infinity's

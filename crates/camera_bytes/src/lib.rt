@@ -11,19 +11,12 @@ ghost use Rattle.camera_bytes.specs.declared.Asked.TheVariants.{Of};
 
 use camera::Camera;
 use camera::numbers::{LAST, MOST};
-use lens::{Judgement, Refusal};
+use lens::Refusal;
 
 // A bit pattern without its sign is one modulo this; a finite number's is below the infinity's.
 const SIGN: u64 = 0x8000_0000_0000_0000;
 
 const INFINITY: u64 = 0x7ff0_0000_0000_0000;
-
-// What a caller asks of: the camera of a model's number and its parameters' bytes, or why there is none.
-#[derive(Clone, Copy)]
-pub enum Asked {
-    Of(Camera),
-    Refused(Refusal),
-}
 
 // The first numbers, as many as any model has. Zeros stand for those that are missing.
 fn numbers(params: &[u8]) -> [f64; MOST]
@@ -92,46 +85,46 @@ fn all(params: &[u8], n: &mut [f64; MOST]) -> bool
 }
 
 // A camera of parameters that are all there, or 4.
-fn whole(model: u8, params: &[u8]) -> Asked
+fn whole(model: u8, params: &[u8]) -> Result<Camera, Refusal>
     requires { length params.now ≡ 8 * count model }
     ensures { result ≡ finite_only (Of (camera_of model params.now)) }
 {
     let mut n = [0.0; MOST];
     if all(params, &mut n) {
-        return Asked::Of(camera::numbers::camera_of(model, &n));
+        return Ok(camera::numbers::camera_of(model, &n));
     }
-    Asked::Refused(Refusal::NotFinite)
+    Err(Refusal::NotFinite)
 }
 
 // 1, then 3.
-pub fn judged(model: u8, params: &[u8]) -> Judgement
+pub fn judged(model: u8, params: &[u8]) -> Result<(), Refusal>
     ensures { result ≡ judged model params.now }
 {
     if model <= LAST {
         if params.len() == 8 * camera::numbers::count(model) as usize {
-            return Judgement::Taken;
+            return Ok(());
         }
-        return Judgement::Refused(Refusal::WrongCount);
+        return Err(Refusal::WrongCount);
     }
-    Judgement::Refused(Refusal::UnknownModel)
+    Err(Refusal::UnknownModel)
 }
 
 // 1, then 3, or the camera.
-pub fn read(model: u8, params: &[u8]) -> Asked
+pub fn read(model: u8, params: &[u8]) -> Result<Camera, Refusal>
     ensures { result ≡ read model params.now }
 {
     match judged(model, params) {
-        Judgement::Refused(refusal) => Asked::Refused(refusal),
-        Judgement::Taken => Asked::Of(camera_of(model, params)),
+        Err(refusal) => Err(refusal),
+        Ok(()) => Ok(camera_of(model, params)),
     }
 }
 
 // 1, 3, then 4 for a parameter that isn't finite, or the camera.
-pub fn read_finite(model: u8, params: &[u8]) -> Asked
+pub fn read_finite(model: u8, params: &[u8]) -> Result<Camera, Refusal>
     ensures { result ≡ read_finite model params.now }
 {
     match judged(model, params) {
-        Judgement::Refused(refusal) => Asked::Refused(refusal),
-        Judgement::Taken => whole(model, params),
+        Err(refusal) => Err(refusal),
+        Ok(()) => whole(model, params),
     }
 }

@@ -1,5 +1,8 @@
 -- Neither kind of cell holds a pixel that isn't finite, so that what holds one needs no test of it (`holds`, `refuses`); and an f32 less itself says whether it is finite. Assumes nothing.
 use mathlib.Core.Path.{◌≡◌, refl, sym, ap, ◌∙◌}
+use Rattle.core.specs.declared.result.Result.TheVariants.{Ok, Err}
+use Rattle.core.specs.declared.option.Option.{Option}
+use Rattle.core.specs.declared.option.Option.TheVariants.{Some, None}
 use mathlib.Core.Bool.{Bool, true, false, not, cond, ◌&&◌, false≢true}
 use Prim.Native.Nat.{ℕ, ◌-◌, ◌*◌, ◌<◌}
 use native.Mathlib.Nat.{mul-pos, sub_self, le_refl}
@@ -12,11 +15,8 @@ use Rattle.exact.specs.F64.{mark}
 use Rattle.exact.proofs.Zeros.{zero_rounds}
 use Rattle.narrow.specs.Narrow.{narrowed}
 use Rattle.thirty_seconds.specs.Multiple.{nearest_multiple}
-use Rattle.thirty_seconds.specs.declared.Multiple.{Multiple}
-use Rattle.thirty_seconds.specs.declared.Multiple.TheVariants.{Is, TooFar}
 use Rattle.lens.specs.Distorted.{finite_pixel}
 use Rattle.lens.specs.Refusal.{number}
-use Rattle.lens.specs.declared.Distorted.TheVariants as pixels
 use Rattle.lens.specs.declared.Pixel.{Pixel}
 use Rattle.lens.specs.declared.Refusal.{Refusal}
 use Rattle.lens.specs.declared.Refusal.TheVariants.{AnswerNotFinite}
@@ -27,7 +27,7 @@ use Rattle.cell.specs.Cell.{of_pixel}
 
 module _ {X : Type 0} (kind : Pixel → Content X) (pixel : Pixel) where
   abbrev judged_by : Bool → Content X
-  judged_by f = of_pixel kind (cond f (pixels.At pixel) (pixels.Refused AnswerNotFinite))
+  judged_by f = of_pixel kind (cond f (Ok pixel) (Err AnswerNotFinite))
 
   pub holds : {content : Content X} → content ≡ kind pixel → finite pixel.0 ≡ true → finite pixel.1 ≡ true → content ≡ of_pixel kind (finite_pixel pixel)
   holds e f g =
@@ -52,9 +52,9 @@ of_narrowed nan h = h
 of_narrowed (inf s) h = h
 of_narrowed (fin s m e) h = refl
 
-abbrev is_held : Multiple → Bool
-is_held (Is n) = true
-is_held TooFar = false
+abbrev is_held : Option ℤ → Bool
+is_held (Some n) = true
+is_held None = false
 
 held_so : (x : Float) → is_held (nearest_multiple x) ≡ true → finite x ≡ true
 unfolding nearest_multiple
@@ -62,7 +62,7 @@ held_so nan h = h
 held_so (inf s) h = h
 held_so (fin s m e) h = refl
 
-pub of_held : (x : Float) {m : Multiple} → m ≡ nearest_multiple x → is_held m ≡ true → finite x ≡ true
+pub of_held : (x : Float) {m : Option ℤ} → m ≡ nearest_multiple x → is_held m ≡ true → finite x ≡ true
 of_held x e h = held_so x (ap is_held (sym e) ∙ h)
 
 pub and_left : (a b : Bool) → true ≡ (a && b) → a ≡ true

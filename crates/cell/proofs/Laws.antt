@@ -9,7 +9,7 @@ use Rattle.exact.specs.Determined.{Determined}
 use Rattle.thirty_seconds.specs.Multiple.{nearest_multiple}
 use Rattle.thirty_seconds.specs.Nearest.{Nearest, Outside}
 use Rattle.thirty_seconds.proofs.Laws.{held_exactly, too_far_exactly}
-use Rattle.lens.specs.declared.Distorted.{Distorted}
+use Rattle.lens.specs.Distorted.{Distorted}
 use Rattle.lens.specs.declared.Pixel.{Pixel}
 use Rattle.lens.specs.declared.Point.{Point}
 use Rattle.lens.proofs.Laws.{number_one_to_one}

@@ -1,11 +1,11 @@
 -- A cell of any kind is made from its point (`by_point`), and from the pixel that the cell holds as it is (`made`). Assumes nothing.
 use mathlib.Core.Path.{◌≡◌, refl, ◌∙◌}
+use Rattle.core.specs.declared.result.Result.TheVariants.{Ok, Err}
 use mathlib.Core.Bool.{Bool, true, false, cond, ◌&&◌}
 use Prim.Native.Nat.{ℕ}
 use lib.Ieee.Scale.{finite}
 use Rattle.lens.specs.Distorted.{finite_pixel}
-use Rattle.lens.specs.declared.Distorted.{Distorted}
-use Rattle.lens.specs.declared.Distorted.TheVariants as pixels
+use Rattle.lens.specs.Distorted.{Distorted}
 use Rattle.lens.specs.declared.Pixel.{Pixel}
 use Rattle.lens.specs.declared.Point.{Point}
 use Rattle.region.specs.declared.Increments.{Increments}
@@ -24,8 +24,8 @@ module _ {X : Type 0} (kind : Pixel → Content X) where
   by_point pixel_at region by u v e f h = h ∙ rw (f, e) refl
 
   of_one_pixel : (r : Distorted) → of_pixel kind r ≡ of_cell kind (of_pixel unrounded r)
-  of_one_pixel (pixels.At pixel) = refl
-  of_one_pixel (pixels.Refused r) = refl
+  of_one_pixel (Ok pixel) = refl
+  of_one_pixel (Err r) = refl
 
   module _ (distort : Point → Distorted) (region : Region) (by : Increments) (u v : ℕ) where
     pub made : cell_by distort kind region by u v ≡ of_cell kind (cell_by distort unrounded region by u v)

@@ -1,5 +1,7 @@
 -- A float's nearest f32 and its nearest multiple of 1/32 are at most 1/64 and 2^-14 apart (`together`), and so are the numbers of a cell of each kind (`cells_together`). Assumes nothing.
 use mathlib.Core.Path.{◌≡◌, refl, subst}
+use Rattle.core.specs.declared.option.Option.{Option}
+use Rattle.core.specs.declared.option.Option.TheVariants.{Some, None}
 use mathlib.Core.Logic.{◌⊎◌, inl, inr, ◌↔◌}
 use mathlib.Core.Bool.{Bool, true, false, cond, ◌&&◌}
 use Prim.Native.Nat.{ℕ, ◌+◌, ◌*◌, ◌^◌, ◌≤◌, ◌<◌}
@@ -18,8 +20,6 @@ use Rattle.exact.proofs.Pattern.{exponent_lt}
 use Rattle.narrow.specs.Narrow.{narrowed}
 use Rattle.narrow.proofs.Laws.{narrow_near}
 use Rattle.thirty_seconds.specs.Multiple.{nearest_multiple}
-use Rattle.thirty_seconds.specs.declared.Multiple.{Multiple}
-use Rattle.thirty_seconds.specs.declared.Multiple.TheVariants.{Is, TooFar}
 use Rattle.thirty_seconds.proofs.Laws.{nearest_32nd, held_size}
 use Rattle.plans.specs.Plan.{Content, numbers, none}
 use Rattle.cell.specs.Cell.{f32, i16, both_held, of_cell, Together}
@@ -42,7 +42,7 @@ half_place last h = (over-≼ (2 ^ last) (2 * 2 ^ 149) 1 16384).1 (mul-le-mul_ri
 
 -- ---- the two numbers made of a float
 
-pub together : (x : Float) (n : ℤ) → nearest_multiple x ≡ Is n → T (finite (narrowed x)) → Together n (narrowed x)
+pub together : (x : Float) (n : ℤ) → nearest_multiple x ≡ Some n → T (finite (narrowed x)) → Together n (narrowed x)
 unfolding narrowed exactly
 together nan n e t = absurd t
 together (inf s) n e t = absurd t
@@ -64,18 +64,18 @@ f32_holds p q a b = go (finite (narrowed p)) (finite (narrowed q))
     go true false e = let z : ◌≡◌ {A = ℕ} 0 1 = cc in absurd (omega arith)
     go false g e = let z : ◌≡◌ {A = ℕ} 0 1 = cc in absurd (omega arith)
 
-pub i16_holds : (m n : Multiple) (i j : ℤ) → both_held m n ≡ numbers i j → (m ≡ Is i) × (n ≡ Is j)
-i16_holds (Is k) (Is l) i j e = (cc, cc)
-i16_holds (Is k) TooFar i j e = let z : ◌≡◌ {A = ℕ} 0 1 = cc in absurd (omega arith)
-i16_holds TooFar n i j e = let z : ◌≡◌ {A = ℕ} 0 1 = cc in absurd (omega arith)
+pub i16_holds : (m n : Option ℤ) (i j : ℤ) → both_held m n ≡ numbers i j → (m ≡ Some i) × (n ≡ Some j)
+i16_holds (Some k) (Some l) i j e = (cc, cc)
+i16_holds (Some k) None i j e = let z : ◌≡◌ {A = ℕ} 0 1 = cc in absurd (omega arith)
+i16_holds None n i j e = let z : ◌≡◌ {A = ℕ} 0 1 = cc in absurd (omega arith)
 
-pub i16_refused : (m n : Multiple) → (both_held m n ≡ none 19) ↔ ((m ≡ TooFar) ⊎ (n ≡ TooFar))
-i16_refused (Is k) (Is l) = (λ e. let z : ◌≡◌ {A = ℕ} 0 1 = cc in absurd (omega arith), λ h. elim h [ inl e ↦ absurd (held_or_not e) | inr e ↦ absurd (held_or_not e) ])
+pub i16_refused : (m n : Option ℤ) → (both_held m n ≡ none 19) ↔ ((m ≡ None) ⊎ (n ≡ None))
+i16_refused (Some k) (Some l) = (λ e. let z : ◌≡◌ {A = ℕ} 0 1 = cc in absurd (omega arith), λ h. elim h [ inl e ↦ absurd (held_or_not e) | inr e ↦ absurd (held_or_not e) ])
   where
-    held_or_not : {i : ℤ} → Is i ≡ TooFar → ⊥
+    held_or_not : {i : ℤ} → Some i ≡ None → ⊥
     held_or_not e = let z : ◌≡◌ {A = ℕ} 0 1 = cc in omega arith
-i16_refused (Is k) TooFar = (λ e. inr refl, λ h. refl)
-i16_refused TooFar n = (λ e. inl refl, λ h. refl)
+i16_refused (Some k) None = (λ e. inr refl, λ h. refl)
+i16_refused None n = (λ e. inl refl, λ h. refl)
 
 pub cells_together : (content : Content Float) (a b : Float) (i j : ℤ) → of_cell f32 content ≡ numbers a b → of_cell i16 content ≡ numbers i j
     → Together i a × Together j b

@@ -1,16 +1,13 @@
 -- One cell of a table: its point, and what it holds, of any kind of cell. Definitions only.
-use Rattle.std.specs.Prelude.{cond, ◌&&◌, ℕ, ℤ, Float}
+use Rattle.std.specs.Prelude.{cond, ◌&&◌, ℕ, ℤ, Float, Option, Ok, Err, Some, None}
 use Rattle.std.specs.Float.Ieee.Scale.{finite}
 use Rattle.exact.specs.F64.{◌⊕◌, ◌⊗◌}
 use Rattle.exact.specs.Fraction.{over, ◌⊞◌, Within, exactly}
 use Rattle.narrow.specs.Narrow.{narrowed}
 use Rattle.thirty_seconds.specs.Multiple.{nearest_multiple}
 use Rattle.thirty_seconds.specs.Nearest.{thirty_seconds}
-use Rattle.thirty_seconds.specs.declared.Multiple.{Multiple}
-use Rattle.thirty_seconds.specs.declared.Multiple.TheVariants.{Is, TooFar}
 use Rattle.lens.specs.Refusal.{number}
-use Rattle.lens.specs.declared.Distorted.{Distorted}
-use Rattle.lens.specs.declared.Distorted.TheVariants as pixels
+use Rattle.lens.specs.Distorted.{Distorted}
 use Rattle.lens.specs.declared.Pixel.{Pixel}
 use Rattle.lens.specs.declared.Point.{Point}
 use Rattle.region.specs.Size.{float}
@@ -39,10 +36,10 @@ f32 pixel =
     cond (finite a && finite b) (numbers a b) (none 12)
 
 -- two multiples of 1/32 by their numbers, each the nearest: 19 if sixteen bits don't hold one
-abbrev pub both_held : Multiple → Multiple → Content ℤ
-both_held (Is a) (Is b) = numbers a b
-both_held (Is a) TooFar = none 19
-both_held TooFar b = none 19
+abbrev pub both_held : Option ℤ → Option ℤ → Content ℤ
+both_held (Some a) (Some b) = numbers a b
+both_held (Some a) None = none 19
+both_held None b = none 19
 
 abbrev pub i16 : Pixel → Content ℤ
 i16 pixel = both_held (nearest_multiple pixel.0) (nearest_multiple pixel.1)
@@ -50,8 +47,8 @@ i16 pixel = both_held (nearest_multiple pixel.0) (nearest_multiple pixel.1)
 -- ---- a cell of any kind
 
 abbrev pub of_pixel : {X : Type 0} → (Pixel → Content X) → Distorted → Content X
-of_pixel kind (pixels.Refused r) = none (number r)
-of_pixel kind (pixels.At pixel) = kind pixel
+of_pixel kind (Err r) = none (number r)
+of_pixel kind (Ok pixel) = kind pixel
 
 -- 11 for a point that isn't finite, then the refusals of its pixel, then those of the kind
 unfoldable pub cell_by :

@@ -11,7 +11,6 @@ ghost use Rattle.cell.specs.Cell.{cell_point, f32, i16, of_pixel, cell_by, told,
 use camera::Camera;
 use lens::{Pixel, Point, Refusal};
 use region::{Increments, Region};
-use thirty_seconds::Multiple;
 
 // What a cell of f32s holds, or why it holds nothing.
 #[derive(Clone, Copy)]
@@ -63,8 +62,8 @@ fn narrow_pixel(pixel: Pixel) -> Cell
 fn round_pixel(pixel: Pixel) -> Cell16
     ensures { told16 result ≡ of_pixel i16 (finite_pixel pixel) }
 {
-    if let Multiple::Is(a) = thirty_seconds::thirty_seconds(pixel.0) {
-        if let Multiple::Is(b) = thirty_seconds::thirty_seconds(pixel.1) {
+    if let Some(a) = thirty_seconds::thirty_seconds(pixel.0) {
+        if let Some(b) = thirty_seconds::thirty_seconds(pixel.1) {
             return Cell16::Holds(a, b);
         }
     }

@@ -1,6 +1,7 @@
 -- A turn by its parts, whatever its cells hold: what is left to be done when its border units are comes to the plan's turn. Assumes
 -- nothing.
 use mathlib.Core.Path.{◌≡◌, refl, sym, ap, ◌∙◌, subst}
+use Rattle.core.specs.declared.result.Result.TheVariants.{Ok, Err}
 use mathlib.Core.Bool.{Bool, true, false, cond}
 use mathlib.Core.List.{List}
 use Prim.Native.Nat.{ℕ, ◌+◌, ◌-◌, ◌*◌, ◌≤◌, min}
@@ -11,8 +12,7 @@ use lib.Dec.{ltb}
 use lib.ListN.{length}
 use Rattle.lens.specs.Judgement.{decided}
 use Rattle.lens.specs.Refusal.{number}
-use Rattle.lens.specs.declared.Judgement.{Judgement}
-use Rattle.lens.specs.declared.Judgement.TheVariants.{Taken, Refused}
+use Rattle.lens.specs.Judgement.{Judgement}
 use Rattle.region.proofs.Size.{bounded}
 use Rattle.border.specs.Border.{samples, all_units}
 use Rattle.turns.specs.Turns.{Said, finished, refused, running, Turn, turn, met}
@@ -59,7 +59,7 @@ module _ {X : Type 0} (kind : Kind X) (job : Job) (table : List X) (allowance : 
   by_judging j e = sym (ap (λ (j : Judgement). answer job (decided j (λ r. record { state = here; said = refused (number r) }) (turn (next p) allowance here))) e)
 
   -- the record is admitted: by what the sweep of the border met
-  module _ (taken : admitted job (length table) ≡ Taken) where
+  module _ (taken : admitted job (length table) ≡ Ok tt) where
     k : Taking job (length table)
     k = taking job (length table) taken
 
@@ -83,7 +83,7 @@ module _ {X : Type 0} (kind : Kind X) (job : Job) (table : List X) (allowance : 
       left_is = border_on p job.at table allowance count refl t.state t.said swept_so on
 
       at_cells : border ≤ t.state.done → Ahead t.state (all_units job.width job.height) (t.state.done - border) (min (allowance - count) (all_units job.width job.height - t.state.done))
-      at_cells h = record { in_place = in_place; within = λ done said after l. omega (arith, h, most, filled_most p t.state table (allowance - count) first cells_due starts counted fits k.long done said after l, m); ends = λ done said after l. ap (answer job) (cells_end p t.state table (allowance - count) first cells_due starts counted fits k.long done said after l ∙ sym left_is) ∙ by_judging Taken taken }
+      at_cells h = record { in_place = in_place; within = λ done said after l. omega (arith, h, most, filled_most p t.state table (allowance - count) first cells_due starts counted fits k.long done said after l, m); ends = λ done said after l. ap (answer job) (cells_end p t.state table (allowance - count) first cells_due starts counted fits k.long done said after l ∙ sym left_is) ∙ by_judging (Ok tt) taken }
         where
           first : ℕ
           first = t.state.done - border
@@ -115,11 +115,11 @@ module _ {X : Type 0} (kind : Kind X) (job : Job) (table : List X) (allowance : 
           let h = ltb-true t.state.done border e in
           ap (answer job)
           (sym (left_is ∙ ap (λ (n : ℕ). turn (next p) n there) (border_spent p job.at table allowance count refl t.state t.said swept_so on h) ∙ at_border_spent p there h))
-          ∙ by_judging Taken taken
+          ∙ by_judging (Ok tt) taken
       by_place false e = at_cells (ltb-false t.state.done border e)
 
     by_said : (said : Said) → t.said ≡ said → Comes (after_border job.width job.height (allowance - count) said t.state)
-    by_said (refused n) e = ap (answer job) (sym (border_refused p job.at table allowance count refl t.state t.said swept_so n e)) ∙ by_judging Taken taken
+    by_said (refused n) e = ap (answer job) (sym (border_refused p job.at table allowance count refl t.state t.said swept_so n e)) ∙ by_judging (Ok tt) taken
     by_said running e = by_place e (ltb t.state.done border) refl
     by_said finished e =
         absurd (never_finished (turn (swept (sweep_for job)) count job.at).said (sym (ap (λ (x : Turn Progress). x.said) swept_so) ∙ e))
@@ -129,8 +129,8 @@ module _ {X : Type 0} (kind : Kind X) (job : Job) (table : List X) (allowance : 
     where
       go : (j : Judgement) → admitted job (length table) ≡ j
           → Comes (decided j (λ r. over (refused (number r)) job.at) (by_border job allowance))
-      go (Refused r) e = by_judging (Refused r) e
-      go Taken e = by_said e _ refl
+      go (Err r) e = by_judging (Err r) e
+      go (Ok _) e = by_said e _ refl
 
   -- of what is said to be left
   pub came : {d : ToDo} → to_do job (length table) allowance ≡ d → Comes d

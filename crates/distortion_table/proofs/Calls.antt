@@ -1,5 +1,6 @@
 -- Calls of a turn, by its contract, serve the plan of the record's table, whatever its cells hold. Assumes nothing.
 use mathlib.Core.Path.{◌≡◌, refl, sym, ap, ap₂, ◌∙◌}
+use Rattle.core.specs.declared.result.Result.TheVariants.{Ok, Err}
 use mathlib.Core.Bool.{Bool}
 use mathlib.Core.List.{List, [], ◌∷◌}
 use Prim.Native.Nat.{ℕ, ◌*◌, ◌≤◌}
@@ -9,8 +10,7 @@ use lib.Ieee.{Float}
 use lib.ListN.{length}
 use Rattle.lens.specs.Judgement.{decided}
 use Rattle.lens.specs.Refusal.{number}
-use Rattle.lens.specs.declared.Judgement.{Judgement}
-use Rattle.lens.specs.declared.Judgement.TheVariants.{Taken, Refused}
+use Rattle.lens.specs.Judgement.{Judgement}
 use Rattle.region.specs.Size.{Sized}
 use Rattle.region.proofs.Size.{bounded}
 use Rattle.camera.specs.declared.Camera.{Camera}
@@ -25,7 +25,6 @@ use Rattle.table_plans.proofs.Sound.{Fit, f32_fit, i16_fit, kind_sound}
 use Rattle.job.specs.Job.{fresh_job}
 use Rattle.job.specs.Job as job
 use Rattle.job.specs.declared.Job.{Job}
-use Rattle.job.specs.declared.Started.TheVariants as begun
 use Rattle.distortion_table.specs.Answer.{Answer, enough, plan_of, answer, turn_of, told_status}
 use Rattle.distortion_table.specs.Held.{Held, held_plan, held_state}
 use Rattle.distortion_table.specs.declared.Turned.{Turned}
@@ -114,17 +113,17 @@ module _ {X : Type 0} (t : Turns X) where
 -- ---- a fresh record that is taken
 
 module _ (camera : Camera) (width height : ℕ) (strict : Bool) where
-  begins : (j : Judgement) (k : Job) → decided j begun.Refused (begun.With (fresh_job camera width height strict)) ≡ begun.With k → (j ≡ Taken) × (k ≡ fresh_job camera width height strict)
-  begins Taken k h = let q : fresh_job camera width height strict ≡ k = cc in (refl, sym q)
-  begins (Refused r) k h = let z : ◌≡◌ {A = ℕ} 0 1 = cc in absurd (omega arith)
+  begins : (j : Judgement) (k : Job) → decided j Err (Ok (fresh_job camera width height strict)) ≡ Ok k → (j ≡ Ok tt) × (k ≡ fresh_job camera width height strict)
+  begins (Ok _) k h = let q : fresh_job camera width height strict ≡ k = cc in (refl, sym q)
+  begins (Err r) k h = let z : ◌≡◌ {A = ℕ} 0 1 = cc in absurd (omega arith)
 
   -- camera and size are taken, and the record is the fresh one
-  pub fresh_opens : (k : Job) → job.fresh camera width height strict ≡ begun.With k → (opens_for camera width height nowhere ≡ Taken) × (k ≡ fresh_job camera width height strict)
+  pub fresh_opens : (k : Job) → job.fresh camera width height strict ≡ Ok k → (opens_for camera width height nowhere ≡ Ok tt) × (k ≡ fresh_job camera width height strict)
   unfolding job.fresh
   fresh_opens k h = begins (opens_for camera width height nowhere) k h
 
   module _
-      {X : Type 0} (kind : Kind X) (fit : Fit kind) (opens : opens_for camera width height nowhere ≡ Taken)
+      {X : Type 0} (kind : Kind X) (fit : Fit kind) (opens : opens_for camera width height nowhere ≡ Ok tt)
       (cells : List X) (long : length cells ≡ 2 * (width * height))
     where
       abbrev table : Plan X
@@ -133,7 +132,7 @@ module _ (camera : Camera) (width height : ℕ) (strict : Bool) where
       sound : Sound table
       sound = kind_sound camera width height kind fit strict
 
-      pub start_admitted : judged table (fresh cells) ≡ Taken
+      pub start_admitted : judged table (fresh cells) ≡ Ok tt
       start_admitted = plans.fresh_admitted table sound opens cells long
 
       pub answer_is : (a : ℕ) → turn_of kind (fresh_job camera width height strict) cells a ≡ answer (fresh_job camera width height strict) (turn (next table) a (fresh cells))
@@ -155,5 +154,5 @@ same_table_of kind {c} {d} {w} {x} {h} {y} {a} e f g m =
     ap (λ (z : Camera). table_of kind z w h a) e ∙ ap₂ (λ (i j : ℕ). table_of kind d i j a) f g ∙ ap (table_of kind d x y) m
 
 -- a call that is admitted is a turn
-pub taken_turn : {X : Type 0} (p : Plan X) (a : ℕ) (s : State X) → judged p s ≡ Taken → plan.turn_of p a s ≡ turn (next p) a s
+pub taken_turn : {X : Type 0} (p : Plan X) (a : ℕ) (s : State X) → judged p s ≡ Ok tt → plan.turn_of p a s ≡ turn (next p) a s
 taken_turn p a s e = ap (λ (j : Judgement). decided j (λ r. record { state = s; said = refused (number r) }) (turn (next p) a s)) e

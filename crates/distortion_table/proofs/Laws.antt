@@ -1,5 +1,6 @@
 -- What a caller may rely on, of the definitions of specs/ and of the contracts of src/. Assumes nothing.
 use mathlib.Core.Path.{◌≡◌, refl, sym, ap, ap₂, ◌∙◌, subst}
+use Rattle.core.specs.declared.result.Result.TheVariants.{Ok}
 use mathlib.Core.List.{List, [], ◌∷◌, ◌++◌}
 use mathlib.Core.Bool.{Bool, true, false}
 use Prim.Native.Nat.{ℕ, ◌+◌, ◌*◌, ◌≤◌, ◌<◌, min}
@@ -7,7 +8,6 @@ use native.Mathlib.Omega.{arith}
 use lib.Ieee.{Float}
 use lib.ListN.{length}
 use Rattle.exact.specs.Determined.{DeterminedWith}
-use Rattle.lens.specs.declared.Judgement.TheVariants.{Taken}
 use Rattle.lens.proofs.Laws.{number_one_to_one}
 use Rattle.camera.specs.Camera.{limit}
 use Rattle.camera.specs.declared.Camera.{Camera}
@@ -34,7 +34,6 @@ use Rattle.table_plans.proofs.Sound.{opened, f32_fit, kind_sound, before_sound, 
 use Rattle.job.specs.Job.{fresh_job}
 use Rattle.job.specs.Job as job
 use Rattle.job.specs.declared.Job.{Job}
-use Rattle.job.specs.declared.Started.TheVariants as begun
 use Rattle.distortion_table.specs.Answer.{Answer, answer, enough, whole_table, told_status, told_turned}
 use Rattle.distortion_table.specs.Held.{Held, handed_back, held_plan, held_state, BuiltJob}
 use Rattle.distortion_table.specs.declared.Status.{Status}
@@ -153,16 +152,16 @@ module _ {X : Type 0} (t : Turns X) (camera : Camera) (width height : ℕ) (stri
 
 -- Such a record is the fresh one.
 pub as_begun : (camera : Camera) (width height : ℕ) (strict : Bool) (start : Job) → job.fresh camera width height strict
-    ≡ begun.With start → start ≡ fresh_job camera width height strict
+    ≡ Ok start → start ≡ fresh_job camera width height strict
 as_begun camera width height strict start begin = (fresh_opens camera width height strict start begin).1
 
 module _
     {X : Type 0} (t : Turns X)
     (camera : Camera) (width height : ℕ) (strict : Bool) (start : Job)
-    (begin : job.fresh camera width height strict ≡ begun.With start)
+    (begin : job.fresh camera width height strict ≡ Ok start)
     (table : List X) (long : length table ≡ 2 * (width * height))
   where
-    takes : judged (table_of t.kind camera width height strict) (fresh table) ≡ Taken
+    takes : judged (table_of t.kind camera width height strict) (fresh table) ≡ Ok tt
     takes = start_admitted camera width height strict t.kind t.fit
         (fresh_opens camera width height strict start begin).0 table long
 
@@ -171,7 +170,7 @@ module _
         (first camera width height strict table) last)
       where
         -- Every call is admitted,
-        pub build_admitted : judged (table_of t.kind camera width height strict) (held_state last) ≡ Taken
+        pub build_admitted : judged (table_of t.kind camera width height strict) (held_state last) ≡ Ok tt
         build_admitted =
             plans.built_admitted (Held X) (λ h. Unit {0}) (held_plan t.kind) held_state t.Called (turn_serves t)
             (first camera width height strict table) tt
@@ -204,7 +203,7 @@ module _
             let same : p ≡ table_of t.kind camera width height strict = same_table_of t.kind e.camera
             e.width e.height e.strict in
             let c = (turn_serves t).answers last a said then tt c in
-            let j : judged p (held_state last) ≡ Taken = ap (λ (q : Plan X). judged q (held_state last)) same
+            let j : judged p (held_state last) ≡ Ok tt = ap (λ (q : Plan X). judged q (held_state last)) same
             ∙ build_admitted in
             ap₂ (λ (x : Turn (State X)) (b : Bool). one_of (said_number x.said)
             (0 ∷ unit_numbers t.kind.refusal b)) (c ∙ taken_turn p a (held_state last) j) (sym e.strict)
@@ -310,7 +309,7 @@ module _
 -- ---- the table at once, which isn't strict
 
 module _
-    (camera : Camera) (width height : ℕ) (start : Job) (begin : job.fresh camera width height false ≡ begun.With start)
+    (camera : Camera) (width height : ℕ) (start : Job) (begin : job.fresh camera width height false ≡ Ok start)
     (table : List Float) (long : length table ≡ 2 * (width * height))
   where
     at_once_is :

@@ -1,10 +1,10 @@
 -- What the code may rely on in a record that is admitted: a size that is taken, and room for every count. Assumes nothing.
 use mathlib.Core.Path.{◌≡◌}
+use Rattle.core.specs.declared.result.Result.TheVariants.{Ok}
 use mathlib.Core.Bool.{true}
 use Prim.Native.Nat.{ℕ, ◌*◌, ◌^◌, ◌≤◌, ◌<◌, min}
 use native.Mathlib.Nat.{le_trans, mul-le-mul, min-le_right}
 use native.Mathlib.Omega.{arith}
-use Rattle.lens.specs.declared.Judgement.TheVariants.{Taken}
 use Rattle.region.specs.Size.{sized, Sized}
 use Rattle.camera.specs.Camera.{limit}
 use Rattle.camera.proofs.Laws.{limit_most}
@@ -22,7 +22,7 @@ pub record Taking (job : Job) (places : ℕ) : Type 0 where
   pub few : job.at.updates < 2 ^ 31
   pub few_unsettled : job.at.unsettled < 2 ^ 31
 
-pub taking : (job : Job) (places : ℕ) → admitted job places ≡ Taken → Taking job places
+pub taking : (job : Job) (places : ℕ) → admitted job places ≡ Ok tt → Taking job places
 taking job places h =
     let k = is_admitted (sweep_for job) job.at places h in
     let o = opened job.camera job.width job.height job.at.region k.opens in

@@ -13,7 +13,6 @@ use crate::{Filled, Place, Run};
 use camera::Camera;
 use cell::Cell;
 use job::Job;
-use lens::Judgement;
 use region::{Increments, Region};
 
 // The place after a place, row by row, whatever a cell holds.
@@ -57,7 +56,7 @@ fn fill(
             Cell::Refused(refusal) => {
                 return Filled {
                     done: i,
-                    refusal: Judgement::Refused(refusal),
+                    refusal: Err(refusal),
                 };
             }
             Cell::Holds(a, b) => {
@@ -70,7 +69,7 @@ fn fill(
     }
     Filled {
         done: i,
-        refusal: Judgement::Taken,
+        refusal: Ok(()),
     }
 }
 

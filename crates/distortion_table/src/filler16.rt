@@ -13,7 +13,6 @@ use crate::{Filled, Place, Run, filler};
 use camera::Camera;
 use cell::Cell16;
 use job::Job;
-use lens::Judgement;
 use region::{Increments, Region};
 
 // So many cells, or fewer if one refuses, into the part of the table that begins with the first.
@@ -42,7 +41,7 @@ fn fill(
             Cell16::Refused(refusal) => {
                 return Filled {
                     done: i,
-                    refusal: Judgement::Refused(refusal),
+                    refusal: Err(refusal),
                 };
             }
             Cell16::Holds(a, b) => {
@@ -55,7 +54,7 @@ fn fill(
     }
     Filled {
         done: i,
-        refusal: Judgement::Taken,
+        refusal: Ok(()),
     }
 }
 

@@ -17,7 +17,7 @@ mod filler16;
 
 use camera::Camera;
 use job::Job;
-use lens::{Judgement, Refusal};
+use lens::Refusal;
 use plans::Progress;
 
 // A cell's column and row.
@@ -31,7 +31,7 @@ struct Place {
 #[derive(Clone, Copy)]
 struct Filled {
     pub done: usize,
-    pub refusal: Judgement,
+    pub refusal: Result<(), Refusal>,
 }
 
 // A turn's cells, once its border units are done: how far the build has come by then, all units of the table, the
@@ -111,11 +111,11 @@ fn border_due(job: Job, allowance: usize) -> Due
     let refusal = stop.refusal;
     let after = stop.at;
     match refusal {
-        Judgement::Refused(r) => Due::Over(Ended {
+        Err(r) => Due::Over(Ended {
             status: Status::Refused(r),
             at: after,
         }),
-        Judgement::Taken => cells_due(width, height, after, allowance - count),
+        Ok(()) => cells_due(width, height, after, allowance - count),
     }
 }
 
@@ -126,11 +126,11 @@ fn up_to_cells(job: Job, places: usize, allowance: usize) -> Due
 {
     let at = job.at;
     match job::admitted(job, places) {
-        Judgement::Refused(refusal) => Due::Over(Ended {
+        Err(refusal) => Due::Over(Ended {
             status: Status::Refused(refusal),
             at,
         }),
-        Judgement::Taken => border_due(job, allowance),
+        Ok(()) => border_due(job, allowance),
     }
 }
 
@@ -192,11 +192,11 @@ fn end(run: Run, filled: Filled) -> Ended
     let after = with_done(at, done);
     let refusal = filled.refusal;
     match refusal {
-        Judgement::Refused(r) => Ended {
+        Err(r) => Ended {
             status: Status::Refused(r),
             at: after,
         },
-        Judgement::Taken => {
+        Ok(()) => {
             let status = reached(done, run.all);
             Ended { status, at: after }
         }

@@ -1,5 +1,6 @@
 -- What a caller may rely on, of the definitions of specs/ and of the contracts of src/. Assumes nothing.
 use mathlib.Core.Path.{◌≡◌, refl, sym, ap, ◌∙◌}
+use Rattle.core.specs.declared.result.Result.TheVariants.{Ok, Err}
 use mathlib.Core.Bool.{Bool, true, false, cond, ◌&&◌}
 use Prim.Native.Nat.{◌≤◌}
 use native.Mathlib.Nat.{le_trans}
@@ -13,8 +14,7 @@ use Rattle.lens.specs.declared.Pixel.{Pixel}
 use Rattle.lens.specs.declared.Point.{Point}
 use Rattle.lens.specs.declared.Refusal.TheVariants.{AnswerNotFinite}
 use Rattle.lens.specs.declared.Settled.{Settled}
-use Rattle.lens.specs.declared.Undistorted.{Undistorted}
-use Rattle.lens.specs.declared.Undistorted.TheVariants.{At, Refused}
+use Rattle.lens.specs.Undistorted.{Undistorted}
 use Rattle.lens.proofs.Laws.{told_one_to_one}
 use Rattle.brown_conrady.specs.declared.BrownConradyParams.{BrownConradyParams}
 use Rattle.short_brown_conrady.specs.ShortBrownConrady as short
@@ -59,17 +59,17 @@ pixels_same camera point =
     by_mark (λ (c : Camera) (mark : Bool). distort c mark point ≡ distort_judged c point) (λ c. refl)
     (λ params z. ap finite_pixel (distort_short_is_full params z point)) camera
 
-still_fits : (settled : Settled) → Fit settled.point.0 × Fit settled.point.1 → PointFits (finite_point (At settled))
+still_fits : (settled : Settled) → Fit settled.point.0 × Fit settled.point.1 → PointFits (finite_point (Ok settled))
 still_fits settled h = go (finite settled.point.0 && finite settled.point.1)
   where
-    go : (b : Bool) → PointFits (cond b (At settled) (Refused AnswerNotFinite))
+    go : (b : Bool) → PointFits (cond b (Ok settled) (Err AnswerNotFinite))
     go true = h
     go false = tt
 
 -- what holds of both engines' answers at a pixel holds by either mark
 by_either :
     (P : Undistorted → Type 0) (pixel : Pixel) → ((camera : Camera) → P (undistort_judged camera pixel))
-    → ((params : BrownConradyParams) → P (finite_point (At (short.undistort params pixel)))) → (camera : Camera) (mark : Bool) → P (undistort camera mark pixel)
+    → ((params : BrownConradyParams) → P (finite_point (Ok (short.undistort params pixel)))) → (camera : Camera) (mark : Bool) → P (undistort camera mark pixel)
 by_either P pixel own bc camera false = own camera
 by_either P pixel own bc (Affine p) true = own (Affine p)
 by_either P pixel own bc (EnhancedUnified p) true = own (EnhancedUnified p)
@@ -83,10 +83,10 @@ points_fit camera mark pixel =
     by_either PointFits pixel (λ c. undistort_judged_fits c pixel)
     (λ params. still_fits (short.undistort params pixel) (undistort_fits params pixel)) camera mark
 
-few : (settled : Settled) → settled.updates ≤ 50 → (told (finite_point (At settled))).settled.updates ≤ 50
+few : (settled : Settled) → settled.updates ≤ 50 → (told (finite_point (Ok settled))).settled.updates ≤ 50
 few settled h = go (finite settled.point.0 && finite settled.point.1)
   where
-    go : (b : Bool) → (told (cond b (At settled) (Refused AnswerNotFinite))).settled.updates ≤ 50
+    go : (b : Bool) → (told (cond b (Ok settled) (Err AnswerNotFinite))).settled.updates ≤ 50
     go true = h
     go false = lit≤ tt
 

@@ -1,12 +1,11 @@
 -- The engine of a camera's tables: the short one for a bc camera whose k4, k5 and k6 are zeros of either sign, the
 -- camera's own for any other. Definitions only.
-use Rattle.std.specs.Prelude.{Bool, false, cond}
+use Rattle.std.specs.Prelude.{Bool, false, cond, Ok}
 use Rattle.lens.specs.Distorted.{finite_pixel}
-use Rattle.lens.specs.declared.Distorted.{Distorted}
+use Rattle.lens.specs.Distorted.{Distorted}
 use Rattle.lens.specs.declared.Pixel.{Pixel}
 use Rattle.lens.specs.declared.Point.{Point}
-use Rattle.lens.specs.declared.Undistorted.{Undistorted}
-use Rattle.lens.specs.declared.Undistorted.TheVariants.{At}
+use Rattle.lens.specs.Undistorted.{Undistorted}
 use Rattle.brown_conrady.specs.declared.BrownConradyParams.{BrownConradyParams}
 use Rattle.short_brown_conrady.specs.ShortBrownConrady as short
 use Rattle.camera.specs.Camera.{pixel_of, finite_point, undistort_judged}
@@ -37,4 +36,4 @@ distort camera mark point = finite_pixel (pixel_by camera mark point)
 abbrev pub undistort : Camera → Bool → Pixel → Undistorted
 undistort camera mark pixel =
     let own = undistort_judged camera pixel in
-    cond mark (for_bc (λ p. finite_point (At (short.undistort p pixel))) own camera) own
+    cond mark (for_bc (λ p. finite_point (Ok (short.undistort p pixel))) own camera) own

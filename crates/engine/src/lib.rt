@@ -8,7 +8,7 @@ ghost use Rattle.camera.specs.Camera.{finite_point};
 ghost use Rattle.engine.specs.Engine.{short_for, pixel_by, undistort};
 
 use camera::Camera;
-use lens::{Pixel, Point, Refusal, Settled, Undistorted};
+use lens::{Pixel, Point, Refusal, Settled};
 
 // Whether the short engine stands for a camera.
 pub fn short_for(camera: Camera) -> bool
@@ -40,17 +40,17 @@ pub fn distort(camera: Camera, short: bool, point: Point) -> Pixel
 }
 
 // 11 for a point that isn't finite.
-fn finite(settled: Settled) -> Undistorted
-    ensures { result ≡ finite_point (Undistorted.At settled) }
+fn finite(settled: Settled) -> Result<Settled, Refusal>
+    ensures { result ≡ finite_point (Ok settled) }
 {
     if lens::both_finite(settled.point.0, settled.point.1) {
-        return Undistorted::At(settled);
+        return Ok(settled);
     }
-    Undistorted::Refused(Refusal::AnswerNotFinite)
+    Err(Refusal::AnswerNotFinite)
 }
 
 // The point of a sample's pixel, by the short engine or not, for a camera that 4 and 5 do not refuse.
-pub fn undistort(camera: Camera, short: bool, pixel: Pixel) -> Undistorted
+pub fn undistort(camera: Camera, short: bool, pixel: Pixel) -> Result<Settled, Refusal>
     ensures { told result ≡ told (undistort camera short pixel) }
 {
     if short {

@@ -1,5 +1,6 @@
 -- What a caller may rely on, of the definitions of specs/ and of the contracts of src/. Assumes nothing.
 use mathlib.Core.Path.{◌≡◌, refl, sym, ap, ◌∙◌, subst}
+use Rattle.core.specs.declared.result.Result.TheVariants.{Ok, Err}
 use mathlib.Core.Logic.{◌↔◌}
 use mathlib.Core.Bool.{Bool, true, false, cond}
 use Prim.Native.Nat.{ℕ, ◌*◌, ◌^◌}
@@ -23,8 +24,7 @@ use Rattle.lens.specs.declared.Point.{Point}
 use Rattle.lens.specs.declared.Refusal.{Refusal}
 use Rattle.lens.specs.declared.Refusal.TheVariants.{RayNotForward}
 use Rattle.lens.specs.declared.Settled.{Settled}
-use Rattle.lens.specs.declared.Undistorted.{Undistorted}
-use Rattle.lens.specs.declared.Undistorted.TheVariants.{At, Refused}
+use Rattle.lens.specs.Undistorted.{Undistorted}
 use Rattle.lens.proofs.Laws.{told_one_to_one}
 use Rattle.enhanced_unified.specs.EnhancedUnified.{camera, norm_of, distort, mx_of, my_of, ray_z, not_forward, undistort, undistort_before}
 use Rattle.enhanced_unified.specs.declared.EnhancedUnifiedParams.{EnhancedUnifiedParams}
@@ -70,7 +70,7 @@ offset_lies m f k t g h =
 module _ (params : EnhancedUnifiedParams) (pixel : Pixel) where
   -- undistort by the test of its z
   said : Bool → Undistorted
-  said b = cond b (Refused RayNotForward) (At (undistort_before params pixel))
+  said b = cond b (Err RayNotForward) (Ok (undistort_before params pixel))
 
   z : Float
   z = ray_z params pixel
@@ -78,48 +78,48 @@ module _ (params : EnhancedUnifiedParams) (pixel : Pixel) where
   -- It is refused, always with 16, exactly if the z of the pixel's ray is a number and not above 0: a zero of either sign, or below.
   pub mirrored_exactly :
       (r : Refusal)
-      → (undistort params pixel ≡ Refused r)
+      → (undistort params pixel ≡ Err r)
       ↔ ((r ≡ RayNotForward) × (is_nan (ray_z params pixel) ≡ false) × (lt zeros (ray_z params pixel) ≡ false))
   unfolding said z
-  mirrored_exactly r = (forth (not_forward z) refl, λ h. ap said ((not_above z).1 (h.1, h.2)) ∙ ap Refused (sym h.0))
+  mirrored_exactly r = (forth (not_forward z) refl, λ h. ap said ((not_above z).1 (h.1, h.2)) ∙ ap Err (sym h.0))
     where
-      forth : (b : Bool) → not_forward z ≡ b → said b ≡ Refused r → (r ≡ RayNotForward) × (is_nan z ≡ false) × (lt zeros z ≡ false)
+      forth : (b : Bool) → not_forward z ≡ b → said b ≡ Err r → (r ≡ RayNotForward) × (is_nan z ≡ false) × (lt zeros z ≡ false)
       forth true e h = (cc, ((not_above z).0 e).0, ((not_above z).0 e).1)
       forth false e h = let n : ◌≡◌ {A = ℕ} 0 1 = cc in absurd (omega arith)
 
   -- Wherever 16 isn't given, the answer is that of undistort before request P6, which is the Rust's.
-  pub elsewhere_as_before : ((told (undistort params pixel)).number ≡ 16 → ⊥) → undistort params pixel ≡ At (undistort_before params pixel)
+  pub elsewhere_as_before : ((told (undistort params pixel)).number ≡ 16 → ⊥) → undistort params pixel ≡ Ok (undistort_before params pixel)
   unfolding said z
   elsewhere_as_before = go (not_forward z)
     where
-      go : (b : Bool) → ((told (said b)).number ≡ 16 → ⊥) → said b ≡ At (undistort_before params pixel)
+      go : (b : Bool) → ((told (said b)).number ≡ 16 → ⊥) → said b ≡ Ok (undistort_before params pixel)
       go true n = absurd (n refl)
       go false n = refl
 
   -- So with a NaN for z: a point of two NaNs, which the camera refuses with 11.
-  pub nan_not_refused : ray_z params pixel ≡ nan → undistort params pixel ≡ At (direct (xy nan nan))
+  pub nan_not_refused : ray_z params pixel ≡ nan → undistort params pixel ≡ Ok (direct (xy nan nan))
   unfolding le
   nan_not_refused e = go (ray_z params pixel) e
     where
       go :
           (k : Float) → k ≡ nan
-          → cond (not_forward k) (Refused RayNotForward) (At (direct (xy (mx_of params pixel ⊘ k) (my_of params pixel ⊘ k)))) ≡ At (direct (xy nan nan))
+          → cond (not_forward k) (Err RayNotForward) (Ok (direct (xy (mx_of params pixel ⊘ k) (my_of params pixel ⊘ k)))) ≡ Ok (direct (xy nan nan))
       go k e = rw (e, over_nan (mx_of params pixel), over_nan (my_of params pixel)) refl
 
-  answered : (s : Settled) → undistort params pixel ≡ At s → (not_forward (ray_z params pixel) ≡ false) × (undistort_before params pixel ≡ s)
+  answered : (s : Settled) → undistort params pixel ≡ Ok s → (not_forward (ray_z params pixel) ≡ false) × (undistort_before params pixel ≡ s)
   unfolding said z
   answered s = go (not_forward z) refl
     where
-      go : (b : Bool) → not_forward z ≡ b → said b ≡ At s → (not_forward z ≡ false) × (undistort_before params pixel ≡ s)
+      go : (b : Bool) → not_forward z ≡ b → said b ≡ Ok s → (not_forward z ≡ false) × (undistort_before params pixel ≡ s)
       go true e h = let n : ◌≡◌ {A = ℕ} 0 1 = cc in absurd (omega arith)
       go false e h = (e, cc)
 
   -- Every answer takes 0 updates and settles.
-  pub settled : (s : Settled) → undistort params pixel ≡ At s → (s.updates ≡ 0) × (s.flag ≡ true)
+  pub settled : (s : Settled) → undistort params pixel ≡ Ok s → (s.updates ≡ 0) × (s.flag ≡ true)
   settled s h = let e = (answered s h).1 in (sym (ap (λ (t : Settled). t.updates) e), sym (ap (λ (t : Settled). t.flag) e))
 
   -- An answered point lies on the pixel's side of the centre, zeros aside.
-  pub same_side : (s : Settled) → undistort params pixel ≡ At s → SameSide params pixel s.point
+  pub same_side : (s : Settled) → undistort params pixel ≡ Ok s → SameSide params pixel s.point
   same_side s h =
       let k = ray_z params pixel in
       let a = answered s h in
@@ -161,21 +161,21 @@ under pixel = ones ⊖ (eye.alpha ⊖ (ones ⊖ eye.alpha)) ⊗ eye.beta ⊗ r2 
 abbrev undistorted : Pixel → Float → Undistorted
 undistorted pixel s =
     let k = (ones ⊖ eye.alpha ⊗ eye.alpha ⊗ eye.beta ⊗ r2 pixel) ⊘ (eye.alpha ⊗ s ⊕ (ones ⊖ eye.alpha)) in
-    cond (not_forward k) (Refused RayNotForward) (At (direct (xy (mx_of eye pixel ⊘ k) (my_of eye pixel ⊘ k))))
+    cond (not_forward k) (Err RayNotForward) (Ok (direct (xy (mx_of eye pixel ⊘ k) (my_of eye pixel ⊘ k))))
 
 forth : (eye.beta ⊗ squared_radius (int 2) (int 2) ⊕ ones ≡ int 9) × (distorted (xy (int 2) (int 2)) (int 3) ≡ uv (int 1) (int 1))
 unfolding add sub mul div of_bits of_int
 forth = (refl, refl)
 
-back : (under (uv (int 1) (int 1)) ≡ int 1) × (undistorted (uv (int 1) (int 1)) (int 1) ≡ At (direct (xy (int 2) (int 2))))
+back : (under (uv (int 1) (int 1)) ≡ int 1) × (undistorted (uv (int 1) (int 1)) (int 1) ≡ Ok (direct (xy (int 2) (int 2))))
 unfolding le add sub mul div of_bits of_int
 back = (refl, refl)
 
-sideways : (under (uv (int 2) (int 0)) ≡ int 1) × (undistorted (uv (int 2) (int 0)) (int 1) ≡ Refused RayNotForward)
+sideways : (under (uv (int 2) (int 0)) ≡ int 1) × (undistorted (uv (int 2) (int 0)) (int 1) ≡ Err RayNotForward)
 unfolding le add sub mul div of_bits of_int
 sideways = (refl, refl)
 
-backwards : (under (uv (int 2) (int 2)) ≡ int 1) × (undistorted (uv (int 2) (int 2)) (int 1) ≡ Refused RayNotForward)
+backwards : (under (uv (int 2) (int 2)) ≡ int 1) × (undistorted (uv (int 2) (int 2)) (int 1) ≡ Err RayNotForward)
 unfolding le add sub mul div of_bits of_int
 backwards = (refl, refl)
 
@@ -183,9 +183,9 @@ backwards = (refl, refl)
 -- refused with 16.
 pub by_hand :
     (distort (camera (int 1) (int 1) (int 0) (int 0) (halves 1) (int 1)) (xy (int 2) (int 2)) ≡ uv (int 1) (int 1))
-    × (undistort (camera (int 1) (int 1) (int 0) (int 0) (halves 1) (int 1)) (uv (int 1) (int 1)) ≡ At (direct (xy (int 2) (int 2))))
-    × (undistort (camera (int 1) (int 1) (int 0) (int 0) (halves 1) (int 1)) (uv (int 2) (int 0)) ≡ Refused RayNotForward)
-    × (undistort (camera (int 1) (int 1) (int 0) (int 0) (halves 1) (int 1)) (uv (int 2) (int 2)) ≡ Refused RayNotForward)
+    × (undistort (camera (int 1) (int 1) (int 0) (int 0) (halves 1) (int 1)) (uv (int 1) (int 1)) ≡ Ok (direct (xy (int 2) (int 2))))
+    × (undistort (camera (int 1) (int 1) (int 0) (int 0) (halves 1) (int 1)) (uv (int 2) (int 0)) ≡ Err RayNotForward)
+    × (undistort (camera (int 1) (int 1) (int 0) (int 0) (halves 1) (int 1)) (uv (int 2) (int 2)) ≡ Err RayNotForward)
 by_hand = (
   ap (distorted (xy (int 2) (int 2))) (ap root forth.0 ∙ root_of_nine) ∙ forth.1,
   ap (undistorted (uv (int 1) (int 1))) (ap root back.0 ∙ root_of_one) ∙ back.1,

@@ -1,6 +1,6 @@
 -- The four operations of enhanced_unified.rs by its local names: each product, sum, difference and quotient rounds
 -- once, in the Rust's order. Numbers in comments are lines of that file. Definitions only.
-use Rattle.std.specs.Prelude.{Bool, cond, [], ◌∷◌, Float}
+use Rattle.std.specs.Prelude.{Bool, cond, [], ◌∷◌, Float, Ok, Err}
 use Rattle.std.specs.Float.Ieee.{le}
 use Rattle.exact.specs.F64.{minus, ◌⊕◌, ◌⊖◌, ◌⊗◌, ◌⊘◌}
 use Rattle.root.specs.Root.{root}
@@ -13,8 +13,7 @@ use Rattle.lens.specs.declared.Pixel.{Pixel}
 use Rattle.lens.specs.declared.Point.{Point}
 use Rattle.lens.specs.declared.Refusal.TheVariants.{RayNotForward}
 use Rattle.lens.specs.declared.Settled.{Settled}
-use Rattle.lens.specs.declared.Undistorted.{Undistorted}
-use Rattle.lens.specs.declared.Undistorted.TheVariants.{At, Refused}
+use Rattle.lens.specs.Undistorted.{Undistorted}
 use Rattle.enhanced_unified.specs.declared.EnhancedUnifiedParams.{EnhancedUnifiedParams}
 
 -- a camera by its numbers
@@ -80,7 +79,7 @@ not_forward k = le k zeros
 -- With 1 1 0 0 0.5 1 and (2, 2): r2 = 8, and k = (1 - 0.25 · 8) / 1 = -1
 abbrev pub undistort : EnhancedUnifiedParams → Pixel → Undistorted
 undistort params pixel =
-    cond (not_forward (ray_z params pixel)) (Refused RayNotForward) (At (undistort_before params pixel))
+    cond (not_forward (ray_z params pixel)) (Err RayNotForward) (Ok (undistort_before params pixel))
 
 -- ---- the derivatives
 

@@ -7,7 +7,7 @@ ghost use Rattle.std.specs.Prelude.{◌≡◌};
 ghost use Rattle.lens.specs.Undistorted.{told};
 ghost use Rattle.enhanced_unified.specs.EnhancedUnified.{rho_of, norm_of, distort, k_of, undistort, dnorm_of, turned, dx_distort_x, dx_distort_params};
 
-use lens::{Jacobian, Pixel, Point, Refusal, Undistorted};
+use lens::{Jacobian, Pixel, Point, Refusal, Settled};
 
 // The six parameters, in the Rust's order.
 #[derive(Clone, Copy)]
@@ -57,16 +57,16 @@ fn k_of(alpha: f64, beta: f64, r2: f64) -> f64
 
 // The point of a pixel, found with no update. Refused with 16 where the ray's z is zero or negative: the quotient would
 // be nowhere, or a point on the wrong side of the centre. A NaN z passes, and the camera refuses what comes of it.
-pub fn undistort(params: EnhancedUnifiedParams, pixel: Pixel) -> Undistorted
+pub fn undistort(params: EnhancedUnifiedParams, pixel: Pixel) -> Result<Settled, Refusal>
     ensures { told result ≡ told (undistort params pixel) }
 {
     let mx = (pixel.0 - params.cx) / params.fx;
     let my = (pixel.1 - params.cy) / params.fy;
     let k = k_of(params.alpha, params.beta, lens::squared_radius(mx, my));
     if k <= 0.0 {
-        return Undistorted::Refused(Refusal::RayNotForward);
+        return Err(Refusal::RayNotForward);
     }
-    Undistorted::At(lens::direct(Point(mx / k, my / k)))
+    Ok(lens::direct(Point(mx / k, my / k)))
 }
 
 // The derivative of norm by the coordinate x.

@@ -1,5 +1,8 @@
 -- What a caller may rely on, of the definitions of specs/ and of the contracts of src/. Assumes nothing.
 use mathlib.Core.Path.{◌≡◌, sym, ap, ◌∙◌}
+use Rattle.core.specs.declared.result.Result.{Result}
+use Rattle.core.specs.declared.result.Result.TheVariants.{Ok, Err}
+use Rattle.lens.specs.declared.Refusal.{Refusal}
 use mathlib.Core.Bool.{Bool}
 use Prim.Native.Nat.{ℕ}
 use native.Mathlib.Omega.{arith}
@@ -11,8 +14,6 @@ use Rattle.camera.specs.declared.Camera.{Camera}
 use Rattle.job.specs.Job.{fresh, told_started, begun_number, admitted}
 use Rattle.job.specs.Rows.{fresh_rows, turn_rows}
 use Rattle.job.specs.declared.Job.{Job}
-use Rattle.job.specs.declared.Started.{Started}
-use Rattle.job.specs.declared.Started.TheVariants as begun
 use Rattle.job.proofs.Numbers as rows
 use Rattle.job.proofs.admitted.Reads as admitted-contract
 use Rattle.job.proofs.begun.Reads as begun-contract
@@ -21,11 +22,11 @@ use Rattle.job.proofs.fresh.Reads as fresh-contract
 -- ---- each contract permits one answer
 
 -- What `fresh` tells determines its answer.
-pub started_one_to_one : (a b : Started) → told_started a ≡ told_started b → a ≡ b
-started_one_to_one (begun.With j) (begun.With k) e = ap begun.With (cc)
-started_one_to_one (begun.With j) (begun.Refused r) e = let z : ◌≡◌ {A = ℕ} 0 1 = cc in absurd (omega arith)
-started_one_to_one (begun.Refused q) (begun.With k) e = let z : ◌≡◌ {A = ℕ} 0 1 = cc in absurd (omega arith)
-started_one_to_one (begun.Refused q) (begun.Refused r) e = ap begun.Refused (number_one_to_one q r (cc))
+pub started_one_to_one : (a b : Result Job Refusal) → told_started a ≡ told_started b → a ≡ b
+started_one_to_one (Ok j) (Ok k) e = ap Ok (cc)
+started_one_to_one (Ok j) (Err r) e = let z : ◌≡◌ {A = ℕ} 0 1 = cc in absurd (omega arith)
+started_one_to_one (Err q) (Ok k) e = let z : ◌≡◌ {A = ℕ} 0 1 = cc in absurd (omega arith)
+started_one_to_one (Err q) (Err r) e = ap Err (number_one_to_one q r (cc))
 
 -- Any two answers to one call that the contract of `fresh` permits are equal; and so for `begun`
 pub fresh_determined : Determined fresh-contract.Post

@@ -1,5 +1,6 @@
 -- What a record is refused by: the first row that holds. Assumes nothing.
 use mathlib.Core.Path.{◌≡◌, refl, ap, ◌∙◌}
+use Rattle.core.specs.declared.result.Result.TheVariants.{Ok, Err}
 use mathlib.Core.Bool.{Bool, true, false, not, cond, ◌&&◌, ◌||◌}
 use mathlib.Core.List.{[], ◌∷◌}
 use Prim.Native.Nat.{ℕ, ◌*◌, min}
@@ -10,8 +11,7 @@ use lib.Ieee.Scale.{finite}
 use Rattle.lens.specs.Finite.{all_finite}
 use Rattle.lens.specs.Judgement.{verdict, decided}
 use Rattle.lens.specs.Rows.{◌when◌, first}
-use Rattle.lens.specs.declared.Judgement.{Judgement}
-use Rattle.lens.specs.declared.Judgement.TheVariants.{Taken, Refused}
+use Rattle.lens.specs.Judgement.{Judgement}
 use Rattle.lens.specs.declared.Refusal.TheVariants.{NotFinite, ZeroFocalLength, WrongSize, WrongLength, IncrementNotPositive, AnswerNotFinite, ImpossibleRecord}
 use Rattle.region.specs.Region.{four, increments, flat, wrong}
 use Rattle.region.specs.Size.{sized}
@@ -26,11 +26,10 @@ use Rattle.table_plans.specs.Tables.{opens_for, sweep_of}
 use Rattle.job.specs.Job.{fresh_job, fresh, told_started, begun_number, admitted}
 use Rattle.job.specs.Rows.{fresh_rows, unfit, no_tally, no_build, turn_rows}
 use Rattle.job.specs.declared.Job.{Job}
-use Rattle.job.specs.declared.Started.TheVariants as begun
 
 -- the three tests of a camera and its size
 abbrev by_tests : Bool → Bool → Bool → Judgement
-by_tests g z s = cond g (cond z (Refused ZeroFocalLength) (cond s Taken (Refused WrongSize))) (Refused NotFinite)
+by_tests g z s = cond g (cond z (Err ZeroFocalLength) (cond s (Ok tt) (Err WrongSize))) (Err NotFinite)
 
 -- ---- the rows of a fresh record
 
@@ -45,14 +44,14 @@ nowhere_finite = refl
 pub fresh_number : (camera : Camera) (width height : ℕ) (strict : Bool) → begun_number (told_started (fresh camera width height strict)) ≡ first (fresh_rows camera width height)
 unfolding fresh opens_for
 fresh_number camera width height strict =
-    ap (λ (b : Bool). begun_number (told_started (decided (by_tests (all_finite (parameters camera) && b) (zero_focal camera) (sized width height)) begun.Refused (begun.With job)))) nowhere_finite
-    ∙ ap (λ (b : Bool). begun_number (told_started (decided (by_tests b (zero_focal camera) (sized width height)) begun.Refused (begun.With job)))) (and_true (all_finite (parameters camera)))
+    ap (λ (b : Bool). begun_number (told_started (decided (by_tests (all_finite (parameters camera) && b) (zero_focal camera) (sized width height)) Err (Ok job)))) nowhere_finite
+    ∙ ap (λ (b : Bool). begun_number (told_started (decided (by_tests b (zero_focal camera) (sized width height)) Err (Ok job)))) (and_true (all_finite (parameters camera)))
     ∙ go (all_finite (parameters camera)) (zero_focal camera) (sized width height)
   where
     job : Job
     job = fresh_job camera width height strict
 
-    go : (g z s : Bool) → begun_number (told_started (decided (by_tests g z s) begun.Refused (begun.With job))) ≡ first ((4 when not g) ∷ (5 when z) ∷ (6 when not s) ∷ [])
+    go : (g z s : Bool) → begun_number (told_started (decided (by_tests g z s) Err (Ok job))) ≡ first ((4 when not g) ∷ (5 when z) ∷ (6 when not s) ∷ [])
     go false z s = refl
     go true true s = refl
     go true false true = refl
@@ -71,7 +70,7 @@ fine_not : (by : Increments) → eqb (verdict (wrong by)) 0 ≡ not (unfit by)
 unfolding wrong
 fine_not by = go (flat by.0 || flat by.1) (finite by.0 && finite by.1)
   where
-    go : (f p : Bool) → eqb (verdict (cond f (Refused IncrementNotPositive) (cond p Taken (Refused AnswerNotFinite)))) 0 ≡ not (f || not p)
+    go : (f p : Bool) → eqb (verdict (cond f (Err IncrementNotPositive) (cond p (Ok tt) (Err AnswerNotFinite)))) 0 ≡ not (f || not p)
     go true p = refl
     go false true = refl
     go false false = refl
@@ -119,7 +118,7 @@ admitted_number job places =
     (go (all_finite (parameters job.camera) && all_finite (four job.at.region)) (zero_focal job.camera) (sized job.width job.height) (eqb places (2 * (job.width * job.height))) (no_build job.camera job.width job.height job.strict job.at))
   where
     go : (g z s e n : Bool)
-        → verdict (decided (by_tests g z s) Refused (cond e (cond (not n) Taken (Refused ImpossibleRecord)) (Refused WrongLength)))
+        → verdict (decided (by_tests g z s) Err (cond e (cond (not n) (Ok tt) (Err ImpossibleRecord)) (Err WrongLength)))
         ≡ first ((4 when not g) ∷ (5 when z) ∷ (6 when not s) ∷ (7 when not e) ∷ (13 when n) ∷ [])
     go false z s e n = refl
     go true true s e n = refl

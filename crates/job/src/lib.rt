@@ -12,7 +12,7 @@ ghost use Rattle.table_plans.specs.Tables.{opens_for, sweep_of};
 ghost use Rattle.job.specs.Job.{fresh_job, fresh, told_started, admitted};
 
 use camera::Camera;
-use lens::{Judgement, Refusal};
+use lens::Refusal;
 use plans::Progress;
 use region::Region;
 
@@ -25,13 +25,6 @@ pub struct Job {
     pub height: usize,
     pub strict: bool,
     pub at: Progress,
-}
-
-// A fresh record, or why there is none.
-#[derive(Clone, Copy)]
-pub enum Started {
-    With(Job),
-    Refused(Refusal),
 }
 
 // The box of a fresh record: zeros, until the first sample.
@@ -67,31 +60,31 @@ pub fn begun(camera: Camera, width: usize, height: usize, strict: bool) -> Job
 }
 
 // 4, 5, 6: what refuses a record before its table is looked at.
-fn opens(camera: Camera, width: usize, height: usize, region: Region) -> Judgement
+fn opens(camera: Camera, width: usize, height: usize, region: Region) -> Result<(), Refusal>
     ensures { verdict result ≡ verdict (opens_for camera width height region) }
 {
     if !camera::finite_parameters(camera) {
-        return Judgement::Refused(Refusal::NotFinite);
+        return Err(Refusal::NotFinite);
     }
     if !region::finite_region(region) {
-        return Judgement::Refused(Refusal::NotFinite);
+        return Err(Refusal::NotFinite);
     }
     if camera::zero_focal(camera) {
-        return Judgement::Refused(Refusal::ZeroFocalLength);
+        return Err(Refusal::ZeroFocalLength);
     }
     if !region::sized(width, height) {
-        return Judgement::Refused(Refusal::WrongSize);
+        return Err(Refusal::WrongSize);
     }
-    Judgement::Taken
+    Ok(())
 }
 
 // A fresh record, with no unit done.
-pub fn fresh(camera: Camera, width: usize, height: usize, strict: bool) -> Started
+pub fn fresh(camera: Camera, width: usize, height: usize, strict: bool) -> Result<Job, Refusal>
     ensures { told_started result ≡ told_started (fresh camera width height strict) }
 {
     match opens(camera, width, height, nowhere()) {
-        Judgement::Refused(refusal) => Started::Refused(refusal),
-        Judgement::Taken => Started::With(begun(camera, width, height, strict)),
+        Err(refusal) => Err(refusal),
+        Ok(()) => Ok(begun(camera, width, height, strict)),
     }
 }
 
@@ -137,8 +130,8 @@ fn fine(region: Region, width: usize, height: usize, before: bool) -> bool
         return true;
     }
     match region::wrong(region::increments_of(region, width, height)) {
-        Judgement::Taken => true,
-        Judgement::Refused(_) => false,
+        Ok(()) => true,
+        Err(_) => false,
     }
 }
 
@@ -165,7 +158,7 @@ fn possible(camera: Camera, width: usize, height: usize, strict: bool, at: Progr
 }
 
 // 4, 5, 6, 7, 13, before any unit.
-pub fn admitted(job: Job, places: usize) -> Judgement
+pub fn admitted(job: Job, places: usize) -> Result<(), Refusal>
     ensures { verdict result ≡ verdict (admitted job places) }
 {
     let camera = job.camera;
@@ -174,8 +167,8 @@ pub fn admitted(job: Job, places: usize) -> Judgement
     let height = job.height;
     let opened = opens(camera, width, height, at.region);
     match opened {
-        Judgement::Refused(refusal) => Judgement::Refused(refusal),
-        Judgement::Taken => sound(camera, width, height, job.strict, at, places),
+        Err(refusal) => Err(refusal),
+        Ok(()) => sound(camera, width, height, job.strict, at, places),
     }
 }
 
@@ -187,15 +180,15 @@ fn sound(
     strict: bool,
     at: Progress,
     places: usize,
-) -> Judgement
+) -> Result<(), Refusal>
     requires { Sized width height }
     ensures { verdict result ≡ verdict (sound (sweep_of camera width height strict) at places) }
 {
     if places != 2 * (width * height) {
-        return Judgement::Refused(Refusal::WrongLength);
+        return Err(Refusal::WrongLength);
     }
     if possible(camera, width, height, strict, at) {
-        return Judgement::Taken;
+        return Ok(());
     }
-    Judgement::Refused(Refusal::ImpossibleRecord)
+    Err(Refusal::ImpossibleRecord)
 }

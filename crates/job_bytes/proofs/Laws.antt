@@ -1,10 +1,10 @@
 -- What a caller may rely on, of the definitions of specs/ and of the contracts of src/. Assumes nothing.
 use Rattle.std.proofs.Common.{◌≡◌, ℕ, ◌/◌, ◌^◌, ◌<◌, Bool, true, false, eqb, List, length, sym, refl, ap, ◌∙◌, arith}
+use Rattle.core.specs.declared.result.Result.TheVariants.{Ok, Err}
 use lib.Ieee.{binary64}
 use lib.Ieee.Bits.{of_bits-fits}
 use Rattle.exact.specs.Determined.{Determined, DeterminedWith}
 use Rattle.lens.specs.Fits.{AllFit}
-use Rattle.lens.specs.declared.Judgement.TheVariants.{Taken}
 use Rattle.lens.specs.declared.Refusal.TheVariants.{WrongLength}
 use Rattle.region.specs.Fits.{FourFit}
 use Rattle.region.specs.Size.{Sized}
@@ -22,7 +22,6 @@ use Rattle.job.specs.declared.Job.{Job}
 use Rattle.job_bytes.specs.Places.{updates_place, params_place, width_place, height_place, done_place, edges_place, region_place, unsettled_place, first_place, mark_place, check_place, record_length, length_before}
 use Rattle.job_bytes.specs.Bytes.{record_bytes, record_read, fresh_bytes}
 use Rattle.job_bytes.specs.Check.{intact, whole, RecordBytes, WordApart, ByteApart}
-use Rattle.job_bytes.specs.declared.Found.TheVariants.{Of, Refused}
 use Rattle.job_bytes.proofs.Reading.{read_misfit, read_job}
 use Rattle.job_bytes.proofs.Placing as placing
 use Rattle.job_bytes.proofs.Back.{camera_fits, model_back, job_back}
@@ -66,7 +65,7 @@ pub places :
 places = (refl, refl, refl, refl, refl, refl, refl, refl, refl, refl, refl, refl)
 
 -- A record of a release of before, which had fewer places for parameters, is refused by its length, with 7.
-pub of_before_refused : (bs : List ℕ) → length bs ≡ length_before → record_read bs ≡ Refused WrongLength
+pub of_before_refused : (bs : List ℕ) → length bs ≡ length_before → record_read bs ≡ Err WrongLength
 of_before_refused bs e = sym (read_misfit bs (λ f. omega (arith, e, f)))
 
 -- What a record's bytes can hold: its numbers are f64s, its size, its updates and its tallies have 32 bits at most, its units 64.
@@ -82,10 +81,10 @@ pub record Writable (job : Job) : Type 0 where
   pub done : job.at.done < 2 ^ 64
 
 -- A record written and read back is the same record.
-pub written_read : (job : Job) → Writable job → record_read (record_bytes job) ≡ Of job
+pub written_read : (job : Job) → Writable job → record_read (record_bytes job) ≡ Ok job
 written_read job w =
     sym (read_job (record_bytes job) (length_record job) (omega (arith, model_back job, (camera_known job.camera).0)))
-    ∙ ap Of (job_back job w.params w.edges w.region w.width w.height w.updates w.unsettled w.first w.done)
+    ∙ ap Ok (job_back job w.params w.edges w.region w.width w.height w.updates w.unsettled w.first w.done)
 
 -- ---- the check word
 
@@ -138,7 +137,7 @@ pub fresh_read :
     (fresh_bytes model params width height m lent).code ≡ 0 →
     ((fresh_bytes model params width height m lent).answer ≡ record_bytes (fresh_job (camera_of model params) width height (eqb m 1)))
     × Writable (fresh_job (camera_of model params) width height (eqb m 1))
-    × (record_read (fresh_bytes model params width height m lent).answer ≡ Of (fresh_job (camera_of model params) width height (eqb m 1)))
+    × (record_read (fresh_bytes model params width height m lent).answer ≡ Ok (fresh_job (camera_of model params) width height (eqb m 1)))
 fresh_read model params width height m lent z =
     let says = fresh_zero model params width height m lent z in
     let s = (opened (camera_of model params) width height nowhere says.1).size in
@@ -149,5 +148,5 @@ fresh_read model params width height m lent z =
 pub fresh_opens_zero :
     (model : ℕ) (params : List ℕ) (width height m : ℕ) (lent : List ℕ) →
     (fresh_bytes model params width height m lent).code ≡ 0 →
-    opens_for (camera_of model params) width height nowhere ≡ Taken
+    opens_for (camera_of model params) width height nowhere ≡ Ok tt
 fresh_opens_zero model params width height m lent z = (fresh_zero model params width height m lent z).1

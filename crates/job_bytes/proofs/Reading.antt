@@ -1,5 +1,6 @@
 -- What is read, each at its place, and why nothing is. Assumes nothing.
 use Rattle.std.proofs.Common.{◌≡◌, ℕ, ◌+◌, ◌-◌, ◌<◌, ◌≤◌, eqb, List, length, take, drop, refl, ◌∙◌, ap₂, arith, length-drop, take_all, eq-eqb, ne_eqb, le-leb}
+use Rattle.core.specs.declared.result.Result.TheVariants.{Ok, Err}
 use borrow.Author.Tests.{lt-leb}
 use lib.Ieee.{Float}
 use Rattle.lens.specs.declared.Refusal.TheVariants.{UnknownModel, WrongLength}
@@ -12,7 +13,6 @@ use Rattle.camera_bytes.specs.Reading.{camera_of}
 use Rattle.job.specs.declared.Job.{Job}
 use Rattle.job_bytes.specs.Places.{updates_place, params_place, width_place, height_place, done_place, edges_place, region_place, unsettled_place, first_place, mark_place, record_length}
 use Rattle.job_bytes.specs.Bytes.{job_at, record_read}
-use Rattle.job_bytes.specs.declared.Found.TheVariants.{Of, Refused}
 
 module _ (bs : List ℕ) where
   -- the bytes from the parameters on, as the code takes them
@@ -50,14 +50,14 @@ module _ (bs : List ℕ) where
       let k : camera ≡ camera_of (half bs 0) (drop params_place bs) = c ∙ ap₂ camera_of m rest in
       rw (k, w, h, s, d, e, r, u, n, f) refl
 
-  pub read_misfit : (length bs ≡ record_length → ⊥) → Refused WrongLength ≡ record_read bs
+  pub read_misfit : (length bs ≡ record_length → ⊥) → Err WrongLength ≡ record_read bs
   unfolding record_read
   read_misfit n = simp (ne_eqb (length bs) record_length n)
 
-  pub read_unknown : length bs ≡ record_length → last < half bs 0 → Refused UnknownModel ≡ record_read bs
+  pub read_unknown : length bs ≡ record_length → last < half bs 0 → Err UnknownModel ≡ record_read bs
   unfolding record_read
   read_unknown e h = simp (eq-eqb (length bs) record_length e, lt-leb (half bs 0) last h)
 
-  pub read_job : length bs ≡ record_length → half bs 0 ≤ last → Of (job_at bs) ≡ record_read bs
+  pub read_job : length bs ≡ record_length → half bs 0 ≤ last → Ok (job_at bs) ≡ record_read bs
   unfolding record_read
   read_job e h = simp (eq-eqb (length bs) record_length e, le-leb (half bs 0) last h)

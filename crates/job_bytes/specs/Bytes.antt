@@ -1,25 +1,21 @@
 -- The record of a table that is being built, as bytes, and read back out of any bytes. Where each part stands is told
 -- in specs/Places. Definitions only.
-use Rattle.std.specs.Prelude.{ℕ, Bool, cond, List, [], ◌++◌, length, drop, ◌==◌, nat_le}
+use Rattle.std.specs.Prelude.{ℕ, Bool, cond, List, [], ◌++◌, length, drop, ◌==◌, nat_le, Result, Ok, Err}
+use Rattle.camera.specs.declared.Camera.{Camera}
+use Rattle.lens.specs.declared.Refusal.{Refusal}
 use Rattle.lens.specs.declared.Refusal.TheVariants.{UnknownModel, WrongLength, ImpossibleRecord}
 use Rattle.region.specs.Region.{four}
 use Rattle.camera.specs.Numbers.{last, model_number, padded}
 use Rattle.little_endian.specs.Bytes.{bytes, half, word, floats}
 use Rattle.region_bytes.specs.Box.{box_at}
 use Rattle.camera_bytes.specs.Reading.{camera_of, read}
-use Rattle.camera_bytes.specs.declared.Asked.{Asked}
-use Rattle.camera_bytes.specs.declared.Asked.TheVariants as asked
 use Rattle.job.specs.Job.{Begun, a_job, no_job, fresh, told_started}
 use Rattle.job.specs.declared.Job.{Job}
-use Rattle.job.specs.declared.Started.{Started}
-use Rattle.job.specs.declared.Started.TheVariants as begun
 use Rattle.given.specs.Given.{Given, answered}
 use Rattle.job_bytes.specs.Places.{updates_place, params_place, width_place, height_place, done_place}
 use Rattle.job_bytes.specs.Places.{edges_place, region_place, unsettled_place, first_place, mark_place}
 use Rattle.job_bytes.specs.Places.{record_length}
 use Rattle.job_bytes.specs.Check.{check_of}
-use Rattle.job_bytes.specs.declared.Found.{Found}
-use Rattle.job_bytes.specs.declared.Found.TheVariants.{Of, Refused}
 
 -- ---- written
 
@@ -70,22 +66,22 @@ job_at bs = record {
 
 -- 7 for bytes of another length, which have no places to read at; then 1. The turn judges mark and check word, after
 -- all else
-unfoldable pub record_read : List ℕ → Found
+unfoldable pub record_read : List ℕ → Result Job Refusal
 record_read bs =
     cond (length bs == record_length)
-    (cond (nat_le (half bs 0) last) (Of (job_at bs)) (Refused UnknownModel))
-    (Refused WrongLength)
+    (cond (nat_le (half bs 0) last) (Ok (job_at bs)) (Err UnknownModel))
+    (Err WrongLength)
 
 -- ---- a fresh record: 1, 3, then 4, 5, 6, then 7 for a buffer of another length, then 13 for a mark
 
 -- a mark that is neither 0 nor 1, where nothing else is wrong
-abbrev pub known_mark : ℕ → Started → Started
-known_mark m (begun.With job) = cond (nat_le m 1) (begun.With job) (begun.Refused ImpossibleRecord)
-known_mark m (begun.Refused refusal) = begun.Refused refusal
+abbrev pub known_mark : ℕ → Result Job Refusal → Result Job Refusal
+known_mark m (Ok job) = cond (nat_le m 1) (Ok job) (Err ImpossibleRecord)
+known_mark m (Err refusal) = Err refusal
 
-abbrev pub started : Asked → ℕ → ℕ → ℕ → Started
-started (asked.Of camera) width height m = known_mark m (fresh camera width height (m == 1))
-started (asked.Refused refusal) width height m = begun.Refused refusal
+abbrev pub started : Result Camera Refusal → ℕ → ℕ → ℕ → Result Job Refusal
+started (Ok camera) width height m = known_mark m (fresh camera width height (m == 1))
+started (Err refusal) width height m = Err refusal
 
 -- no bytes go with a refusal
 abbrev pub give_started : Begun → List ℕ → Given

@@ -14,8 +14,7 @@ ghost use Rattle.job_bytes.specs.Bytes.{record_read, known_mark, started, give_s
 
 use camera::Camera;
 use camera::numbers::{LAST, MOST};
-use camera_bytes::Asked;
-use job::{Job, Started};
+use job::Job;
 use lens::Refusal;
 use plans::Progress;
 use region::Region;
@@ -48,13 +47,6 @@ pub const LENGTH: usize = CHECK + 8;
 
 // What the check word's sum starts from: the bytes "LENSJOB2".
 const CHECK_START: u64 = 0x32424f4a534e454c;
-
-// The record that bytes hold, or why they hold none.
-#[derive(Clone, Copy)]
-pub enum Found {
-    Of(Job),
-    Refused(Refusal),
-}
 
 // What stands at each place, of a model that there is. The boxes are read number by number, and not by region_bytes: a
 // record's length is known, and so the compiler tests none of their places.
@@ -90,17 +82,17 @@ fn job_at(bytes: &[u8], model: u8) -> Job
 
 // Any bytes at all are a record, once their length and model are right: which records no build can have, and which were
 // damaged, is for the turn to say.
-pub fn read(bytes: &[u8]) -> Found
+pub fn read(bytes: &[u8]) -> Result<Job, Refusal>
     ensures { result ≡ record_read bytes.now }
 {
     if bytes.len() != LENGTH {
-        return Found::Refused(Refusal::WrongLength);
+        return Err(Refusal::WrongLength);
     }
     let model = little_endian::half(bytes, 0);
     if (LAST as u32) < model {
-        return Found::Refused(Refusal::UnknownModel);
+        return Err(Refusal::UnknownModel);
     }
-    Found::Of(job_at(bytes, model as u8))
+    Ok(job_at(bytes, model as u8))
 }
 
 // The check word of the words that stand before it: their sum.
@@ -208,27 +200,27 @@ pub fn write(job: Job, out: &mut [u8])
 }
 
 // 13 for a mark that is neither 0 nor 1.
-fn known_mark(mark: u8, started: Started) -> Started
+fn known_mark(mark: u8, started: Result<Job, Refusal>) -> Result<Job, Refusal>
     ensures { told_started result ≡ told_started (known_mark mark started) }
 {
     match started {
-        Started::With(job) => {
+        Ok(job) => {
             if mark <= 1 {
-                return Started::With(job);
+                return Ok(job);
             }
-            Started::Refused(Refusal::ImpossibleRecord)
+            Err(Refusal::ImpossibleRecord)
         }
-        Started::Refused(refusal) => Started::Refused(refusal),
+        Err(refusal) => Err(refusal),
     }
 }
 
 // A fresh record of the camera that is asked for, or why there is none.
-fn started(asked: Asked, width: usize, height: usize, mark: u8) -> Started
+fn started(asked: Result<Camera, Refusal>, width: usize, height: usize, mark: u8) -> Result<Job, Refusal>
     ensures { told_started result ≡ told_started (started asked width height mark) }
 {
     match asked {
-        Asked::Of(camera) => known_mark(mark, job::fresh(camera, width, height, mark == 1)),
-        Asked::Refused(refusal) => Started::Refused(refusal),
+        Ok(camera) => known_mark(mark, job::fresh(camera, width, height, mark == 1)),
+        Err(refusal) => Err(refusal),
     }
 }
 
@@ -243,12 +235,12 @@ fn give_job(job: Job, out: &mut [u8]) -> u8
     code
 }
 
-fn give_started(started: Started, out: &mut [u8]) -> u8
+fn give_started(started: Result<Job, Refusal>, out: &mut [u8]) -> u8
     ensures { given result out.new ≡ give_started (told_started started) out.old }
 {
     match started {
-        Started::With(job) => give_job(job, out),
-        Started::Refused(refusal) => given::code(lens::number(refusal), out.len() == LENGTH),
+        Ok(job) => give_job(job, out),
+        Err(refusal) => given::code(lens::number(refusal), out.len() == LENGTH),
     }
 }
 

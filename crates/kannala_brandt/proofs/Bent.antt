@@ -1,5 +1,8 @@
 -- Two numbers to check by hand off the axis, with a k0 that isn't 0. The roots they take are of squares, and all else computes. Assumes nothing.
 use mathlib.Core.Path.{◌≡◌, refl, ap, ◌∙◌}
+use Rattle.core.specs.declared.result.Result.TheVariants.{Ok}
+use Rattle.core.specs.declared.option.Option.{Option}
+use Rattle.core.specs.declared.option.Option.TheVariants.{Some}
 use mathlib.Core.Bool.{true, false}
 use Prim.Native.Nat.{◌*◌, ◌^◌}
 use native.Mathlib.Nat.{mul-pos}
@@ -11,15 +14,12 @@ use lib.Ieee.Fits.{div-fits, of_int-fits}
 use Rattle.exact.specs.F64.{minus, magnitude, ◌⊕◌, ◌⊗◌, ◌⊘◌}
 use Rattle.root.specs.Root.{root}
 use Rattle.root.proofs.Laws.{root_exact}
-use Rattle.arctan.specs.declared.Slope.{Slope}
-use Rattle.arctan.specs.declared.Slope.TheVariants.{Is}
 use Rattle.lens.specs.ByHand.{halves, quarters, xy, uv}
 use Rattle.lens.specs.Constants.{ones, eps, int}
 use Rattle.lens.specs.Passes.{passes}
 use Rattle.lens.specs.Radius.{squared_radius}
 use Rattle.lens.specs.declared.Pixel.{Pixel}
-use Rattle.lens.specs.declared.Undistorted.{Undistorted}
-use Rattle.lens.specs.declared.Undistorted.TheVariants.{At}
+use Rattle.lens.specs.Undistorted.{Undistorted}
 use Rattle.kannala_brandt.specs.KannalaBrandt.{camera, powers, polynomial, d_thd_wtr_th, step_from, pass, limit, ended, newton, sign_of, flag, outward, un_of, vn_of, rth2, distort, undistort}
 use Rattle.kannala_brandt.specs.declared.KannalaBrandtParams.{KannalaBrandtParams}
 use Rattle.kannala_brandt.specs.declared.Reached.{Reached}
@@ -99,7 +99,7 @@ unfolding newton
 newton_ends = ap from root_of_quarter ∙ one_pass
 
 -- what is left of undistort, once the radius, the angle and its tangent are known
-abbrev found : Float → Reached → Slope → Undistorted
+abbrev found : Float → Reached → Option Float → Undistorted
 found rth at slope = outward slope at rth (un_of inwards centre) (vn_of inwards centre)
 
 upright : sign_of (quarters 3) ≡ ones
@@ -141,12 +141,12 @@ above : flag there ≡ true
 unfolding lt div of_bits of_int
 above = refl
 
-unbent : found (quarters 1) there (Is (quarters 3)) ≡ At record { point = xy (quarters 3) (int 0); updates = 1; flag = true }
+unbent : found (quarters 1) there (Some (quarters 3)) ≡ Ok record { point = xy (quarters 3) (int 0); updates = 1; flag = true }
 unbent = rw (upright, across, along, above) refl
 
 pub bent_undistorted :
-    (g : Float → Slope) → g (halves 1) ≡ Is (quarters 3)
-    → undistort g inwards centre ≡ At record { point = xy (quarters 3) (int 0); updates = 1; flag = true }
+    (g : Float → Option Float) → g (halves 1) ≡ Some (quarters 3)
+    → undistort g inwards centre ≡ Ok record { point = xy (quarters 3) (int 0); updates = 1; flag = true }
 bent_undistorted g h =
     rw off_axis'
     (ap (λ (r : Float). found r (newton inwards r) (g (newton inwards r).th)) (ap root squared ∙ root_of_sixteenth)

@@ -1,19 +1,19 @@
 -- What Newton and undistort find is rounded to f64, whatever the parameters, the pixel and the tangent are. Assumes nothing.
 use mathlib.Core.Bool.{Bool, true, false, cond}
+use Rattle.core.specs.declared.result.Result.TheVariants.{Ok}
+use Rattle.core.specs.declared.option.Option.{Option}
+use Rattle.core.specs.declared.option.Option.TheVariants.{Some, None}
 use Prim.Native.Nat.{ℕ, suc}
 use lib.Ieee.{Float, binary64, le}
 use lib.Ieee.Fits.{sub-fits, div-fits}
 use Rattle.exact.specs.F64.{◌⊖◌, ◌⊗◌}
 use Rattle.root.specs.Root.{root}
-use Rattle.arctan.specs.declared.Slope.{Slope}
-use Rattle.arctan.specs.declared.Slope.TheVariants.{Is, TooSteep}
 use Rattle.lens.specs.Constants.{eps}
 use Rattle.lens.specs.Fits.{Fit, PointFits}
 use Rattle.lens.specs.Passes.{passes}
 use Rattle.lens.specs.Undistorted.{direct}
 use Rattle.lens.specs.declared.Pixel.{Pixel}
-use Rattle.lens.specs.declared.Undistorted.{Undistorted}
-use Rattle.lens.specs.declared.Undistorted.TheVariants.{At}
+use Rattle.lens.specs.Undistorted.{Undistorted}
 use Rattle.lens.proofs.Passes.{passes_keep}
 use Rattle.kannala_brandt.specs.KannalaBrandt.{step_from, pass, ended, start, newton, sign_of, outward, un_of, vn_of, rth2, undistort}
 use Rattle.kannala_brandt.specs.declared.KannalaBrandtParams.{KannalaBrandtParams}
@@ -40,12 +40,12 @@ pub angle_fits : (params : KannalaBrandtParams) (rth : Float) → Fit (newton pa
 unfolding newton
 angle_fits params rth = passes_fit params rth 19 (start rth)
 
-outward_fits : (slope : Slope) (at : Reached) (rth un vn : Float) → PointFits (outward slope at rth un vn)
-outward_fits TooSteep at rth un vn = tt
-outward_fits (Is radius) at rth un vn = (div-fits binary64 (sign_of radius ⊗ radius ⊗ un) rth, div-fits binary64 (sign_of radius ⊗ radius ⊗ vn) rth)
+outward_fits : (slope : Option Float) (at : Reached) (rth un vn : Float) → PointFits (outward slope at rth un vn)
+outward_fits None at rth un vn = tt
+outward_fits (Some radius) at rth un vn = (div-fits binary64 (sign_of radius ⊗ radius ⊗ un) rth, div-fits binary64 (sign_of radius ⊗ radius ⊗ vn) rth)
 
 -- The point that undistort finds is of two f64s.
-pub undistort_fits : (tan : Float → Slope) (params : KannalaBrandtParams) (pixel : Pixel) → PointFits (undistort tan params pixel)
+pub undistort_fits : (tan : Float → Option Float) (params : KannalaBrandtParams) (pixel : Pixel) → PointFits (undistort tan params pixel)
 undistort_fits tan params pixel = go (le (rth2 params pixel) eps)
   where
     rth : Float
@@ -54,6 +54,6 @@ undistort_fits tan params pixel = go (le (rth2 params pixel) eps)
     far : Undistorted
     far = outward (tan (newton params rth).th) (newton params rth) rth (un_of params pixel) (vn_of params pixel)
 
-    go : (near : Bool) → PointFits (cond near (At (direct record { 0 = un_of params pixel; 1 = vn_of params pixel })) far)
+    go : (near : Bool) → PointFits (cond near (Ok (direct record { 0 = un_of params pixel; 1 = vn_of params pixel })) far)
     go true = (div-fits binary64 (pixel.0 ⊖ params.cx) params.fx, div-fits binary64 (pixel.1 ⊖ params.cy) params.fy)
     go false = outward_fits (tan (newton params rth).th) (newton params rth) rth (un_of params pixel) (vn_of params pixel)

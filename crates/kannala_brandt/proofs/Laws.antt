@@ -1,5 +1,8 @@
 -- What a caller may rely on, of the definitions of specs/ and of the contracts of src/. Assumes nothing.
 use mathlib.Core.Path.{◌≡◌, refl, sym, ap, ◌∙◌}
+use Rattle.core.specs.declared.result.Result.TheVariants.{Ok, Err}
+use Rattle.core.specs.declared.option.Option.{Option}
+use Rattle.core.specs.declared.option.Option.TheVariants.{Some, None}
 use mathlib.Core.Logic.{◌↔◌, ◌⊎◌, inl, inr}
 use mathlib.Core.Bool.{Bool, true, false, cond, true≢false, ◌&&◌}
 use Prim.Native.Nat.{ℕ, ◌≤◌}
@@ -9,8 +12,6 @@ use lib.Ieee.{Float, lt, le, add, sub, mul, div, of_bits, of_int}
 use Rattle.exact.specs.Determined.{Determined}
 use Rattle.exact.specs.F64.{minus}
 use Rattle.root.specs.Root.{root}
-use Rattle.arctan.specs.declared.Slope.{Slope}
-use Rattle.arctan.specs.declared.Slope.TheVariants.{Is, TooSteep}
 use Rattle.lens.specs.ByHand.{halves, quarters, xy, uv}
 use Rattle.lens.specs.Constants.{zeros, eps, int}
 use Rattle.lens.specs.Radius.{squared_radius}
@@ -20,8 +21,7 @@ use Rattle.lens.specs.declared.Point.{Point}
 use Rattle.lens.specs.declared.Refusal.{Refusal}
 use Rattle.lens.specs.declared.Settled.{Settled}
 use Rattle.lens.specs.declared.Refusal.TheVariants.{AngleTooLarge}
-use Rattle.lens.specs.declared.Undistorted.{Undistorted}
-use Rattle.lens.specs.declared.Undistorted.TheVariants.{At, Refused}
+use Rattle.lens.specs.Undistorted.{Undistorted}
 use Rattle.lens.proofs.Laws.{told_one_to_one}
 use Rattle.lens.proofs.Passes.{passes_most}
 use Rattle.kannala_brandt.specs.AsWritten.{dx_distort_x_as_written, dx_distort_params_as_written}
@@ -76,31 +76,31 @@ module _ (params : KannalaBrandtParams) where
     end = newton params (root (rth2 params pixel))
 
     -- Two tangents that agree on the angle where Newton ends give the pixel the same answer.
-    pub given_tangent : (f g : Float → Slope) → f end.th ≡ g end.th → undistort f params pixel ≡ undistort g params pixel
+    pub given_tangent : (f g : Float → Option Float) → f end.th ≡ g end.th → undistort f params pixel ≡ undistort g params pixel
     given_tangent f g e = rw e refl
 
     -- Near the axis the answer is (un, vn), with 0 updates and the flag yes.
     pub near_axis :
-        (f : Float → Slope) → le (rth2 params pixel) eps ≡ true → undistort f params pixel ≡ At (direct (xy (un_of params pixel) (vn_of params pixel)))
+        (f : Float → Option Float) → le (rth2 params pixel) eps ≡ true → undistort f params pixel ≡ Ok (direct (xy (un_of params pixel) (vn_of params pixel)))
     near_axis f h = rw h refl
 
     -- Elsewhere it is refused, always with 10, exactly if the angle where Newton ends has no tangent.
     pub refused_exactly :
-        (f : Float → Slope) (r : Refusal)
-        → (undistort f params pixel ≡ Refused r) ↔ ((r ≡ AngleTooLarge) × (le (rth2 params pixel) eps ≡ false) × (f end.th ≡ TooSteep))
+        (f : Float → Option Float) (r : Refusal)
+        → (undistort f params pixel ≡ Err r) ↔ ((r ≡ AngleTooLarge) × (le (rth2 params pixel) eps ≡ false) × (f end.th ≡ None))
     refused_exactly f r = (forth (le (rth2 params pixel) eps) refl (f end.th) refl, λ h. rw (h.0, h.1, h.2) refl)
       where
         forth :
-            (b : Bool) → le (rth2 params pixel) eps ≡ b → (s : Slope) → f end.th ≡ s
-            → undistort f params pixel ≡ Refused r → (r ≡ AngleTooLarge) × (le (rth2 params pixel) eps ≡ false) × (f end.th ≡ TooSteep)
+            (b : Bool) → le (rth2 params pixel) eps ≡ b → (s : Option Float) → f end.th ≡ s
+            → undistort f params pixel ≡ Err r → (r ≡ AngleTooLarge) × (le (rth2 params pixel) eps ≡ false) × (f end.th ≡ None)
         forth true near s e h = let z : ◌≡◌ {A = ℕ} 0 1 = cc (near_axis f near) in absurd (omega arith)
-        forth false far (Is t) e h = let k = rw (far, e) at h in let z : ◌≡◌ {A = ℕ} 0 1 = cc in absurd (omega arith)
-        forth false far TooSteep e h = let k = rw (far, e) at h in (cc, far, e)
+        forth false far (Some t) e h = let k = rw (far, e) at h in let z : ◌≡◌ {A = ℕ} 0 1 = cc in absurd (omega arith)
+        forth false far None e h = let k = rw (far, e) at h in (cc, far, e)
 
     -- The flag of an answered pixel says yes exactly where the answer is the direct one, or where Newton's last step passed its test and the angle it
     -- ended at is above 0.
     pub flag_exactly :
-        (f : Float → Slope) (s : Settled) → undistort f params pixel ≡ At s
+        (f : Float → Option Float) (s : Settled) → undistort f params pixel ≡ Ok s
         → (s.flag ≡ true) ↔ ((le (rth2 params pixel) eps ≡ true) ⊎ ((end.ended ≡ true) × (lt zeros end.th ≡ true)))
     flag_exactly f s h = go (le (rth2 params pixel) eps) refl (f end.th) refl
       where
@@ -110,10 +110,10 @@ module _ (params : KannalaBrandtParams) where
         Exactly : Type 0
         Exactly = (s.flag ≡ true) ↔ ((le (rth2 params pixel) eps ≡ true) ⊎ ((end.ended ≡ true) × (lt zeros end.th ≡ true)))
 
-        go : (b : Bool) → le (rth2 params pixel) eps ≡ b → (t : Slope) → f end.th ≡ t → Exactly
+        go : (b : Bool) → le (rth2 params pixel) eps ≡ b → (t : Option Float) → f end.th ≡ t → Exactly
         go true near t e = (λ y. inl near, λ y. sym (rw near at same))
-        go false far TooSteep e = let k = rw (far, e) at h in let z : ◌≡◌ {A = ℕ} 0 1 = cc in absurd (omega arith)
-        go false far (Is t) e =
+        go false far None e = let k = rw (far, e) at h in let z : ◌≡◌ {A = ℕ} 0 1 = cc in absurd (omega arith)
+        go false far (Some t) e =
             let k : flag end ≡ s.flag = rw (far, e) at same in (
               λ y. inr (both_true end.ended (lt zeros end.th) (k ∙ y)),
               λ y. elim y [ inl near ↦ absurd (true≢false (sym near ∙ far)) | inr p ↦ sym k ∙ rw (p.0, p.1) refl ],
@@ -121,30 +121,30 @@ module _ (params : KannalaBrandtParams) where
 
     -- Request P2 changed the flag and nothing else: refusals, points and updates are those of the rule before it, and where the flag says yes it did so before.
     pub flag_only :
-        (f : Float → Slope)
+        (f : Float → Option Float)
         → ((told (undistort f params pixel)).number ≡ (told (undistort_before f params pixel)).number)
         × ((told (undistort f params pixel)).settled.point ≡ (told (undistort_before f params pixel)).settled.point)
         × ((told (undistort f params pixel)).settled.updates ≡ (told (undistort_before f params pixel)).settled.updates)
         × ((told (undistort f params pixel)).settled.flag ≡ true → (told (undistort_before f params pixel)).settled.flag ≡ true)
     flag_only f = go (le (rth2 params pixel) eps) (f end.th)
       where
-        said : (Reached → Bool) → Bool → Slope → Undistorted
+        said : (Reached → Bool) → Bool → Option Float → Undistorted
         said settles b t =
-            cond b (At (direct (xy (un_of params pixel) (vn_of params pixel))))
+            cond b (Ok (direct (xy (un_of params pixel) (vn_of params pixel))))
             (outward_by settles t end (root (rth2 params pixel)) (un_of params pixel) (vn_of params pixel))
 
         go :
-            (b : Bool) (t : Slope)
+            (b : Bool) (t : Option Float)
             → ((told (said flag b t)).number ≡ (told (said flag_before b t)).number)
             × ((told (said flag b t)).settled.point ≡ (told (said flag_before b t)).settled.point)
             × ((told (said flag b t)).settled.updates ≡ (told (said flag_before b t)).settled.updates)
             × ((told (said flag b t)).settled.flag ≡ true → (told (said flag_before b t)).settled.flag ≡ true)
         go true t = (refl, refl, refl, λ y. y)
-        go false TooSteep = (refl, refl, refl, λ y. y)
-        go false (Is t) = (refl, refl, refl, λ y. (both_true end.ended (lt zeros end.th) y).0)
+        go false None = (refl, refl, refl, λ y. y)
+        go false (Some t) = (refl, refl, refl, λ y. (both_true end.ended (lt zeros end.th) y).0)
 
     -- No undistort makes more than 20 updates.
-    pub updates_limit : (f : Float → Slope) → (told (undistort f params pixel)).settled.updates ≤ 20
+    pub updates_limit : (f : Float → Option Float) → (told (undistort f params pixel)).settled.updates ≤ 20
     unfolding newton
     updates_limit f = go (le (rth2 params pixel) eps) (f end.th)
       where
@@ -154,24 +154,24 @@ module _ (params : KannalaBrandtParams) where
             passes_most (pass params rth) ended updates (λ (at : Reached). omega (arith, one_update params rth at)) limit (start rth)
 
         near : Undistorted
-        near = At (direct (xy (un_of params pixel) (vn_of params pixel)))
+        near = Ok (direct (xy (un_of params pixel) (vn_of params pixel)))
 
-        far : Slope → Undistorted
+        far : Option Float → Undistorted
         far s = outward s end (root (rth2 params pixel)) (un_of params pixel) (vn_of params pixel)
 
-        go : (b : Bool) (s : Slope) → (told (cond b near (far s))).settled.updates ≤ 20
+        go : (b : Bool) (s : Option Float) → (told (cond b near (far s))).settled.updates ≤ 20
         go true s = lit≤ tt
-        go false (Is t) = most
-        go false TooSteep = lit≤ tt
+        go false (Some t) = most
+        go false None = lit≤ tt
 
 -- ---- the numbers to check by hand: whatever stands for arctangent and tangent
 
 -- The camera 1000 1000 320 280 with no distortion sends (0, 0) to (320, 280), and back with 0 updates and the flag yes.
 pub by_hand :
-    (f : Float → Float) (g : Float → Slope)
+    (f : Float → Float) (g : Float → Option Float)
     → (distort f (camera (int 1000) (int 1000) (int 320) (int 280) (int 0) (int 0) (int 0) (int 0)) (xy (int 0) (int 0)) ≡ uv (int 320) (int 280))
     × (undistort g (camera (int 1000) (int 1000) (int 320) (int 280) (int 0) (int 0) (int 0) (int 0)) (uv (int 320) (int 280))
-    ≡ At (direct (xy (int 0) (int 0))))
+    ≡ Ok (direct (xy (int 0) (int 0))))
 unfolding add sub mul div le of_bits of_int
 by_hand f g = (refl, refl)
 
@@ -185,7 +185,7 @@ by_hand_bent f h = bent_distorted f h
 -- The camera 4 4 1 2 with k0 = -2 sends the pixel (2, 2), whose radius is 1/4, to (3/4, 0), with 1 update and the flag yes, if the tangent of 1/2 is 3/4:
 -- Newton begins at 1/2, the root of 1/4, which is bent to 1/2 · (1 - 2/4) = 1/4, and its step is 0.
 pub by_hand_unbent :
-    (g : Float → Slope) → g (halves 1) ≡ Is (quarters 3)
+    (g : Float → Option Float) → g (halves 1) ≡ Some (quarters 3)
     → undistort g (camera (int 4) (int 4) (int 1) (int 2) (minus (int 2)) (int 0) (int 0) (int 0)) (uv (int 2) (int 2))
-    ≡ At record { point = xy (quarters 3) (int 0); updates = 1; flag = true }
+    ≡ Ok record { point = xy (quarters 3) (int 0); updates = 1; flag = true }
 by_hand_unbent g h = bent_undistorted g h

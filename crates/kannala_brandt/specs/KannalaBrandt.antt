@@ -2,12 +2,10 @@
 -- in the Rust's order; the derivatives leave out what changes no bit (AsWritten has the Rust's lines, and the law
 -- `as_written` has both equal). `select` is `cond`. The arctangent and the tangent are named by who cites a definition:
 -- `atan` and `tan` stand for any two functions. Numbers in comments are lines of that file. Definitions only.
-use Rattle.std.specs.Prelude.{Bool, false, cond, ◌&&◌, [], ◌∷◌, ℕ, ◌+◌, Float}
+use Rattle.std.specs.Prelude.{Bool, false, cond, ◌&&◌, [], ◌∷◌, ℕ, ◌+◌, Float, Option, Ok, Err, Some, None}
 use Rattle.std.specs.Float.Ieee.{lt, le}
 use Rattle.exact.specs.F64.{minus, magnitude, ◌⊕◌, ◌⊖◌, ◌⊗◌, ◌⊘◌}
 use Rattle.root.specs.Root.{root}
-use Rattle.arctan.specs.declared.Slope.{Slope}
-use Rattle.arctan.specs.declared.Slope.TheVariants.{Is, TooSteep}
 use Rattle.lens.specs.Constants.{zeros, ones, eps, int}
 use Rattle.lens.specs.Jacobian.{two_rows}
 use Rattle.lens.specs.Passes.{passes}
@@ -17,8 +15,7 @@ use Rattle.lens.specs.declared.Jacobian.{Jacobian}
 use Rattle.lens.specs.declared.Pixel.{Pixel}
 use Rattle.lens.specs.declared.Point.{Point}
 use Rattle.lens.specs.declared.Refusal.TheVariants.{AngleTooLarge}
-use Rattle.lens.specs.declared.Undistorted.{Undistorted}
-use Rattle.lens.specs.declared.Undistorted.TheVariants.{At, Refused}
+use Rattle.lens.specs.Undistorted.{Undistorted}
 use Rattle.kannala_brandt.specs.declared.KannalaBrandtParams.{KannalaBrandtParams}
 use Rattle.kannala_brandt.specs.declared.Reached.{Reached}
 use Rattle.kannala_brandt.specs.declared.EvenPowers.{EvenPowers}
@@ -116,17 +113,17 @@ abbrev pub sign_of : Float → Float
 sign_of radius-undistorted = cond (le radius-undistorted zeros) (minus ones) ones
 
 -- 155 to 167, from the tangent's result: past its limit there is no point. `settles` is the rule for the flag
-abbrev pub outward_by : (Reached → Bool) → Slope → Reached → Float → Float → Float → Undistorted
-outward_by settles TooSteep at rth un vn = Refused AngleTooLarge
-outward_by settles (Is radius-undistorted) at rth un vn =
+abbrev pub outward_by : (Reached → Bool) → Option Float → Reached → Float → Float → Float → Undistorted
+outward_by settles None at rth un vn = Err AngleTooLarge
+outward_by settles (Some radius-undistorted) at rth un vn =
     let sign = sign_of radius-undistorted in
-    At record {
+    Ok record {
       point = record { 0 = sign ⊗ radius-undistorted ⊗ un ⊘ rth; 1 = sign ⊗ radius-undistorted ⊗ vn ⊘ rth };
       updates = at.updates;
       flag = settles at;
     }
 
-abbrev pub outward : Slope → Reached → Float → Float → Float → Undistorted
+abbrev pub outward : Option Float → Reached → Float → Float → Float → Undistorted
 outward = outward_by flag
 
 -- 110 to 112
@@ -142,21 +139,21 @@ rth2 params pixel = squared_radius (un_of params pixel) (vn_of params pixel)
 -- 114 to 119, 161. With 4 4 1 2, k0 = -2, the rest 0, and (2, 2): un = 1/4, vn = 0, rth = 1/4. Newton begins at 1/2,
 -- which bends to 1/2 · (1 - 2 · 1/4) = 1/4: the step is 0, after 1 update. If the tangent of 1/2 is 3/4, the point is
 -- (3/4, 0)
-abbrev pub undistort_by : (Reached → Bool) → (Float → Slope) → KannalaBrandtParams → Pixel → Undistorted
+abbrev pub undistort_by : (Reached → Bool) → (Float → Option Float) → KannalaBrandtParams → Pixel → Undistorted
 undistort_by settles tan params pixel =
     let un = un_of params pixel in
     let vn = vn_of params pixel in
     let rth = root (rth2 params pixel) in
     let at = newton params rth in
     cond (le (rth2 params pixel) eps)
-    (At (direct record { 0 = un; 1 = vn }))
+    (Ok (direct record { 0 = un; 1 = vn }))
     (outward_by settles (tan at.th) at rth un vn)
 
-abbrev pub undistort : (Float → Slope) → KannalaBrandtParams → Pixel → Undistorted
+abbrev pub undistort : (Float → Option Float) → KannalaBrandtParams → Pixel → Undistorted
 undistort = undistort_by flag
 
 -- with the flag of before request P2
-abbrev pub undistort_before : (Float → Slope) → KannalaBrandtParams → Pixel → Undistorted
+abbrev pub undistort_before : (Float → Option Float) → KannalaBrandtParams → Pixel → Undistorted
 undistort_before = undistort_by flag_before
 
 -- ---- the derivatives. The Rust's c6, c8, c10 and c8 * c8 are the powers of c5.

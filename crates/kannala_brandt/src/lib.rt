@@ -9,7 +9,7 @@ ghost use Rattle.arctan.specs.Tangent.{tangent};
 ghost use Rattle.lens.specs.Undistorted.{told};
 ghost use Rattle.kannala_brandt.specs.KannalaBrandt.{powers, polynomial, scaling_of, distort, d_thd_wtr_th, step_from, limit, pass, newton, flag, sign_of, outward, undistort, terms_of, c13_of, c17_of, diagonal, off_axis, dx_distort_x, alpha_of, rows, dx_distort_params};
 
-use lens::{Jacobian, Pixel, Point, Refusal, Settled, Undistorted};
+use lens::{Jacobian, Pixel, Point, Refusal, Settled};
 
 // The eight parameters, in the Rust's order.
 #[derive(Clone, Copy)]
@@ -154,14 +154,14 @@ fn sign_of(radius_undistorted: f64) -> f64
 }
 
 // The point at the angle that Newton found, in the direction of (un, vn). An angle past the tangent's limit has none.
-fn outward(at: Reached, rth: f64, un: f64, vn: f64) -> Undistorted
+fn outward(at: Reached, rth: f64, un: f64, vn: f64) -> Result<Settled, Refusal>
     ensures { result ≡ outward (tangent at.th) at rth un vn }
 {
     match arctan::tangent(at.th) {
-        arctan::Slope::TooSteep => Undistorted::Refused(Refusal::AngleTooLarge),
-        arctan::Slope::Is(radius_undistorted) => {
+        None => Err(Refusal::AngleTooLarge),
+        Some(radius_undistorted) => {
             let sign = sign_of(radius_undistorted);
-            Undistorted::At(Settled {
+            Ok(Settled {
                 point: Point(
                     sign * radius_undistorted * un / rth,
                     sign * radius_undistorted * vn / rth,
@@ -175,14 +175,14 @@ fn outward(at: Reached, rth: f64, un: f64, vn: f64) -> Undistorted
 
 // The point of a pixel: near the axis at once, else by Newton. Refused with 10 where Newton ends past the tangent's
 // limit.
-pub fn undistort(params: KannalaBrandtParams, pixel: Pixel) -> Undistorted
+pub fn undistort(params: KannalaBrandtParams, pixel: Pixel) -> Result<Settled, Refusal>
     ensures { told result ≡ told (undistort tangent params pixel) }
 {
     let un = (pixel.0 - params.cx) / params.fx;
     let vn = (pixel.1 - params.cy) / params.fy;
     let rth2 = lens::squared_radius(un, vn);
     if rth2 <= lens::EPS {
-        return Undistorted::At(lens::direct(Point(un, vn)));
+        return Ok(lens::direct(Point(un, vn)));
     }
     let rth = root::root(rth2);
     outward(newton(params, rth), rth, un, vn)

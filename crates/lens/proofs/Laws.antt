@@ -1,5 +1,6 @@
 -- What a caller may rely on, of the definitions of specs/ and of the contracts of src/. Assumes nothing.
 use mathlib.Core.Path.{◌≡◌, refl, sym, ap, ◌∙◌}
+use Rattle.core.specs.declared.result.Result.TheVariants.{Ok, Err}
 use mathlib.Core.List.{List, [], ◌∷◌, ◌++◌}
 use Prim.Native.Nat.{ℕ, zero, suc, ◌+◌, ◌-◌, ◌≤◌, ◌<◌}
 use native.Mathlib.Nat.{add-zero, le_of_suc-le-suc, not-suc-le-zero}
@@ -14,17 +15,14 @@ use Rattle.lens.specs.Jacobian.{entries, two_rows}
 use Rattle.lens.specs.Distorted.{ToldPixel, told_pixel}
 use Rattle.lens.specs.Judgement.{verdict}
 use Rattle.lens.specs.Refusal.{number}
-use Rattle.lens.specs.declared.Distorted.{Distorted}
-use Rattle.lens.specs.declared.Distorted.TheVariants as distorted
-use Rattle.lens.specs.declared.Judgement.{Judgement}
-use Rattle.lens.specs.declared.Judgement.TheVariants as judged
+use Rattle.lens.specs.Distorted.{Distorted}
+use Rattle.lens.specs.Judgement.{Judgement}
 use Rattle.lens.specs.Undistorted.{Told, told}
 use Rattle.lens.specs.declared.Pixel.{Pixel}
 use Rattle.lens.specs.declared.Refusal.{Refusal}
 use Rattle.lens.specs.declared.Refusal.TheVariants.{UnknownModel, NoParameterJacobian, WrongCount, NotFinite, ZeroFocalLength, WrongSize, WrongLength, IncrementNotPositive, OutsideTable, AngleTooLarge, AnswerNotFinite, CellInfinite, ImpossibleRecord, NotTheForm, SizesDiffer, RayNotForward, NotOurs, SampleUnsettled, TooFar}
 use Rattle.lens.specs.declared.Settled.{Settled}
-use Rattle.lens.specs.declared.Undistorted.{Undistorted}
-use Rattle.lens.specs.declared.Undistorted.TheVariants.{At, Refused}
+use Rattle.lens.specs.Undistorted.{Undistorted}
 use Rattle.lens.proofs.Rows.{padded_length, padded_at, any_default}
 use Rattle.lens.proofs.eps.Reads as eps-contract
 use Rattle.lens.proofs.number.Reads as number-contract
@@ -99,34 +97,34 @@ number_each n low high = (
 
 -- What a judgement's number says determines it.
 pub verdict_one_to_one : (a b : Judgement) → verdict a ≡ verdict b → a ≡ b
-verdict_one_to_one judged.Taken judged.Taken e = refl
-verdict_one_to_one judged.Taken (judged.Refused r) e = absurd (omega (arith, e, number_within r))
-verdict_one_to_one (judged.Refused r) judged.Taken e = absurd (omega (arith, e, number_within r))
-verdict_one_to_one (judged.Refused q) (judged.Refused r) e = ap judged.Refused (number_one_to_one q r e)
+verdict_one_to_one (Ok _) (Ok _) e = refl
+verdict_one_to_one (Ok _) (Err r) e = absurd (omega (arith, e, number_within r))
+verdict_one_to_one (Err r) (Ok _) e = absurd (omega (arith, e, number_within r))
+verdict_one_to_one (Err q) (Err r) e = ap Err (number_one_to_one q r e)
 
 -- ---- what undistort tells
 
-told_apart : (s : Settled) (r : Refusal) → told (At s) ≡ told (Refused r) → ⊥
+told_apart : (s : Settled) (r : Refusal) → told (Ok s) ≡ told (Err r) → ⊥
 told_apart s r e = omega (arith, ap (λ (t : Told). t.number) e, number_within r)
 
 -- What an undistort tells determines it: two that tell the same number, point, updates and flag are equal.
 pub told_one_to_one : (a b : Undistorted) → told a ≡ told b → a ≡ b
-told_one_to_one (At s) (At t) e = ap (λ (x : Told). At x.settled) e
-told_one_to_one (At s) (Refused r) e = absurd (told_apart s r e)
-told_one_to_one (Refused r) (At s) e = absurd (told_apart s r (sym e))
-told_one_to_one (Refused q) (Refused r) e = ap Refused (number_one_to_one q r (ap (λ (x : Told). x.number) e))
+told_one_to_one (Ok s) (Ok t) e = ap (λ (x : Told). Ok x.settled) e
+told_one_to_one (Ok s) (Err r) e = absurd (told_apart s r e)
+told_one_to_one (Err r) (Ok s) e = absurd (told_apart s r (sym e))
+told_one_to_one (Err q) (Err r) e = ap Err (number_one_to_one q r (ap (λ (x : Told). x.number) e))
 
 -- ---- what distort tells
 
-pixel_apart : (p : Pixel) (r : Refusal) → told_pixel (distorted.At p) ≡ told_pixel (distorted.Refused r) → ⊥
+pixel_apart : (p : Pixel) (r : Refusal) → told_pixel (Ok p) ≡ told_pixel (Err r) → ⊥
 pixel_apart p r e = omega (arith, ap (λ (t : ToldPixel). t.number) e, number_within r)
 
 -- What a distort tells determines it: two that tell the same number and pixel are equal.
 pub told_pixel_one_to_one : (a b : Distorted) → told_pixel a ≡ told_pixel b → a ≡ b
-told_pixel_one_to_one (distorted.At p) (distorted.At q) e = ap (λ (t : ToldPixel). distorted.At t.pixel) e
-told_pixel_one_to_one (distorted.At p) (distorted.Refused r) e = absurd (pixel_apart p r e)
-told_pixel_one_to_one (distorted.Refused r) (distorted.At p) e = absurd (pixel_apart p r (sym e))
-told_pixel_one_to_one (distorted.Refused q) (distorted.Refused r) e = ap distorted.Refused (number_one_to_one q r (ap (λ (t : ToldPixel). t.number) e))
+told_pixel_one_to_one (Ok p) (Ok q) e = ap (λ (t : ToldPixel). Ok t.pixel) e
+told_pixel_one_to_one (Ok p) (Err r) e = absurd (pixel_apart p r e)
+told_pixel_one_to_one (Err r) (Ok p) e = absurd (pixel_apart p r (sym e))
+told_pixel_one_to_one (Err q) (Err r) e = ap Err (number_one_to_one q r (ap (λ (t : ToldPixel). t.number) e))
 
 -- ---- Jacobians
 

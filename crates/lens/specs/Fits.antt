@@ -1,9 +1,8 @@
 -- Numbers that are f64s: those that 64 bits hold exactly. Definitions only.
-use Rattle.std.specs.Prelude.{List, [], ◌∷◌, T, Float}
+use Rattle.std.specs.Prelude.{List, [], ◌∷◌, T, Float, Ok, Err}
 use Rattle.std.specs.Float.{binary64}
 use Rattle.std.specs.Float.Ieee.{fits}
-use Rattle.lens.specs.declared.Undistorted.{Undistorted}
-use Rattle.lens.specs.declared.Undistorted.TheVariants.{At, Refused}
+use Rattle.lens.specs.Undistorted.{Undistorted}
 
 abbrev pub Fit : Float → Type 0
 Fit x = T (fits binary64 x)
@@ -15,5 +14,5 @@ AllFit (x ∷ xs) = Fit x × AllFit xs
 
 -- a point that is found is of two f64s; of a refusal nothing is said
 abbrev pub PointFits : Undistorted → Type 0
-PointFits (At settled) = Fit settled.point.0 × Fit settled.point.1
-PointFits (Refused refusal) = Unit {0}
+PointFits (Ok settled) = Fit settled.point.0 × Fit settled.point.1
+PointFits (Err refusal) = Unit {0}

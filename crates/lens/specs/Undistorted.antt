@@ -1,11 +1,14 @@
 -- What undistort answers, and what that tells a caller: a number with a point, updates and a flag. Definitions only.
-use Rattle.std.specs.Prelude.{true, false, ℕ}
+use Rattle.std.specs.Prelude.{true, false, ℕ, Result, Ok, Err}
 use Rattle.lens.specs.Constants.{zeros}
 use Rattle.lens.specs.Refusal.{number}
 use Rattle.lens.specs.declared.Point.{Point}
+use Rattle.lens.specs.declared.Refusal.{Refusal}
 use Rattle.lens.specs.declared.Settled.{Settled}
-use Rattle.lens.specs.declared.Undistorted.{Undistorted}
-use Rattle.lens.specs.declared.Undistorted.TheVariants.{At, Refused}
+
+-- where an undistort ended, or why it gives nothing
+abbrev pub Undistorted : Type 0
+Undistorted = Result Settled Refusal
 
 -- a point that took no update to find: 0 and yes
 abbrev pub direct : Point → Settled
@@ -22,5 +25,5 @@ pub record Told : Type 0 where
 
 -- an answer has the number 0, a refusal its own
 abbrev pub told : Undistorted → Told
-told (At settled) = record { number = 0; settled = settled }
-told (Refused refusal) = record { number = number refusal; settled = blank }
+told (Ok settled) = record { number = 0; settled = settled }
+told (Err refusal) = record { number = number refusal; settled = blank }

@@ -44,27 +44,6 @@ pub struct Settled {
     pub flag: bool,
 }
 
-// Whether a call is taken up.
-#[derive(Clone, Copy)]
-pub enum Judgement {
-    Taken,
-    Refused(Refusal),
-}
-
-// What distort answers, and a lookup in a table of its answers: a pixel, or why there is none.
-#[derive(Clone, Copy)]
-pub enum Distorted {
-    At(Pixel),
-    Refused(Refusal),
-}
-
-// An undistort's answer, or why there is none.
-#[derive(Clone, Copy)]
-pub enum Undistorted {
-    At(Settled),
-    Refused(Refusal),
-}
-
 // Why a call is refused, in the order of the numbers.
 #[derive(Clone, Copy)]
 pub enum Refusal {
@@ -241,11 +220,11 @@ pub fn both_finite(x: f64, y: f64) -> bool
 }
 
 // 11 for a pixel that isn't finite.
-pub fn finite_pixel(pixel: Pixel) -> Distorted
+pub fn finite_pixel(pixel: Pixel) -> Result<Pixel, Refusal>
     ensures { told_pixel result ≡ told_pixel (finite_pixel pixel) }
 {
     if both_finite(pixel.0, pixel.1) {
-        return Distorted::At(pixel);
+        return Ok(pixel);
     }
-    Distorted::Refused(Refusal::AnswerNotFinite)
+    Err(Refusal::AnswerNotFinite)
 }

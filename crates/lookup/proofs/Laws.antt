@@ -1,5 +1,6 @@
 -- What a caller may rely on, of the definitions of specs/ and of the contract of src/. Assumes nothing.
 use Rattle.std.proofs.Common.{◌≡◌, ℕ, ◌+◌, ◌-◌, ◌*◌, ◌<◌, Bool, true, false, cond, not, ◌&&◌, ◌||◌, T, eqb, ◌↔◌, List, [], ◌∷◌, length, sym, refl, ap, ◌∙◌, subst, true≢false, arith}
+use Rattle.core.specs.declared.result.Result.TheVariants.{Ok, Err}
 use mathlib.Core.Bool.{false≢true}
 use native.Mathlib.Nat.{min-le_right}
 use lib.Ieee.{Float, binary64, of_bits, of_int, round, add, sub, mul, div, neg, lt, eq, le, to_unsigned, fits}
@@ -14,9 +15,7 @@ use Rattle.lens.specs.Distorted.{told_pixel}
 use Rattle.lens.specs.Finite.{all_finite}
 use Rattle.lens.specs.Judgement.{decided}
 use Rattle.lens.specs.Rows.{first}
-use Rattle.lens.specs.declared.Distorted.{Distorted}
-use Rattle.lens.specs.declared.Distorted.TheVariants.{At, Refused}
-use Rattle.lens.specs.declared.Judgement.TheVariants as call
+use Rattle.lens.specs.Distorted.{Distorted}
 use Rattle.lens.specs.declared.Pixel.{Pixel}
 use Rattle.lens.specs.declared.Point.{Point}
 use Rattle.lens.specs.declared.Refusal.TheVariants.{NotFinite, WrongSize, WrongLength, IncrementNotPositive}
@@ -52,9 +51,9 @@ lookup_determined κ a s s' r r' p q = told_pixel_one_to_one r r' (p ∙ sym q)
 in_order :
     (f s m g d o a : Bool) (pixel : Pixel)
     → (told_pixel
-    (decided (cond f (call.Refused NotFinite) (cond (not s) (call.Refused WrongSize) (cond m call.Taken (call.Refused WrongLength)))) Refused
-    (decided (cond g (call.Refused IncrementNotPositive) (cond d call.Taken (call.Refused AnswerNotFinite))) Refused
-    (cond o (Refused OutsideTable) (cond a (At pixel) (Refused AnswerNotFinite)))))
+    (decided (cond f (Err NotFinite) (cond (not s) (Err WrongSize) (cond m (Ok tt) (Err WrongLength)))) Err
+    (decided (cond g (Err IncrementNotPositive) (cond d (Ok tt) (Err AnswerNotFinite))) Err
+    (cond o (Err OutsideTable) (cond a (Ok pixel) (Err AnswerNotFinite)))))
     ).number
     ≡ cond f 4 (cond (not s) 6 (cond (not m) 7 (cond g 8 (cond (not d) 11 (cond o 9 (cond (not a) 11 0))))))
 in_order true s m g d o a pixel = refl
@@ -83,8 +82,8 @@ nine false true true false true false true = (λ h. absurd (omega arith), λ h. 
 passed :
     (f s m g d : Bool)
     → ◌≡◌ {A = ℕ} (cond f 4 (cond (not s) 6 (cond (not m) 7 (cond g 8 (cond (not d) 11 0))))) 0
-    → (cond f (call.Refused NotFinite) (cond (not s) (call.Refused WrongSize) (cond m call.Taken (call.Refused WrongLength))) ≡ call.Taken)
-    × (cond g (call.Refused IncrementNotPositive) (cond d call.Taken (call.Refused AnswerNotFinite)) ≡ call.Taken)
+    → (cond f (Err NotFinite) (cond (not s) (Err WrongSize) (cond m (Ok tt) (Err WrongLength))) ≡ Ok tt)
+    × (cond g (Err IncrementNotPositive) (cond d (Ok tt) (Err AnswerNotFinite)) ≡ Ok tt)
 passed true s m g d h = absurd (omega arith)
 passed false false m g d h = absurd (omega arith)
 passed false true false g d h = absurd (omega arith)
@@ -170,8 +169,8 @@ module _ (table : List Float) (region : Region) (width height : ℕ) (point : Po
 
   -- its parts, for a call that isn't refused ahead of the indices
   judged :
-      before ≡ 0 → (admitted (length table) region width height point ≡ call.Taken)
-      × (wrong (increments region width height) ≡ call.Taken)
+      before ≡ 0 → (admitted (length table) region width height point ≡ Ok tt)
+      × (wrong (increments region width height) ≡ Ok tt)
   unfolding admitted wrong
   judged h = passed not_given (sized width height) measures no_step steps_finite h
 
@@ -201,11 +200,11 @@ module _ (table : List Float) (region : Region) (width height : ℕ) (point : Po
   -- a call that nothing refuses
   answers :
       before ≡ 0 → outside i width ≡ false → outside j height ≡ false → there_finite ≡ true
-      → lookup table region width height point ≡ At there
+      → lookup table region width height point ≡ Ok there
   unfolding spread looked_up
   answers h o p a = rw ((judged h).0, (judged h).1, o, p, a) refl
 
-  -- At a cell's own point the cell's pixel comes back, wherever both indices work out to its whole numbers: a table of
+  -- Ok a cell's own point the cell's pixel comes back, wherever both indices work out to its whole numbers: a table of
   -- f32s, whose four cells that are used hold finite numbers, answers with the cell's two numbers as they are, but for
   -- -0, which may come back as +0. An index of -0 counts as 0.
   pub at_a_cell :
@@ -237,7 +236,7 @@ module _ (table : List Float) (region : Region) (width height : ℕ) (point : Po
     first : T (finite there.0)
     second : T (finite there.1)
 
-  answer : {pixel : Pixel} → lookup table region width height point ≡ At pixel → Answer pixel
+  answer : {pixel : Pixel} → lookup table region width height point ≡ Ok pixel → Answer pixel
   answer e =
       let told = sym lookup_number ∙ ap (λ (d : Distorted). (told_pixel d).number) e in
       let n = none not_given (sized width height) measures no_step steps_finite out there_finite told in
@@ -286,7 +285,7 @@ module _ (table : List Float) (region : Region) (width height : ℕ) (point : Po
     -- Of a table of f32s, at any point that is answered: the four cells that are used are finite, and each coordinate
     -- of the answer lies between the least and the greatest of them, or is one of these two.
     pub inside_exactly :
-        {pixel : Pixel} → lookup table region width height point ≡ At pixel → Enclosed (cells 0) pixel.0
+        {pixel : Pixel} → lookup table region width height point ≡ Ok pixel → Enclosed (cells 0) pixel.0
         × Enclosed (cells 1) pixel.1
     inside_exactly e =
         let a = answer e in
@@ -295,13 +294,13 @@ module _ (table : List Float) (region : Region) (width height : ℕ) (point : Po
 
     -- And so within 2^-48 times the largest magnitude among the four of that, which is what request P13 asks.
     pub inside :
-        {pixel : Pixel} → lookup table region width height point ≡ At pixel → EnclosedWithRoom (cells 0) pixel.0
+        {pixel : Pixel} → lookup table region width height point ≡ Ok pixel → EnclosedWithRoom (cells 0) pixel.0
         × EnclosedWithRoom (cells 1) pixel.1
     inside e = let both = inside_exactly e in (with_room both.0, with_room both.1)
 
     -- Four equal coordinates give exactly that number, the sign of a zero aside.
     pub level :
-        {pixel : Pixel} → lookup table region width height point ≡ At pixel → Level (cells 0) pixel.0
+        {pixel : Pixel} → lookup table region width height point ≡ Ok pixel → Level (cells 0) pixel.0
         × Level (cells 1) pixel.1
     level e =
         let a = answer e in
@@ -328,9 +327,9 @@ box =
 abbrev pub one_half : Point
 one_half = xy (f64 0x3ff0_0000_0000_0000) (f64 0x3fe0_0000_0000_0000)
 
--- At (1, 0.5) it gives (1, 0.5); the second numbers of the four cells reach from -1.5 to 2.5.
+-- Ok (1, 0.5) it gives (1, 0.5); the second numbers of the four cells reach from -1.5 to 2.5.
 pub by_hand :
-    (lookup listed box 3 2 one_half ≡ At (uv one_half.0 one_half.1))
+    (lookup listed box 3 2 one_half ≡ Ok (uv one_half.0 one_half.1))
     × (least (used listed box 3 2 one_half 1) ≈ opposite (over 3 2))
     × (greatest (used listed box 3 2 one_half 1) ≈ over 5 2)
 unfolding

@@ -1,5 +1,6 @@
 -- What the refusals before the answer leave, and that the four cells around two spots are in the table. Assumes nothing.
 use Rattle.std.proofs.Common.{◌≡◌, ℕ, ◌+◌, ◌-◌, ◌*◌, ◌<◌, Bool, true, false, cond, not, ◌&&◌, ◌||◌, eqb, List, [], ◌∷◌, refl, mul-le-mul_right, arith, eqb-true}
+use Rattle.core.specs.declared.result.Result.TheVariants.{Ok, Err}
 use mathlib.Core.Bool.{false≢true}
 use native.Mathlib.Nat.{min-le_right}
 use lib.Ieee.{Float}
@@ -7,10 +8,8 @@ use lib.Ieee.Scale.{finite}
 use Rattle.lens.specs.Distorted.{finite_pixel}
 use Rattle.lens.specs.Finite.{all_finite}
 use Rattle.lens.specs.Judgement.{decided}
-use Rattle.lens.specs.declared.Distorted.{Distorted}
-use Rattle.lens.specs.declared.Distorted.TheVariants as found
-use Rattle.lens.specs.declared.Judgement.{Judgement}
-use Rattle.lens.specs.declared.Judgement.TheVariants as call
+use Rattle.lens.specs.Distorted.{Distorted}
+use Rattle.lens.specs.Judgement.{Judgement}
 use Rattle.lens.specs.declared.Point.{Point}
 use Rattle.lens.specs.declared.Refusal.TheVariants.{NotFinite, WrongSize, WrongLength, OutsideTable}
 use Rattle.region.specs.Region.{four, increments, wrong}
@@ -26,19 +25,19 @@ use Rattle.lookup.proofs.Among.{cut, steps, index_number}
 
 pub admitted_so : (places : ℕ) (region : Region) (width height : ℕ) (point : Point) {f g s m : Bool}
     → f ≡ not (all_finite (four region)) → g ≡ not (finite point.0 && finite point.1) → s ≡ not (sized width height) → m ≡ eqb places (2 * (width * height))
-    → cond (f || g) (call.Refused NotFinite) (cond s (call.Refused WrongSize) (cond m call.Taken (call.Refused WrongLength))) ≡ admitted places region width height point
+    → cond (f || g) (Err NotFinite) (cond s (Err WrongSize) (cond m (Ok tt) (Err WrongLength))) ≡ admitted places region width height point
 unfolding admitted
 admitted_so places region width height point f g s m = rw (f, g, s, m) refl
 
 -- ---- a call that they leave
 
-pub taken : (places : ℕ) (region : Region) (width height : ℕ) (point : Point) → admitted places region width height point ≡ call.Taken → Taken places region width height point
+pub taken : (places : ℕ) (region : Region) (width height : ℕ) (point : Point) → admitted places region width height point ≡ Ok tt → Taken places region width height point
 unfolding admitted
 taken places region width height point =
     go (all_finite (four region)) refl (finite point.0 && finite point.1) refl (sized width height) refl (eqb places (2 * (width * height))) refl
   where
     go : (f : Bool) → all_finite (four region) ≡ f → (g : Bool) → (finite point.0 && finite point.1) ≡ g → (s : Bool) → sized width height ≡ s → (m : Bool) → eqb places (2 * (width * height)) ≡ m
-        → cond (not f || not g) (call.Refused NotFinite) (cond (not s) (call.Refused WrongSize) (cond m call.Taken (call.Refused WrongLength))) ≡ call.Taken
+        → cond (not f || not g) (Err NotFinite) (cond (not s) (Err WrongSize) (cond m (Ok tt) (Err WrongLength))) ≡ Ok tt
         → Taken places region width height point
     go true ef true eg true es true em h = record { edges = ef; place = eg; whole = record { size = is_sized width height es; all = eqb-true places (2 * (width * height)) em } }
     go true ef true eg true es false em h = let z : ◌≡◌ {A = ℕ} 0 1 = cc in absurd (omega arith)
@@ -89,7 +88,7 @@ module _ {places width height : ℕ} (w : Whole places width height) where
 
 pub looked_up_so : (table : List Float) (width height : ℕ) (i j : Float) {o p : Bool} {answer : Distorted}
     → o ≡ outside i width → p ≡ outside j height → answer ≡ finite_pixel (pixel_at table width (spot i width) (spot j height))
-    → cond (o || p) (found.Refused OutsideTable) answer ≡ looked_up table width height i j
+    → cond (o || p) (Err OutsideTable) answer ≡ looked_up table width height i j
 unfolding looked_up
 looked_up_so table width height i j e f a = rw (e, f, a) refl
 
@@ -97,12 +96,12 @@ looked_up_so table width height i j e f a = rw (e, f, a) refl
 
 pub spread_so : (table : List Float) (region : Region) (width height : ℕ) (point : Point) {by : Increments} {j : Judgement} {answer : Distorted}
     → by ≡ increments region width height → j ≡ wrong by → answer ≡ looked_up table width height (index point.0 region.left by.0) (index point.1 region.top by.1)
-    → decided j found.Refused answer ≡ spread table region width height point
+    → decided j Err answer ≡ spread table region width height point
 unfolding spread
 spread_so table region width height point e f a = rw (a, f, e) refl
 
 -- what they leave makes indices that are numbers
-pub indices : {places : ℕ} {region : Region} {width height : ℕ} {point : Point} (by : Increments) → Taken places region width height point → wrong by ≡ call.Taken
+pub indices : {places : ℕ} {region : Region} {width height : ℕ} {point : Point} (by : Increments) → Taken places region width height point → wrong by ≡ Ok tt
     → Number (index point.0 region.left by.0) × Number (index point.1 region.top by.1)
 indices {region = region} {point = point} by t w =
     let s = steps by w in

@@ -1,5 +1,5 @@
 -- Lookup: the pixel at a point between the cells of a table. Definitions only.
-use Rattle.std.specs.Prelude.{ℕ, ◌+◌, ◌-◌, ◌*◌, min, Bool, cond, not, ◌&&◌, ◌||◌, List, length, ◌==◌, slice_index_or, Float}
+use Rattle.std.specs.Prelude.{ℕ, ◌+◌, ◌-◌, ◌*◌, min, Bool, cond, not, ◌&&◌, ◌||◌, List, length, ◌==◌, slice_index_or, Float, Ok, Err}
 use Rattle.std.specs.Float.{nan}
 use Rattle.std.specs.Float.Ieee.{lt, to_unsigned}
 use Rattle.std.specs.Float.Ieee.Scale.{finite}
@@ -8,10 +8,8 @@ use Rattle.lens.specs.Constants.{zeros}
 use Rattle.lens.specs.Distorted.{finite_pixel}
 use Rattle.lens.specs.Finite.{all_finite}
 use Rattle.lens.specs.Judgement.{decided}
-use Rattle.lens.specs.declared.Distorted.{Distorted}
-use Rattle.lens.specs.declared.Distorted.TheVariants.{Refused}
-use Rattle.lens.specs.declared.Judgement.{Judgement}
-use Rattle.lens.specs.declared.Judgement.TheVariants as call
+use Rattle.lens.specs.Distorted.{Distorted}
+use Rattle.lens.specs.Judgement.{Judgement}
 use Rattle.lens.specs.declared.Pixel.{Pixel}
 use Rattle.lens.specs.declared.Point.{Point}
 use Rattle.lens.specs.declared.Refusal.TheVariants.{NotFinite, WrongSize, WrongLength, OutsideTable}
@@ -88,22 +86,22 @@ pixel_at table width across down = record {
 -- 9, then 11 on the answer
 unfoldable pub looked_up : List Float → ℕ → ℕ → Float → Float → Distorted
 looked_up table width height i j =
-    cond (outside i width || outside j height) (Refused OutsideTable)
+    cond (outside i width || outside j height) (Err OutsideTable)
     (finite_pixel (pixel_at table width (spot i width) (spot j height)))
 
 -- before them 8 and 11 on the increments
 unfoldable pub spread : List Float → Region → ℕ → ℕ → Point → Distorted
 spread table region width height point =
-    decided (wrong (increments region width height)) Refused
+    decided (wrong (increments region width height)) Err
     (looked_up table width height (index_across region width height point) (index_down region width height point))
 
 -- and first of all 4, 6 and 7, of a table with so many places
 unfoldable pub admitted : ℕ → Region → ℕ → ℕ → Point → Judgement
 admitted places region width height point =
-    cond (not (all_finite (four region)) || not (finite point.0 && finite point.1)) (call.Refused NotFinite)
-    (cond (not (sized width height)) (call.Refused WrongSize)
-    (cond (places == 2 * (width * height)) call.Taken (call.Refused WrongLength)))
+    cond (not (all_finite (four region)) || not (finite point.0 && finite point.1)) (Err NotFinite)
+    (cond (not (sized width height)) (Err WrongSize)
+    (cond (places == 2 * (width * height)) (Ok tt) (Err WrongLength)))
 
 abbrev pub lookup : List Float → Region → ℕ → ℕ → Point → Distorted
 lookup table region width height point =
-    decided (admitted (length table) region width height point) Refused (spread table region width height point)
+    decided (admitted (length table) region width height point) Err (spread table region width height point)

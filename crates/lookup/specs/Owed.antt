@@ -1,12 +1,11 @@
 -- What the laws say of a lookup, in words of its definitions. Definitions only.
-use Rattle.std.specs.Prelude.{◌≡◌, ℕ, ◌+◌, ◌<◌, T, ◌⊎◌, List, [], ◌∷◌, slice_index_or, Float}
+use Rattle.std.specs.Prelude.{◌≡◌, ℕ, ◌+◌, ◌<◌, T, ◌⊎◌, List, [], ◌∷◌, slice_index_or, Float, Ok}
 use Rattle.std.specs.Float.{nan, binary32}
 use Rattle.std.specs.Float.Ieee.{fits}
 use Rattle.exact.specs.F64.{f64}
 use Rattle.exact.specs.Fraction.{◌≼◌, ◌≺◌, whole, exactly}
 use Rattle.lens.specs.Constants.{zeros}
-use Rattle.lens.specs.declared.Distorted.{Distorted}
-use Rattle.lens.specs.declared.Distorted.TheVariants.{At}
+use Rattle.lens.specs.Distorted.{Distorted}
 use Rattle.lens.specs.declared.Pixel.{Pixel}
 use Rattle.lookup.specs.Lookup.{whole_part, neighbour, cell}
 
@@ -41,6 +40,6 @@ Same c r = (r ≡ c) ⊎ ((c ≡ minus_zero) × (r ≡ zeros))
 -- the answer is the pixel (c, d) in this sense
 pub record Answered (c d : Float) (r : Distorted) : Type 0 where
   pub pixel : Pixel
-  pub is : r ≡ At pixel
+  pub is : r ≡ Ok pixel
   pub first : Same c pixel.0
   pub second : Same d pixel.1

@@ -7,7 +7,7 @@ ghost use Rattle.region.specs.Size.{Sized};
 ghost use Rattle.lookup.specs.Lookup.{index, outside, neighbour, spot, between, blended, cell, number_at, pixel_at, looked_up, spread, admitted, lookup};
 ghost use Rattle.lookup.specs.Asked.{Number, Inside, Reaches, Whole, Taken};
 
-use lens::{Distorted, Judgement, Pixel, Point, Refusal};
+use lens::{Pixel, Point, Refusal};
 use region::Region;
 
 // Where an index lies, across or down: the cell of its whole part, that cell's neighbour, and how far it is from the
@@ -104,25 +104,25 @@ fn pixel_at(table: &[f32], width: usize, across: Spot, down: Spot) -> Pixel
 }
 
 // 9 for an index outside; else the pixel, or 11.
-fn looked_up(table: &[f32], width: usize, height: usize, i: f64, j: f64) -> Distorted
+fn looked_up(table: &[f32], width: usize, height: usize, i: f64, j: f64) -> Result<Pixel, Refusal>
     requires { Whole (length table.now) width height × Number i × Number j }
     ensures { result ≡ looked_up table.now width height i j }
 {
     if outside(i, width) || outside(j, height) {
-        return Distorted::Refused(Refusal::OutsideTable);
+        return Err(Refusal::OutsideTable);
     }
     lens::finite_pixel(pixel_at(table, width, spot_of(i, width), spot_of(j, height)))
 }
 
 // 8 or 11 for the increments, which are worked out once; then by the indices.
-fn spread(table: &[f32], region: Region, width: usize, height: usize, point: Point) -> Distorted
+fn spread(table: &[f32], region: Region, width: usize, height: usize, point: Point) -> Result<Pixel, Refusal>
     requires { Taken (length table.now) region width height point }
     ensures { result ≡ spread table.now region width height point }
 {
     let by = region::increments_of(region, width, height);
     match region::wrong(by) {
-        Judgement::Refused(refusal) => Distorted::Refused(refusal),
-        Judgement::Taken => looked_up(
+        Err(refusal) => Err(refusal),
+        Ok(()) => looked_up(
             table,
             width,
             height,
@@ -141,28 +141,28 @@ fn measured(places: usize, width: usize, height: usize) -> bool
 }
 
 // 4, then 6, then 7.
-fn admitted(places: usize, region: Region, width: usize, height: usize, point: Point) -> Judgement
+fn admitted(places: usize, region: Region, width: usize, height: usize, point: Point) -> Result<(), Refusal>
     ensures { result ≡ admitted places region width height point }
 {
     if !region::finite_region(region) || !lens::both_finite(point.0, point.1) {
-        return Judgement::Refused(Refusal::NotFinite);
+        return Err(Refusal::NotFinite);
     }
     if !region::sized(width, height) {
-        return Judgement::Refused(Refusal::WrongSize);
+        return Err(Refusal::WrongSize);
     }
     if measured(places, width, height) {
-        Judgement::Taken
+        Ok(())
     } else {
-        Judgement::Refused(Refusal::WrongLength)
+        Err(Refusal::WrongLength)
     }
 }
 
 // The pixel at a point, between the four cells around it.
-pub fn lookup(table: &[f32], region: Region, width: usize, height: usize, point: Point) -> Distorted
+pub fn lookup(table: &[f32], region: Region, width: usize, height: usize, point: Point) -> Result<Pixel, Refusal>
     ensures { told_pixel result ≡ told_pixel (lookup table.now region width height point) }
 {
     match admitted(table.len(), region, width, height, point) {
-        Judgement::Refused(refusal) => Distorted::Refused(refusal),
-        Judgement::Taken => spread(table, region, width, height, point),
+        Err(refusal) => Err(refusal),
+        Ok(()) => spread(table, region, width, height, point),
     }
 }

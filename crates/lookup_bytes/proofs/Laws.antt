@@ -1,5 +1,6 @@
 -- What a caller may rely on, of the definitions of specs/ and of the contract of src/. Assumes nothing.
 use mathlib.Core.Path.{◌≡◌, refl, sym, ap, ◌∙◌}
+use Rattle.core.specs.declared.result.Result.TheVariants.{Ok}
 use mathlib.Core.Bool.{Bool}
 use mathlib.Core.List.{List}
 use Prim.Native.Nat.{ℕ}
@@ -12,8 +13,7 @@ use Rattle.answer_bytes.specs.Answer.{pixel_bytes, give_pixel}
 use Rattle.given.specs.Given.{given, code}
 use Rattle.given.proofs.Laws.{both, Untouched, refused_kept, filled}
 use Rattle.lens.specs.Distorted.{told_pixel}
-use Rattle.lens.specs.declared.Distorted.{Distorted}
-use Rattle.lens.specs.declared.Distorted.TheVariants as pixels
+use Rattle.lens.specs.Distorted.{Distorted}
 use Rattle.lens.specs.declared.Pixel.{Pixel}
 use Rattle.lookup.specs.Lookup.{lookup}
 use Rattle.region_bytes.specs.Box.{box_at}
@@ -34,7 +34,7 @@ lookup_untouched table region lent width height x y = refused_kept 16 _ _ lent
 -- Where a table has a pixel at the point, 0 is returned, and 16 bytes are the pixel's.
 pub lookup_answered :
     (table : List Float) (region lent : List ℕ) (width height : ℕ) (x y : Float) (pixel : Pixel) →
-    lookup table (box_at region 0) width height record { 0 = x; 1 = y } ≡ pixels.At pixel →
+    lookup table (box_at region 0) width height record { 0 = x; 1 = y } ≡ Ok pixel →
     length region ≡ 32 →
     length lent ≡ 16 →
     lookup_bytes table region width height x y lent ≡ given 0 (pixel_bytes pixel)

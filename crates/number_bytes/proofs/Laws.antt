@@ -1,5 +1,7 @@
 -- What a caller may rely on, of the definitions of specs/ and of the contract of src/. Assumes nothing.
 use mathlib.Core.Path.{◌≡◌, refl, sym, ap, ◌∙◌}
+use Rattle.core.specs.declared.option.Option.{Option}
+use Rattle.core.specs.declared.option.Option.TheVariants.{Some}
 use mathlib.Core.List.{List, [], ◌∷◌}
 use Prim.Native.Nat.{ℕ}
 use lib.Ieee.{Float}
@@ -7,8 +9,6 @@ use lib.ListN.{length}
 use Rattle.exact.specs.Determined.{DeterminedWith}
 use Rattle.arctan.specs.Owed.{slope_number}
 use Rattle.arctan.specs.Tangent.{tangent}
-use Rattle.arctan.specs.declared.Slope.{Slope}
-use Rattle.arctan.specs.declared.Slope.TheVariants.{Is}
 use Rattle.given.specs.Given.{given}
 use Rattle.given.proofs.Laws.{both, Untouched, refused_kept, filled}
 use Rattle.little_endian.specs.Bytes.{floats}
@@ -25,6 +25,6 @@ unfolding tangent_bytes
 tangent_untouched theta lent = refused_kept 8 _ _ lent
 
 -- Where there is a tangent, 0 is returned, and 8 bytes are its own.
-pub tangent_answered : (theta t : Float) (lent : List ℕ) → tangent theta ≡ Is t → length lent ≡ 8 → tangent_bytes theta lent ≡ given 0 (floats (t ∷ []))
+pub tangent_answered : (theta t : Float) (lent : List ℕ) → tangent theta ≡ Some t → length lent ≡ 8 → tangent_bytes theta lent ≡ given 0 (floats (t ∷ []))
 unfolding tangent_bytes
-tangent_answered theta t lent e f = ap (λ (s : Slope). give_slope (slope_number s) (slope_value s) lent) e ∙ filled 8 0 (floats (t ∷ [])) lent refl f
+tangent_answered theta t lent e f = ap (λ (s : Option Float). give_slope (slope_number s) (slope_value s) lent) e ∙ filled 8 0 (floats (t ∷ [])) lent refl f

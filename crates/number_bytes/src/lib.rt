@@ -7,7 +7,6 @@ ghost use Rattle.arctan.specs.Tangent.{tangent};
 ghost use Rattle.given.specs.Given.{given};
 ghost use Rattle.number_bytes.specs.Number.{slope_value, give_slope, tangent_bytes};
 
-use arctan::Slope;
 use lens::Refusal;
 
 // What the tangent tells: 0 and the slope, or 10 and zero.
@@ -17,12 +16,12 @@ struct ToldSlope {
     slope: f64,
 }
 
-fn told_slope(slope: Slope) -> ToldSlope
+fn told_slope(slope: Option<f64>) -> ToldSlope
     ensures { (result.number ≡ slope_number slope) × (result.slope ≡ slope_value slope) }
 {
     match slope {
-        Slope::Is(slope) => ToldSlope { number: 0, slope },
-        Slope::TooSteep => ToldSlope {
+        Some(slope) => ToldSlope { number: 0, slope },
+        None => ToldSlope {
             number: lens::number(Refusal::AngleTooLarge),
             slope: 0.0,
         },

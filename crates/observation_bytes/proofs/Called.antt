@@ -1,5 +1,7 @@
 -- From the parts of a call to what it gives back. Assumes nothing.
 use mathlib.Core.Path.{◌≡◌, refl, sym, ap, ap₂, ◌∙◌}
+use Rattle.core.specs.declared.result.Result.{Result}
+use Rattle.core.specs.declared.result.Result.TheVariants.{Ok, Err}
 use mathlib.Core.Bool.{Bool, true, false, cond}
 use mathlib.Core.List.{List, ◌++◌}
 use Prim.Native.Nat.{ℕ, zero, suc, ◌*◌, ◌/◌, ◌%◌, ◌≤◌}
@@ -15,8 +17,6 @@ use Rattle.camera.specs.declared.Camera.{Camera}
 use Rattle.observations.specs.Observations.{refusal_of, seen, observed}
 use Rattle.observations.specs.declared.Observation.{Observation}
 use Rattle.observations.proofs.Laws.{seen_observed}
-use Rattle.camera_bytes.specs.declared.Asked.{Asked}
-use Rattle.camera_bytes.specs.declared.Asked.TheVariants.{Of, Refused}
 use Rattle.observation_bytes.specs.Bytes.{pixel_of, with_found, observed_bytes, each, told_code, observed_by}
 use Rattle.observation_bytes.specs.Parts.{blank, seen_bytes, rounds}
 
@@ -41,8 +41,8 @@ module _ (camera : Camera) (fine : refusal_of camera ≡ 0) where
 
 -- a camera was read
 pub by_camera :
-    (camera : Camera) (list after : List ℕ) (asked : Asked) (r : ℕ) →
-    asked ≡ Of camera →
+    (camera : Camera) (list after : List ℕ) (asked : Result Camera Refusal) (r : ℕ) →
+    asked ≡ Ok camera →
     r ≡ code (refusal_of camera) (eqb (length list % 40) 0) →
     after ≡ each (seen_bytes camera) (rounds r (length list)) list →
     given r after ≡ observed_by asked list
@@ -50,19 +50,19 @@ unfolding each
 by_camera camera list after asked r a e f =
     ap₂ given refl f
     ∙ ap (λ (n : ℕ). given n (each (seen_bytes camera) (rounds n (length list)) list)) e
-    ∙ ap (given (told_code (Of camera) list)) (go (eqb (told_code (Of camera) list) 0) refl)
-    ∙ ap (λ (q : Asked). observed_by q list) (sym a)
+    ∙ ap (given (told_code (Ok camera) list)) (go (eqb (told_code (Ok camera) list) 0) refl)
+    ∙ ap (λ (q : Result Camera Refusal). observed_by q list) (sym a)
   where
-    go : (b : Bool) → eqb (told_code (Of camera) list) 0 ≡ b → each (seen_bytes camera) (cond b (length list / 40) 0) list ≡ cond b (each (observed_bytes camera) (length list / 40) list) list
-    go true z = each_same camera (zero_told (refusal_of camera) (eqb (length list % 40) 0) (eqb-true (told_code (Of camera) list) 0 z)).0 (length list / 40) list
+    go : (b : Bool) → eqb (told_code (Ok camera) list) 0 ≡ b → each (seen_bytes camera) (cond b (length list / 40) 0) list ≡ cond b (each (observed_bytes camera) (length list / 40) list) list
+    go true z = each_same camera (zero_told (refusal_of camera) (eqb (length list % 40) 0) (eqb-true (told_code (Ok camera) list) 0 z)).0 (length list / 40) list
     go false z = refl
 
 -- none was
-pub by_none : (r : Refusal) (list : List ℕ) (asked : Asked) (n : ℕ) → asked ≡ Refused r → n ≡ code (number r) (eqb (length list % 40) 0) → given n list ≡ observed_by asked list
+pub by_none : (r : Refusal) (list : List ℕ) (asked : Result Camera Refusal) (n : ℕ) → asked ≡ Err r → n ≡ code (number r) (eqb (length list % 40) 0) → given n list ≡ observed_by asked list
 by_none r list asked n a e =
     ap (λ (k : ℕ). given k list) e
-    ∙ ap (given (told_code (Refused r) list)) (go (eqb (told_code (Refused r) list) 0))
-    ∙ ap (λ (q : Asked). observed_by q list) (sym a)
+    ∙ ap (given (told_code (Err r) list)) (go (eqb (told_code (Err r) list) 0))
+    ∙ ap (λ (q : Result Camera Refusal). observed_by q list) (sym a)
   where
     go : (b : Bool) → list ≡ cond b list list
     go true = refl

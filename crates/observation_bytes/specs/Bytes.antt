@@ -2,7 +2,8 @@
 --
 --      0  pixel: u, v        32  flag, one byte, 1 for yes       34  six bytes that are neither read nor written
 --     16  answer: x, y       33  number, one byte
-use Rattle.std.specs.Prelude.{cond, List, [], ◌∷◌, ◌++◌, ℕ, zero, suc, ◌/◌, ◌%◌, eqb, length, take, drop}
+use Rattle.std.specs.Prelude.{cond, List, [], ◌∷◌, ◌++◌, ℕ, zero, suc, ◌/◌, ◌%◌, eqb, length, take, drop, Result, Ok, Err}
+use Rattle.lens.specs.declared.Refusal.{Refusal}
 use Rattle.little_endian.specs.Bytes.{bytes, float, floats}
 use Rattle.given.specs.Given.{Given, given, flag_number, code}
 use Rattle.lens.specs.Refusal.{number}
@@ -13,8 +14,6 @@ use Rattle.camera.specs.declared.Camera.{Camera}
 use Rattle.observations.specs.Observations.{beside, refusal_of}
 use Rattle.observations.specs.declared.Observation.{Observation}
 use Rattle.camera_bytes.specs.Reading.{read}
-use Rattle.camera_bytes.specs.declared.Asked.{Asked}
-use Rattle.camera_bytes.specs.declared.Asked.TheVariants.{Of, Refused}
 
 -- ---- one record
 
@@ -41,20 +40,20 @@ each f zero bs = bs
 each f (suc n) bs = f (take 40 bs) ++ each f n (drop 40 bs)
 
 -- 1 or 3 for the camera's bytes, 4 or 5 for the camera, or 0
-abbrev pub own : Asked → ℕ
-own (Of camera) = refusal_of camera
-own (Refused r) = number r
+abbrev pub own : Result Camera Refusal → ℕ
+own (Ok camera) = refusal_of camera
+own (Err r) = number r
 
-abbrev pub all_observed : Asked → List ℕ → List ℕ
-all_observed (Of camera) list = each (observed_bytes camera) (length list / 40) list
-all_observed (Refused r) list = list
+abbrev pub all_observed : Result Camera Refusal → List ℕ → List ℕ
+all_observed (Ok camera) list = each (observed_bytes camera) (length list / 40) list
+all_observed (Err r) list = list
 
 -- 7 for bytes that are not of whole records, and the lowest refusal is told; with 0 every record is observed, else the
 -- list is as it was
-abbrev pub told_code : Asked → List ℕ → ℕ
+abbrev pub told_code : Result Camera Refusal → List ℕ → ℕ
 told_code asked list = code (own asked) (eqb (length list % 40) 0)
 
-abbrev pub observed_by : Asked → List ℕ → Given
+abbrev pub observed_by : Result Camera Refusal → List ℕ → Given
 observed_by asked list =
     given (told_code asked list) (cond (eqb (told_code asked list) 0) (all_observed asked list) list)
 

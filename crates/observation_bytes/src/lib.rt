@@ -10,7 +10,6 @@ ghost use Rattle.observation_bytes.specs.Bytes.{found_bytes, each, observe_bytes
 ghost use Rattle.observation_bytes.specs.Parts.{blank_at, seen_bytes, rounds};
 
 use camera::Camera;
-use camera_bytes::Asked;
 use lens::{Pixel, Point};
 use observations::Observation;
 
@@ -86,7 +85,7 @@ pub fn observe(model: u8, params: &[u8], list: &mut [u8]) -> u8
     ensures { given result list.new ≡ observe_bytes model params.now list.old }
 {
     match camera_bytes::read(model, params) {
-        Asked::Of(camera) => observed_by(camera, list),
-        Asked::Refused(refusal) => given::code(lens::number(refusal), list.len() % LENGTH == 0),
+        Ok(camera) => observed_by(camera, list),
+        Err(refusal) => given::code(lens::number(refusal), list.len() % LENGTH == 0),
     }
 }

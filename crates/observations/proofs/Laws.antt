@@ -1,5 +1,6 @@
 -- What a caller may rely on, of the definitions of specs/ and of the contract of src/. Assumes nothing.
 use mathlib.Core.Path.{◌≡◌, refl, sym, ap, ◌∙◌}
+use Rattle.core.specs.declared.result.Result.TheVariants.{Ok, Err}
 use mathlib.Core.Bool.{Bool, true, false, not, cond}
 use mathlib.Core.List.{List, [], ◌∷◌, map}
 use Prim.Native.Nat.{ℕ}
@@ -23,8 +24,7 @@ use Rattle.lens.specs.Undistorted.{told}
 use Rattle.lens.specs.declared.Pixel.{Pixel}
 use Rattle.lens.specs.declared.Refusal.{Refusal}
 use Rattle.lens.specs.declared.Settled.{Settled}
-use Rattle.lens.specs.declared.Undistorted.{Undistorted}
-use Rattle.lens.specs.declared.Undistorted.TheVariants.{At, Refused}
+use Rattle.lens.specs.Undistorted.{Undistorted}
 use Rattle.camera.specs.Camera.{parameters, zero_focal, undistort}
 use Rattle.camera.specs.Rows.{undistort_rows}
 use Rattle.lens.specs.Rows.{◌when◌, first}
@@ -110,14 +110,14 @@ only_pixel_read camera o o' e = ap (λ (p : Pixel). beside p (told (undistort ca
 
 -- Where `undistort` answers, the record has the number 0, the point and the flag.
 pub answered_record :
-    (camera : Camera) (o : Observation) (s : Settled) → undistort camera o.pixel ≡ At s
+    (camera : Camera) (o : Observation) (s : Settled) → undistort camera o.pixel ≡ Ok s
     → observed camera o ≡ record { pixel = o.pixel; answer = s.point; flag = s.flag; number = 0 }
 unfolding observed
 answered_record camera o s e = ap (λ (u : Undistorted). beside o.pixel (told u)) e
 
 -- Where it refuses, the record has the refusal's number, zeros, and the flag no.
 pub refused_record :
-    (camera : Camera) (o : Observation) (r : Refusal) → undistort camera o.pixel ≡ Refused r
+    (camera : Camera) (o : Observation) (r : Refusal) → undistort camera o.pixel ≡ Err r
     → observed camera o ≡ record { pixel = o.pixel; answer = record { 0 = zeros; 1 = zeros }; flag = false; number = number r }
 unfolding observed
 refused_record camera o r e = ap (λ (u : Undistorted). beside o.pixel (told u)) e
@@ -130,8 +130,8 @@ unfolding observed
 blank_unless_0 camera o = go (undistort camera o.pixel)
   where
     go : (u : Undistorted) → ((told u).number ≡ 0 → ⊥) → ((told u).settled.point ≡ record { 0 = zeros; 1 = zeros }) × ((told u).settled.flag ≡ false)
-    go (At s) h = absurd (h refl)
-    go (Refused r) h = (refl, refl)
+    go (Ok s) h = absurd (h refl)
+    go (Err r) h = (refl, refl)
 
 -- A record's number is the one that the refusal table gives: 4, 5, 10, 16 or 11, the first whose row holds, or 0.
 pub record_number : (camera : Camera) (o : Observation) → (observed camera o).number ≡ first (undistort_rows camera o.pixel)

@@ -1,12 +1,11 @@
 -- What becomes of a list of observations (docs/RULES.md, 15): of one record, and of all. Definitions only.
-use Rattle.std.specs.Prelude.{cond, ◌&&◌, List, map, ℕ, eqb}
+use Rattle.std.specs.Prelude.{cond, ◌&&◌, List, map, ℕ, eqb, Err}
 use Rattle.std.specs.Float.Ieee.Scale.{finite}
 use Rattle.lens.specs.Finite.{all_finite}
 use Rattle.lens.specs.Undistorted.{Told, told}
 use Rattle.lens.specs.declared.Pixel.{Pixel}
 use Rattle.lens.specs.declared.Refusal.TheVariants.{NotFinite}
-use Rattle.lens.specs.declared.Undistorted.{Undistorted}
-use Rattle.lens.specs.declared.Undistorted.TheVariants.{Refused}
+use Rattle.lens.specs.Undistorted.{Undistorted}
 use Rattle.camera.specs.Camera.{parameters, zero_focal, undistort_judged, undistort}
 use Rattle.camera.specs.declared.Camera.{Camera}
 use Rattle.observations.specs.declared.Observation.{Observation}
@@ -47,7 +46,7 @@ abbrev pub rounds : ℕ → ℕ → ℕ
 rounds number length = cond (eqb number 0) length 0
 
 abbrev pub found : Camera → Pixel → Undistorted
-found camera pixel = cond (finite pixel.0 && finite pixel.1) (undistort_judged camera pixel) (Refused NotFinite)
+found camera pixel = cond (finite pixel.0 && finite pixel.1) (undistort_judged camera pixel) (Err NotFinite)
 
 unfoldable pub seen : Camera → Observation → Observation
 seen camera o = beside o.pixel (told (found camera o.pixel))

@@ -7,7 +7,7 @@ ghost use Rattle.lens.specs.Undistorted.{told};
 ghost use Rattle.observations.specs.Observations.{refusal_of, rounds, beside, found, seen, listed, observe_all};
 
 use camera::Camera;
-use lens::{Pixel, Point, Refusal, Undistorted};
+use lens::{Pixel, Point, Refusal, Settled};
 
 // A pixel, and what undistort makes of it: number 0 with its answer and flag, or a refusal's number with zeros and no.
 #[derive(Clone, Copy)]
@@ -41,22 +41,22 @@ fn rounds(number: u8, length: usize) -> usize
 }
 
 // The point of a pixel, for a camera that is not refused: its parameters are not judged again.
-fn found(camera: Camera, pixel: Pixel) -> Undistorted
+fn found(camera: Camera, pixel: Pixel) -> Result<Settled, Refusal>
     ensures { told result ≡ told (found camera pixel) }
 {
     if lens::both_finite(pixel.0, pixel.1) {
         camera::undistort_judged(camera, pixel)
     } else {
-        Undistorted::Refused(Refusal::NotFinite)
+        Err(Refusal::NotFinite)
     }
 }
 
 // The record of a pixel and what was found of it.
-fn beside(pixel: Pixel, undistorted: Undistorted) -> Observation
+fn beside(pixel: Pixel, undistorted: Result<Settled, Refusal>) -> Observation
     ensures { result ≡ beside pixel (told undistorted) }
 {
     match undistorted {
-        Undistorted::At(settled) => {
+        Ok(settled) => {
             let answer = settled.point;
             Observation {
                 pixel,
@@ -65,7 +65,7 @@ fn beside(pixel: Pixel, undistorted: Undistorted) -> Observation
                 number: 0,
             }
         }
-        Undistorted::Refused(refusal) => Observation {
+        Err(refusal) => Observation {
             pixel,
             answer: Point(0.0, 0.0),
             flag: false,

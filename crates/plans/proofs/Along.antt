@@ -1,5 +1,6 @@
 -- What every unit of a build keeps: its record is the definition's of as many units; and which number it is refused with. Assumes nothing.
 use mathlib.Core.Path.{◌≡◌, refl, sym, ap, ap₂, ◌∙◌, subst}
+use Rattle.core.specs.declared.result.Result.TheVariants.{Ok}
 use mathlib.Core.Bool.{Bool, true, false, cond}
 use Prim.Native.Nat.{ℕ, zero, suc, ◌+◌, ◌-◌, ◌/◌, ◌%◌, ◌≤◌, ◌<◌, min}
 use native.Mathlib.Numerals.{add-one}
@@ -8,8 +9,7 @@ use borrow.Author.Tests.{ltb-true, ltb-false, lt-ltb, le-ltb}
 use lib.Dec.{ltb}
 use Rattle.lens.specs.Undistorted.{told}
 use Rattle.lens.specs.declared.Settled.{Settled}
-use Rattle.lens.specs.declared.Undistorted.{Undistorted}
-use Rattle.lens.specs.declared.Undistorted.TheVariants.{At}
+use Rattle.lens.specs.Undistorted.{Undistorted}
 use Rattle.turns.specs.Turns.{turn}
 use Rattle.turns.proofs.Laws as any
 use Rattle.border.specs.Edges.{doubled}
@@ -35,13 +35,13 @@ module _ {X : Type 0} (p : Plan X) where
   as_counted n m before e f = ap₂ (λ (m : ℕ) (b : Bool). counted n m b) e f
 
   -- one more sample
-  sampled_is : (n : ℕ) (before : Bool) (settled : Settled) → found p.sweep n ≡ At settled → sampled (counted n n before) settled ≡ counted (n + 1) (suc n) before
+  sampled_is : (n : ℕ) (before : Bool) (settled : Settled) → found p.sweep n ≡ Ok settled → sampled (counted n n before) settled ≡ counted (n + 1) (suc n) before
   unfolding sum_below first_no edges_below
   sampled_is n before settled e =
       let f : settled ≡ settled_at p.sweep n = sym (ap (λ (u : Undistorted). (told u).settled) e) in
       ap (sampled (counted n n before)) f ∙ rw add-one refl
 
-  module _ (n : ℕ) (settled : Settled) (e : found p.sweep n ≡ At settled) where
+  module _ (n : ℕ) (settled : Settled) (e : found p.sweep n ≡ Ok settled) where
     pub next_sample : n + 1 < p.sweep.samples → sampled (progress_of p.sweep n) settled ≡ progress_of p.sweep (n + 1)
     next_sample h =
         ap (λ (at : Progress). sampled at settled) (as_counted n n true (omega (arith, h)) (lt-ltb n p.sweep.samples (omega (arith, h))))

@@ -1,5 +1,6 @@
 -- The units that a build does are those before the first that the definition refuses, and that one refuses with its number. Assumes nothing.
 use mathlib.Core.Path.{◌≡◌, refl, sym, ap, ◌∙◌, subst}
+use Rattle.core.specs.declared.result.Result.TheVariants.{Ok, Err}
 use mathlib.Core.Bool.{Bool, true, false, cond}
 use Prim.Native.Nat.{ℕ, zero, suc, ◌+◌, ◌-◌, ◌/◌, ◌%◌, ◌≤◌, ◌<◌, min}
 use native.Mathlib.Omega.{arith}
@@ -7,11 +8,9 @@ use borrow.Author.Tests.{ltb-true, ltb-false, lt-ltb, le-ltb, ne_eqb, eq-eqb, eq
 use lib.Dec.{eqb, ltb}
 use Rattle.lens.specs.Judgement.{decided, verdict}
 use Rattle.lens.specs.Refusal.{number}
-use Rattle.lens.specs.declared.Judgement.{Judgement}
-use Rattle.lens.specs.declared.Judgement.TheVariants as judged
+use Rattle.lens.specs.Judgement.{Judgement}
 use Rattle.lens.specs.declared.Settled.{Settled}
-use Rattle.lens.specs.declared.Undistorted.{Undistorted}
-use Rattle.lens.specs.declared.Undistorted.TheVariants.{At, Refused}
+use Rattle.lens.specs.Undistorted.{Undistorted}
 use Rattle.lens.proofs.Laws.{number_within}
 use Rattle.region.specs.Region.{increments, wrong}
 use Rattle.region.specs.declared.Region.{Region}
@@ -35,8 +34,8 @@ above_zero : (n : ℕ) → 0 < n → eqb n 0 ≡ false
 above_zero n h = ne_eqb n 0 (λ e. omega (arith, e, h))
 
 judged_so : {S : Type 0} (j : Judgement) (t : S) → Numbered (decided j (λ r. refuses (number r)) (does t)) (verdict j)
-judged_so judged.Taken t = refl
-judged_so (judged.Refused r) t = (refl, (number_within r).0)
+judged_so (Ok _) t = refl
+judged_so (Err r) t = (refl, (number_within r).0)
 
 table_alone_so : {X : Type 0} (l : _) (n : Next Progress) (k : ℕ) → Numbered n k → Numbered (table_alone {X = X} l n) k
 table_alone_so l over k h = h
@@ -49,8 +48,8 @@ module _ {X : Type 0} (p : Plan X) where
 
   at_sample :
       (at : Progress) → at.done < p.sweep.samples → Along p at → (u : Undistorted) → found p.sweep at.done ≡ u → Numbered (after_sample p.sweep at u) (told_number u at.done)
-  at_sample at under h (Refused r) e = rw (above_zero (number r) (number_within r).0) (refl, (number_within r).0)
-  at_sample at under h (At settled) e = go (too_strict p.sweep settled) (ltb (at.done + 1) p.sweep.samples) refl
+  at_sample at under h (Err r) e = rw (above_zero (number r) (number_within r).0) (refl, (number_within r).0)
+  at_sample at under h (Ok settled) e = go (too_strict p.sweep settled) (ltb (at.done + 1) p.sweep.samples) refl
     where
       verdict_of : Region → ℕ
       verdict_of r = verdict (wrong (increments r p.sweep.width p.sweep.height))

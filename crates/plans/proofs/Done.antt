@@ -1,5 +1,6 @@
 -- What a unit done is: a sample, the last sample, or a cell; and when none is left. Assumes nothing.
 use mathlib.Core.Path.{◌≡◌, refl, sym, ap, ◌∙◌}
+use Rattle.core.specs.declared.result.Result.TheVariants.{Ok, Err}
 use mathlib.Core.Bool.{Bool, true, false, cond, not, ◌&&◌}
 use mathlib.Core.List.{List}
 use Prim.Native.Nat.{ℕ, ◌+◌, ◌-◌, ◌*◌, ◌/◌, ◌%◌, ◌≤◌, ◌<◌}
@@ -9,11 +10,9 @@ use lib.Dec.{ltb}
 use lib.ListN.{set}
 use Rattle.lens.specs.Judgement.{decided}
 use Rattle.lens.specs.Refusal.{number}
-use Rattle.lens.specs.declared.Judgement.{Judgement}
-use Rattle.lens.specs.declared.Judgement.TheVariants as judged
+use Rattle.lens.specs.Judgement.{Judgement}
 use Rattle.lens.specs.declared.Settled.{Settled}
-use Rattle.lens.specs.declared.Undistorted.{Undistorted}
-use Rattle.lens.specs.declared.Undistorted.TheVariants.{At, Refused}
+use Rattle.lens.specs.Undistorted.{Undistorted}
 use Rattle.region.specs.Region.{increments, wrong}
 use Rattle.turns.specs.Turns.{Next, over, refuses, does}
 use Rattle.border.specs.Edges.{doubled}
@@ -33,10 +32,10 @@ module _ {X : Type 0} (p : Plan X) where
   filled s a b = record { at = with_done s.at (s.at.done + 1); cells = set (set s.cells (2 * cells_done p.sweep s) a) (2 * cells_done p.sweep s + 1) b }
 
   pub data Done (s t : State X) : Type 0 where
-    a_sample : (settled : Settled) → s.at.done + 1 < p.sweep.samples → found p.sweep s.at.done ≡ At settled → too_strict p.sweep settled ≡ false → t ≡ record { at = sampled s.at settled; cells = s.cells } → Done s t
+    a_sample : (settled : Settled) → s.at.done + 1 < p.sweep.samples → found p.sweep s.at.done ≡ Ok settled → too_strict p.sweep settled ≡ false → t ≡ record { at = sampled s.at settled; cells = s.cells } → Done s t
     the_last :
-        (settled : Settled) → s.at.done + 1 ≡ p.sweep.samples → found p.sweep s.at.done ≡ At settled → too_strict p.sweep settled ≡ false
-        → wrong (increments (doubled (sampled s.at settled).edges) p.sweep.width p.sweep.height) ≡ judged.Taken → t ≡ rounded_off s settled → Done s t
+        (settled : Settled) → s.at.done + 1 ≡ p.sweep.samples → found p.sweep s.at.done ≡ Ok settled → too_strict p.sweep settled ≡ false
+        → wrong (increments (doubled (sampled s.at settled).edges) p.sweep.width p.sweep.height) ≡ Ok tt → t ≡ rounded_off s settled → Done s t
     a_cell : p.sweep.samples ≤ s.at.done → s.at.done < all_units p.sweep → (a b : X) → p.cell s.at.region (cells_done p.sweep s % p.sweep.width) (cells_done p.sweep s / p.sweep.width) ≡ numbers a b → t ≡ filled s a b → Done s t
 
   -- each is one more, of at most T
@@ -52,8 +51,8 @@ module _ {X : Type 0} (p : Plan X) where
   -- ---- from the definition
 
   sample_done : (s t : State X) → s.at.done < p.sweep.samples → (u : Undistorted) → found p.sweep s.at.done ≡ u → table_alone s.cells (after_sample p.sweep s.at u) ≡ does t → Done s t
-  sample_done s t under (Refused r) e h = let z : ◌≡◌ {A = ℕ} 0 1 = cc in absurd (omega arith)
-  sample_done s t under (At settled) e h =
+  sample_done s t under (Err r) e h = let z : ◌≡◌ {A = ℕ} 0 1 = cc in absurd (omega arith)
+  sample_done s t under (Ok settled) e h =
       go (too_strict p.sweep settled) refl (ltb (s.at.done + 1) p.sweep.samples) refl (wrong (increments (doubled (sampled s.at settled).edges) p.sweep.width p.sweep.height)) refl h
     where
       go :
@@ -61,8 +60,8 @@ module _ {X : Type 0} (p : Plan X) where
           → table_alone s.cells (cond x (refuses 18) (cond b (does (sampled s.at settled)) (decided j (λ r. refuses (number r)) (does (with_region (sampled s.at settled) (doubled (sampled s.at settled).edges)))))) ≡ does t → Done s t
       go true f b g j w h = let z : ◌≡◌ {A = ℕ} 0 1 = cc in absurd (omega arith)
       go false f true g j w h = a_sample settled (ltb-true (s.at.done + 1) p.sweep.samples g) e f (cc)
-      go false f false g (judged.Refused r) w h = let z : ◌≡◌ {A = ℕ} 0 1 = cc in absurd (omega arith)
-      go false f false g judged.Taken w h = the_last settled (omega (arith, under, ltb-false (s.at.done + 1) p.sweep.samples g)) e f w (cc)
+      go false f false g (Err r) w h = let z : ◌≡◌ {A = ℕ} 0 1 = cc in absurd (omega arith)
+      go false f false g (Ok _) w h = the_last settled (omega (arith, under, ltb-false (s.at.done + 1) p.sweep.samples g)) e f w (cc)
 
   cell_done :
       (s t : State X) → p.sweep.samples ≤ s.at.done → s.at.done < all_units p.sweep → (x : Content X) → p.cell s.at.region (cells_done p.sweep s % p.sweep.width) (cells_done p.sweep s / p.sweep.width) ≡ x

@@ -1,5 +1,6 @@
 -- Demand 3 over any plan and any kind of cell, as one law about the contract of any function that serves it. Assumes nothing.
 use mathlib.Core.Path.{◌≡◌, refl, sym, ap, ap₂, ◌∙◌, subst}
+use Rattle.core.specs.declared.result.Result.TheVariants.{Ok, Err}
 use mathlib.Core.Bool.{Bool, true, false, cond}
 use mathlib.Core.List.{List, [], ◌∷◌, ◌++◌}
 use Prim.Native.Nat.{ℕ, zero, suc, ◌+◌, ◌-◌, ◌*◌, ◌≤◌, ◌<◌, min}
@@ -12,12 +13,10 @@ use lib.ListN.{length}
 use Rattle.lens.specs.Finite.{all_finite}
 use Rattle.lens.specs.Judgement.{decided}
 use Rattle.lens.specs.Refusal.{number}
-use Rattle.lens.specs.declared.Judgement.{Judgement}
-use Rattle.lens.specs.declared.Judgement.TheVariants.{Taken, Refused}
+use Rattle.lens.specs.Judgement.{Judgement}
 use Rattle.lens.specs.Undistorted.{told}
 use Rattle.lens.specs.declared.Refusal.{Refusal}
-use Rattle.lens.specs.declared.Undistorted.{Undistorted}
-use Rattle.lens.specs.declared.Undistorted.TheVariants as found_at
+use Rattle.lens.specs.Undistorted.{Undistorted}
 use Rattle.lens.specs.declared.Refusal.TheVariants.{WrongLength, ImpossibleRecord}
 use Rattle.region.specs.Region.{four}
 use Rattle.region.specs.declared.Region.{Region}
@@ -148,10 +147,10 @@ module _ {X : Type 0} (p : Plan X) (sound : Sound p) where
 
   -- ---- calls
 
-  refused_call : (s : State X) (a : ℕ) (r : Refusal) → judged p s ≡ Refused r → (turn_of p a s).state ≡ s
+  refused_call : (s : State X) (a : ℕ) (r : Refusal) → judged p s ≡ Err r → (turn_of p a s).state ≡ s
   refused_call s a r e = ap (λ (j : Judgement). (decided j (λ r. record { state = s; said = refused (number r) }) (turn (next p) a s)).state) e
 
-  refused_calls : (ls : List ℕ) (s : State X) (r : Refusal) → judged p s ≡ Refused r → (calls p ls s ≡ s) × (admits p ls s ≡ 0)
+  refused_calls : (ls : List ℕ) (s : State X) (r : Refusal) → judged p s ≡ Err r → (calls p ls s ≡ s) × (admits p ls s ≡ 0)
   unfolding calls admits
   refused_calls [] s r e = (refl, refl)
   refused_calls (a ∷ rest) s r e =
@@ -159,10 +158,10 @@ module _ {X : Type 0} (p : Plan X) (sound : Sound p) where
       let i = refused_calls rest s r e in
       (ap (calls p rest) k ∙ i.0, ap₂ (λ (j : Judgement) (x : State X). decided j (λ r. 0) a + admits p rest x) e k ∙ zero-add (admits p rest s) ∙ i.1)
 
-  took : (s : State X) → judged p s ≡ Taken → (p.sweep.opens s.at.region ≡ Taken) × (length s.cells ≡ 2 * (p.sweep.width * p.sweep.height))
+  took : (s : State X) → judged p s ≡ Ok tt → (p.sweep.opens s.at.region ≡ Ok tt) × (length s.cells ≡ 2 * (p.sweep.width * p.sweep.height))
   took s h = let k = is_admitted p.sweep s.at (length s.cells) h in (k.opens, k.long)
 
-  pub start_good : p.sweep.opens nowhere ≡ Taken → (cells : List X) → length cells ≡ 2 * (p.sweep.width * p.sweep.height) → Good p (fresh cells)
+  pub start_good : p.sweep.opens nowhere ≡ Ok tt → (cells : List X) → length cells ≡ 2 * (p.sweep.width * p.sweep.height) → Good p (fresh cells)
   start_good opens cells h = record {
     record_of = record {
       not_past = omega arith;
@@ -175,14 +174,14 @@ module _ {X : Type 0} (p : Plan X) (sound : Sound p) where
     long = h;
   }
 
-  module _ (opens : p.sweep.opens nowhere ≡ Taken) where
-    stays_open : (s : State X) → Good p s → judged p s ≡ Taken
+  module _ (opens : p.sweep.opens nowhere ≡ Ok tt) where
+    stays_open : (s : State X) → Good p s → judged p s ≡ Ok tt
     stays_open s g =
         good_admitted p sound s g (sound.steady.alike s.at.region nowhere
         (all_four s.at.region g.region) (all_four nowhere nowhere_finite) ∙ opens)
 
     -- so is a fresh record, with a table of its size
-    pub fresh_admitted : (cells : List X) → length cells ≡ 2 * (p.sweep.width * p.sweep.height) → judged p (fresh cells) ≡ Taken
+    pub fresh_admitted : (cells : List X) → length cells ≡ 2 * (p.sweep.width * p.sweep.height) → judged p (fresh cells) ≡ Ok tt
     fresh_admitted cells long = stays_open (fresh cells) (start_good opens cells long)
 
     -- a call of an admitted record is a turn
@@ -212,16 +211,16 @@ module _ {X : Type 0} (p : Plan X) (sound : Sound p) where
   calls_built cells ls = go (judged p (fresh cells)) refl
     where
       go : (j : Judgement) → judged p (fresh cells) ≡ j → Built p cells (admits p ls (fresh cells)) (calls p ls (fresh cells))
-      go (Refused r) e =
+      go (Err r) e =
           let k = refused_calls ls (fresh cells) r e in
           subst (Built p cells (admits p ls (fresh cells))) (sym k.0) (subst (λ (n : ℕ). Built p cells n (fresh cells)) (sym k.1) (none_done cells))
-      go Taken e =
+      go (Ok _) e =
           let t = took (fresh cells) e in
           let k = all_allowed t.0 ls (fresh cells) (start_good t.0 cells t.1) in
           subst (Built p cells (admits p ls (fresh cells))) (sym (k.0 ∙ any.any_split (next p) ls (fresh cells)))
           (subst (λ (n : ℕ). Built p cells n (end cells (total ls))) (sym k.1) (as_defined cells t.1 (total ls)))
 
-  module _ (cells : List X) (taken : judged p (fresh cells) ≡ Taken) (ls : List ℕ) where
+  module _ (cells : List X) (taken : judged p (fresh cells) ≡ Ok tt) (ls : List ℕ) where
     abbrev reached : State X
     reached = calls p ls (fresh cells)
 
@@ -232,7 +231,7 @@ module _ {X : Type 0} (p : Plan X) (sound : Sound p) where
     reached_both = let t = took (fresh cells) taken in reached_good t.0 ls (fresh cells) (start_good t.0 cells t.1) (start_along cells)
 
     -- Where the first call is admitted, so is every later one;
-    pub reached_admitted : judged p reached ≡ Taken
+    pub reached_admitted : judged p reached ≡ Ok tt
     reached_admitted = stays_open (took (fresh cells) taken).0 reached reached_both.0
 
     -- and it says finished at T, refused with the number of the next unit if it has one and the allowance had room for it, else running.
@@ -273,8 +272,8 @@ module _ {X : Type 0} (p : Plan X) (table : List X) (A : ℕ) (s : State X) (b :
       )
     where
       go : {k : ℕ} (u : Undistorted) → found p.sweep k ≡ u → (told u).settled.updates ≤ p.sweep.limit
-      go {k} (found_at.At settled) e = sound.steady.limited (p.sweep.pixel_at k) settled e
-      go (found_at.Refused r) e = omega arith
+      go {k} (Ok settled) e = sound.steady.limited (p.sweep.pixel_at k) settled e
+      go (Err r) e = omega arith
 
   -- the unsettled ones are as many as the definition has among them, and the first is the definition's,
   pub built_unsettled : s.at.unsettled ≡ sum_below (λ k. one_no (settled_at p.sweep k).flag) (min s.at.done p.sweep.samples)
@@ -355,9 +354,9 @@ module _
         pub built_ready : Ready k × (plan k ≡ plan h)
         built_ready = (chained.ready_there, chained.plan_there)
 
-        module _ (taken : judged (plan h) (fresh cells) ≡ Taken) where
+        module _ (taken : judged (plan h) (fresh cells) ≡ Ok tt) where
           -- Where the first call is admitted, so is every later one;
-          pub built_admitted : judged (plan h) (state k) ≡ Taken
+          pub built_admitted : judged (plan h) (state k) ≡ Ok tt
           built_admitted = ap (judged (plan h)) held_at ∙ reached_admitted (plan h) sound cells taken ls
 
           -- all that was allowed counts;

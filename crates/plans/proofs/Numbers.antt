@@ -1,5 +1,6 @@
 -- Which numbers a turn is refused with: those that its samples, its increments and its cells are refused with. Assumes nothing.
 use mathlib.Core.Path.{◌≡◌, refl, sym, subst}
+use Rattle.core.specs.declared.result.Result.TheVariants.{Ok, Err}
 use mathlib.Core.Bool.{Bool, true, false, cond, not, ◌&&◌}
 use mathlib.Core.List.{List}
 use Prim.Native.Nat.{ℕ}
@@ -7,12 +8,10 @@ use native.Mathlib.Omega.{arith}
 use lib.Dec.{ltb}
 use Rattle.lens.specs.Judgement.{decided}
 use Rattle.lens.specs.Refusal.{number}
-use Rattle.lens.specs.declared.Judgement.{Judgement}
-use Rattle.lens.specs.declared.Judgement.TheVariants as judged
+use Rattle.lens.specs.Judgement.{Judgement}
 use Rattle.lens.specs.declared.Pixel.{Pixel}
 use Rattle.lens.specs.declared.Refusal.{Refusal}
-use Rattle.lens.specs.declared.Undistorted.{Undistorted}
-use Rattle.lens.specs.declared.Undistorted.TheVariants.{At, Refused}
+use Rattle.lens.specs.Undistorted.{Undistorted}
 use Rattle.region.specs.Region.{increments, wrong}
 use Rattle.region.specs.declared.Increments.{Increments}
 use Rattle.region.specs.declared.Region.{Region}
@@ -30,9 +29,9 @@ Told P running = Unit {0}
 
 -- what holds of each number that a unit can be refused with
 pub record Refusing {X : Type 0} (p : Plan X) (P : ℕ → Type 0) : Type 0 where
-  pub samples : (pixel : Pixel) (r : Refusal) → p.sweep.sample pixel ≡ Refused r → P (number r)
+  pub samples : (pixel : Pixel) (r : Refusal) → p.sweep.sample pixel ≡ Err r → P (number r)
   pub strictly : p.sweep.strict ≡ true → P 18
-  pub increments : (by : Increments) (r : Refusal) → wrong by ≡ judged.Refused r → P (number r)
+  pub increments : (by : Increments) (r : Refusal) → wrong by ≡ Err r → P (number r)
   pub cells : (region : Region) (u v n : ℕ) → p.cell region u v ≡ none n → P n
 
 module _ {X : Type 0} (p : Plan X) (P : ℕ → Type 0) (so : Refusing p P) where
@@ -41,17 +40,17 @@ module _ {X : Type 0} (p : Plan X) (P : ℕ → Type 0) (so : Refusing p P) wher
   Known (refuses n) = P n
   Known (does t) = Unit {0}
 
-  judged_known : {S : Type 0} (j : Judgement) (t : S) → ((r : Refusal) → j ≡ judged.Refused r → P (number r)) → Known (decided j (λ r. refuses (number r)) (does t))
-  judged_known judged.Taken t h = tt
-  judged_known (judged.Refused r) t h = h r refl
+  judged_known : {S : Type 0} (j : Judgement) (t : S) → ((r : Refusal) → j ≡ Err r → P (number r)) → Known (decided j (λ r. refuses (number r)) (does t))
+  judged_known (Ok _) t h = tt
+  judged_known (Err r) t h = h r refl
 
   strict_so : (b c : Bool) → p.sweep.strict ≡ b → (b && c) ≡ true → P 18
   strict_so true c e h = so.strictly e
   strict_so false c e h = let z : ◌≡◌ {A = ℕ} 0 1 = cc in absurd (omega arith)
 
   sample_known : (at : Progress) (pixel : Pixel) (u : Undistorted) → p.sweep.sample pixel ≡ u → Known (after_sample p.sweep at u)
-  sample_known at pixel (Refused r) e = so.samples pixel r e
-  sample_known at pixel (At settled) e = go (too_strict p.sweep settled) refl (ltb (sampled at settled).done p.sweep.samples)
+  sample_known at pixel (Err r) e = so.samples pixel r e
+  sample_known at pixel (Ok settled) e = go (too_strict p.sweep settled) refl (ltb (sampled at settled).done p.sweep.samples)
     where
       last : Progress
       last = sampled at settled

@@ -1,5 +1,6 @@
 -- A border that leaves out samples whose pixel came before makes the same table. Assumes nothing.
 use mathlib.Core.Path.{◌≡◌, refl, sym, ap, ap₂, ◌∙◌, subst}
+use Rattle.core.specs.declared.result.Result.TheVariants.{Ok, Err}
 use mathlib.Core.Bool.{Bool, true, false, cond}
 use mathlib.Core.List.{List}
 use Prim.Native.Nat.{ℕ, zero, suc, ◌+◌, ◌-◌, ◌*◌, ◌/◌, ◌%◌, ◌≤◌, ◌<◌}
@@ -11,8 +12,7 @@ use Rattle.lens.specs.Judgement.{verdict}
 use Rattle.lens.specs.Undistorted.{told}
 use Rattle.lens.specs.declared.Pixel.{Pixel}
 use Rattle.lens.specs.declared.Point.{Point}
-use Rattle.lens.specs.declared.Undistorted.{Undistorted}
-use Rattle.lens.specs.declared.Undistorted.TheVariants.{At, Refused}
+use Rattle.lens.specs.Undistorted.{Undistorted}
 use Rattle.region.specs.Region.{increments, wrong}
 use Rattle.region.specs.declared.Region.{Region}
 use Rattle.border.specs.Edges.{widened, edges_after, doubled}
@@ -35,8 +35,8 @@ module _ {X : Type 0} (p : Plan X) (sound : Sound p) where
   point_finite n = go (found p.sweep n) refl
     where
       go : (u : Undistorted) → found p.sweep n ≡ u → FinitePoint (told u).settled.point
-      go (At settled) e = sound.steady.points (p.sweep.pixel_at n) settled e
-      go (Refused r) e = (refl, refl)
+      go (Ok settled) e = sound.steady.points (p.sweep.pixel_at n) settled e
+      go (Err r) e = (refl, refl)
 
   edges_finite : (n : ℕ) → Four (edges_below p.sweep n)
   unfolding edges_below
@@ -116,8 +116,8 @@ module _ {X : Type 0} (p : Plan X) (sound : Sound p) (samples : ℕ) (pixel_at :
     same_content c = ap (λ (r : Region). p.cell r (c % p.sweep.width) (c / p.sweep.width)) same_region
 
     same_number : (u : Undistorted) → sample_number q.sweep u ≡ sample_number p.sweep u
-    same_number (At settled) = refl
-    same_number (Refused r) = refl
+    same_number (Ok settled) = refl
+    same_number (Err r) = refl
 
     same_refusal : refused_with q ≡ refused_with p
     same_refusal =

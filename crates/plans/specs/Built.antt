@@ -1,13 +1,12 @@
 -- Demand 3 over any plan: what the definition says of each unit, in closed forms, and what a build owes. Definitions
 -- only.
-use Rattle.std.specs.Prelude.{◌≡◌, Bool, cond, List, ℕ, zero, suc, ◌+◌, ◌-◌, ◌*◌, ◌≤◌, ◌<◌, min, eqb, ltb, length, get_or}
+use Rattle.std.specs.Prelude.{◌≡◌, Bool, cond, List, ℕ, zero, suc, ◌+◌, ◌-◌, ◌*◌, ◌≤◌, ◌<◌, min, eqb, ltb, length, get_or, Ok, Err}
 use Rattle.lens.specs.Judgement.{verdict}
 use Rattle.lens.specs.Refusal.{number}
 use Rattle.lens.specs.Undistorted.{told}
 use Rattle.lens.specs.declared.Refusal.TheVariants.{SampleUnsettled}
 use Rattle.lens.specs.declared.Settled.{Settled}
-use Rattle.lens.specs.declared.Undistorted.{Undistorted}
-use Rattle.lens.specs.declared.Undistorted.TheVariants.{At, Refused}
+use Rattle.lens.specs.Undistorted.{Undistorted}
 use Rattle.region.specs.Region.{increments, wrong}
 use Rattle.region.specs.declared.Region.{Region}
 use Rattle.turns.specs.Turns.{Said, finished, refused, running}
@@ -58,8 +57,8 @@ module _ (sweep : Sweep) where
 
   -- the number that a sample is refused with, 0 if it is not: its own, or 18
   abbrev pub sample_number : Undistorted → ℕ
-  sample_number (Refused r) = number r
-  sample_number (At settled) = cond (too_strict sweep settled) (number SampleUnsettled) 0
+  sample_number (Err r) = number r
+  sample_number (Ok settled) = cond (too_strict sweep settled) (number SampleUnsettled) 0
 
   -- and that border unit n is: its sample's first; behind the last one that of the increments
   abbrev pub border_number : ℕ → ℕ

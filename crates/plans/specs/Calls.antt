@@ -1,16 +1,14 @@
 -- Calls one after the other: which records a plan takes, what a call answers, and a build by any function whose
 -- contract says so. Definitions only.
-use Rattle.std.specs.Prelude.{◌≡◌, Bool, true, cond, not, ◌&&◌, ◌||◌, List, [], ◌∷◌, ℕ, ◌+◌, ◌*◌, ◌≤◌, ◌<◌, min, leb, ltb, eqb, length}
+use Rattle.std.specs.Prelude.{◌≡◌, Bool, true, cond, not, ◌&&◌, ◌||◌, List, [], ◌∷◌, ℕ, ◌+◌, ◌*◌, ◌≤◌, ◌<◌, min, leb, ltb, eqb, length, Ok, Err}
 use Rattle.std.specs.Float.Ieee.Scale.{finite}
 use Rattle.lens.specs.Finite.{all_finite}
 use Rattle.lens.specs.Judgement.{verdict, decided}
 use Rattle.lens.specs.Refusal.{number}
-use Rattle.lens.specs.declared.Judgement.{Judgement}
-use Rattle.lens.specs.declared.Judgement.TheVariants.{Taken, Refused}
+use Rattle.lens.specs.Judgement.{Judgement}
 use Rattle.lens.specs.declared.Pixel.{Pixel}
 use Rattle.lens.specs.declared.Refusal.TheVariants.{WrongLength, ImpossibleRecord}
 use Rattle.lens.specs.declared.Settled.{Settled}
-use Rattle.lens.specs.declared.Undistorted.TheVariants.{At}
 use Rattle.region.specs.Region.{four, increments, wrong}
 use Rattle.region.specs.declared.Region.{Region}
 use Rattle.turns.specs.Turns.{Said, finished, refused, running, Turn, turn}
@@ -50,12 +48,12 @@ module _ (sweep : Sweep) where
   abbrev pub sound : Progress → ℕ → Judgement
   sound at places =
       cond (eqb places (2 * (sweep.width * sweep.height)))
-      (cond (possible at) Taken (Refused ImpossibleRecord))
-      (Refused WrongLength)
+      (cond (possible at) (Ok tt) (Err ImpossibleRecord))
+      (Err WrongLength)
 
   -- 4, 5, 6 by the sweep, then these
   unfoldable pub admitted : Progress → ℕ → Judgement
-  admitted at places = decided (sweep.opens at.region) Refused (sound at places)
+  admitted at places = decided (sweep.opens at.region) Err (sound at places)
 
 -- ---- a call: refused before any unit, or a turn
 
@@ -79,11 +77,11 @@ said_number running = 0
 -- finite region a record carries, and refusals of cells with a number
 
 pub record Steady (sweep : Sweep) : Type 0 where
-  pub bordered : (region : Region) → sweep.opens region ≡ Taken → 0 < sweep.samples
+  pub bordered : (region : Region) → sweep.opens region ≡ Ok tt → 0 < sweep.samples
   pub limited :
-      (pixel : Pixel) (settled : Settled) → sweep.sample pixel ≡ At settled → settled.updates ≤ sweep.limit
+      (pixel : Pixel) (settled : Settled) → sweep.sample pixel ≡ Ok settled → settled.updates ≤ sweep.limit
   pub points :
-      (pixel : Pixel) (settled : Settled) → sweep.sample pixel ≡ At settled
+      (pixel : Pixel) (settled : Settled) → sweep.sample pixel ≡ Ok settled
       → (finite settled.point.0 ≡ true) × (finite settled.point.1 ≡ true)
   pub alike :
       (q r : Region) → all_finite (four q) ≡ true → all_finite (four r) ≡ true → sweep.opens q ≡ sweep.opens r

@@ -1,15 +1,14 @@
 -- A table's plan, and what the next unit of a build makes of a state: the border's samples first, then the cells, row
 -- by row. X is what a cell holds two of. Definitions only.
-use Rattle.std.specs.Prelude.{Bool, cond, not, ◌&&◌, List, ℕ, ◌+◌, ◌-◌, ◌*◌, ◌/◌, ◌%◌, eqb, ltb, set}
+use Rattle.std.specs.Prelude.{Bool, cond, not, ◌&&◌, List, ℕ, ◌+◌, ◌-◌, ◌*◌, ◌/◌, ◌%◌, eqb, ltb, set, Ok, Err}
 use Rattle.lens.specs.Constants.{zeros}
 use Rattle.lens.specs.Judgement.{decided}
 use Rattle.lens.specs.Refusal.{number}
-use Rattle.lens.specs.declared.Judgement.{Judgement}
+use Rattle.lens.specs.Judgement.{Judgement}
 use Rattle.lens.specs.declared.Pixel.{Pixel}
 use Rattle.lens.specs.declared.Refusal.TheVariants.{SampleUnsettled}
 use Rattle.lens.specs.declared.Settled.{Settled}
-use Rattle.lens.specs.declared.Undistorted.{Undistorted}
-use Rattle.lens.specs.declared.Undistorted.TheVariants.{At, Refused}
+use Rattle.lens.specs.Undistorted.{Undistorted}
 use Rattle.region.specs.Region.{increments, wrong}
 use Rattle.region.specs.declared.Region.{Region}
 use Rattle.turns.specs.Turns.{Next, over, refuses, does}
@@ -117,8 +116,8 @@ module _ (sweep : Sweep) where
   too_strict settled = sweep.strict && not settled.flag
 
   abbrev pub after_sample : Progress → Undistorted → Next Progress
-  after_sample at (Refused r) = refuses (number r)
-  after_sample at (At settled) =
+  after_sample at (Err r) = refuses (number r)
+  after_sample at (Ok settled) =
       let next = sampled at settled in
       cond (too_strict settled) (refuses (number SampleUnsettled))
       (cond (ltb next.done sweep.samples) (does next) (closed sweep.width sweep.height next))

@@ -8,7 +8,7 @@ ghost use Rattle.lens.specs.Judgement.{verdict};
 ghost use Rattle.region.specs.Region.{four, increments, flat, wrong};
 ghost use Rattle.region.specs.Size.{float, within, sized};
 
-use lens::{Judgement, Refusal};
+use lens::Refusal;
 
 // The least and the largest width and height.
 pub const LEAST: usize = 2;
@@ -86,15 +86,15 @@ fn flat(x: f64) -> bool
 }
 
 // What is wrong with increments: 8, then 11.
-pub fn wrong(by: Increments) -> Judgement
+pub fn wrong(by: Increments) -> Result<(), Refusal>
     ensures { verdict result ≡ verdict (wrong by) }
 {
     if flat(by.0) || flat(by.1) {
-        return Judgement::Refused(Refusal::IncrementNotPositive);
+        return Err(Refusal::IncrementNotPositive);
     }
     if lens::both_finite(by.0, by.1) {
-        Judgement::Taken
+        Ok(())
     } else {
-        Judgement::Refused(Refusal::AnswerNotFinite)
+        Err(Refusal::AnswerNotFinite)
     }
 }

@@ -1,10 +1,10 @@
 -- What a caller may rely on, of the definitions of specs/ and of the contracts of src/. Assumes nothing.
 use mathlib.Core.Path.{◌≡◌, refl, sym, ap, ap₂, ◌∙◌}
+use Rattle.core.specs.declared.result.Result.TheVariants.{Ok, Err}
 use Prim.Native.Nat.{ℕ}
 use native.Mathlib.Omega.{arith}
 use Rattle.exact.specs.Determined.{Determined}
-use Rattle.lens.specs.declared.Judgement.{Judgement}
-use Rattle.lens.specs.declared.Judgement.TheVariants.{Taken, Refused}
+use Rattle.lens.specs.Judgement.{Judgement}
 use Rattle.lens.proofs.Laws.{number_one_to_one}
 use Rattle.turns.specs.Turns.{Turn}
 use Rattle.plans.specs.declared.Progress.{Progress}
@@ -16,10 +16,10 @@ use Rattle.sweep.proofs.sweep.Reads as sweep-contract
 -- ---- each contract permits one answer
 
 refusal_one_to_one : (a b : Judgement) → told_refusal a ≡ told_refusal b → a ≡ b
-refusal_one_to_one Taken Taken e = refl
-refusal_one_to_one Taken (Refused r) e = let z : ◌≡◌ {A = ℕ} 0 1 = cc in absurd (omega arith)
-refusal_one_to_one (Refused q) Taken e = let z : ◌≡◌ {A = ℕ} 0 1 = cc in absurd (omega arith)
-refusal_one_to_one (Refused q) (Refused r) e = ap Refused (number_one_to_one q r (cc))
+refusal_one_to_one (Ok _) (Ok _) e = refl
+refusal_one_to_one (Ok _) (Err r) e = let z : ◌≡◌ {A = ℕ} 0 1 = cc in absurd (omega arith)
+refusal_one_to_one (Err q) (Ok _) e = let z : ◌≡◌ {A = ℕ} 0 1 = cc in absurd (omega arith)
+refusal_one_to_one (Err q) (Err r) e = ap Err (number_one_to_one q r (cc))
 
 -- What a run tells determines its answer.
 pub stop_one_to_one : (a b : Stop) → told_stop a ≡ told_stop b → a ≡ b

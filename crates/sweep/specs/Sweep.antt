@@ -1,8 +1,8 @@
 -- A run of border units, and what the code's answers say. Definitions only.
-use Rattle.std.specs.Prelude.{Bool, cond, ◌&&◌, ℕ, ◌-◌, ◌^◌, min, ltb}
+use Rattle.std.specs.Prelude.{Bool, cond, ◌&&◌, ℕ, ◌-◌, ◌^◌, min, ltb, Result, Ok, Err}
+use Rattle.lens.specs.declared.Refusal.{Refusal}
 use Rattle.lens.specs.Refusal.{number}
-use Rattle.lens.specs.declared.Judgement.{Judgement}
-use Rattle.lens.specs.declared.Judgement.TheVariants as judged
+use Rattle.lens.specs.Judgement.{Judgement}
 use Rattle.region.specs.Size.{sized}
 use Rattle.camera.specs.declared.Camera.{Camera}
 use Rattle.border.specs.Border.{samples}
@@ -11,8 +11,6 @@ use Rattle.plans.specs.Plan.{Sweep, swept}
 use Rattle.plans.specs.declared.Progress.{Progress}
 use Rattle.table_plans.specs.Tables.{engine_by, sweep_with, sweep_of}
 use Rattle.sweep.specs.declared.Stop.{Stop}
-use Rattle.sweep.specs.declared.Swept.{Swept}
-use Rattle.sweep.specs.declared.Swept.TheVariants.{To, Refused}
 
 -- a size that is taken, and counts that have room for more; every record that is admitted is so
 abbrev pub roomy : ℕ → ℕ → Progress → Bool
@@ -31,13 +29,13 @@ run camera width height strict allowance from =
 
 -- ---- what the code's answers say
 
-abbrev pub told_swept : Swept → Next Progress
-told_swept (To at) = does at
-told_swept (Refused r) = refuses (number r)
+abbrev pub told_swept : Result Progress Refusal → Next Progress
+told_swept (Ok at) = does at
+told_swept (Err r) = refuses (number r)
 
 abbrev pub told_refusal : Judgement → Said
-told_refusal judged.Taken = running
-told_refusal (judged.Refused r) = refused (number r)
+told_refusal (Ok _) = running
+told_refusal (Err r) = refused (number r)
 
 abbrev pub told_stop : Stop → Turn Progress
 told_stop s = record { state = s.at; said = told_refusal s.refusal }

@@ -9,21 +9,14 @@ ghost use Rattle.plans.specs.Plan.{one_no, first_after, sampled, closed, swept};
 ghost use Rattle.sweep.specs.Sweep.{roomy, by_mark, run, told_swept, told_stop};
 
 use camera::Camera;
-use lens::{Judgement, Refusal, Settled, Undistorted};
+use lens::{Refusal, Settled};
 use plans::Progress;
-
-// What a border unit makes of a progress.
-#[derive(Clone, Copy)]
-enum Swept {
-    To(Progress),
-    Refused(Refusal),
-}
 
 // Where a run of border units stopped, and what refused the next one if anything did.
 #[derive(Clone, Copy)]
 pub struct Stop {
     pub at: Progress,
-    pub refusal: Judgement,
+    pub refusal: Result<(), Refusal>,
 }
 
 // More than any build counts: from there on a sum might wrap.
@@ -75,14 +68,14 @@ fn sampled(at: Progress, settled: Settled) -> Progress
 }
 
 // The last border unit's own: the region, and whether its increments will do.
-fn closed(width: usize, height: usize, at: Progress) -> Swept
+fn closed(width: usize, height: usize, at: Progress) -> Result<Progress, Refusal>
     ensures { told_swept result ≡ closed width height at }
 {
     let edges = at.edges;
     let region = border::doubled(edges);
     match region::wrong(region::increments_of(region, width, height)) {
-        Judgement::Refused(refusal) => Swept::Refused(refusal),
-        Judgement::Taken => Swept::To(Progress {
+        Err(refusal) => Err(refusal),
+        Ok(()) => Ok(Progress {
             done: at.done,
             edges,
             region,
@@ -102,20 +95,20 @@ fn sweep_one(
     strict: bool,
     all: usize,
     at: Progress,
-) -> Swept
+) -> Result<Progress, Refusal>
     requires { (all ≡ samples width height) × (at.done < 2 ^ 32) × (at.updates + 50 < 2 ^ 32)
         × (at.unsettled < 2 ^ 32) }
     ensures { told_swept result ≡ swept (by_mark camera short width height strict) at }
 {
     match engine::undistort(camera, short, border::border_pixel(width, height, at.done)) {
-        Undistorted::Refused(refusal) => Swept::Refused(refusal),
-        Undistorted::At(settled) => {
+        Err(refusal) => Err(refusal),
+        Ok(settled) => {
             if too_strict(strict, settled.flag) {
-                return Swept::Refused(Refusal::SampleUnsettled);
+                return Err(Refusal::SampleUnsettled);
             }
             let next = sampled(at, settled);
             if next.done < all {
-                return Swept::To(next);
+                return Ok(next);
             }
             closed(width, height, next)
         }
@@ -141,13 +134,13 @@ fn units(
     let mut left = count;
     while 0 < left {
         match sweep_one(camera, short, width, height, strict, all, at) {
-            Swept::Refused(refusal) => {
+            Err(refusal) => {
                 return Stop {
                     at,
-                    refusal: Judgement::Refused(refusal),
+                    refusal: Err(refusal),
                 };
             }
-            Swept::To(next) => {
+            Ok(next) => {
                 at = next;
             }
         }
@@ -155,7 +148,7 @@ fn units(
     }
     Stop {
         at,
-        refusal: Judgement::Taken,
+        refusal: Ok(()),
     }
 }
 
@@ -203,6 +196,6 @@ pub fn sweep(
     }
     Stop {
         at: from,
-        refusal: Judgement::Refused(Refusal::ImpossibleRecord),
+        refusal: Err(Refusal::ImpossibleRecord),
     }
 }

@@ -1,5 +1,6 @@
 -- Which numbers a unit of our tables is refused with. Assumes nothing.
 use mathlib.Core.Path.{◌≡◌, refl, sym, ap, ◌∙◌, subst}
+use Rattle.core.specs.declared.result.Result.TheVariants.{Ok, Err}
 use mathlib.Core.Bool.{Bool, true, false, cond, false≢true, ◌&&◌, ◌||◌}
 use mathlib.Core.List.{List, [], ◌∷◌, ◌++◌}
 use mathlib.Core.Logic.{◌⊎◌, inl, inr}
@@ -8,14 +9,11 @@ use borrow.Author.Tests.{eq-eqb, eqb-true}
 use lib.Dec.{eqb}
 use lib.Ieee.Scale.{finite}
 use Rattle.lens.specs.Refusal.{number}
-use Rattle.lens.specs.declared.Distorted.TheVariants as pixels
-use Rattle.lens.specs.declared.Judgement.{Judgement}
-use Rattle.lens.specs.declared.Judgement.TheVariants as judged
+use Rattle.lens.specs.Judgement.{Judgement}
 use Rattle.lens.specs.declared.Pixel.{Pixel}
 use Rattle.lens.specs.declared.Refusal.{Refusal}
 use Rattle.lens.specs.declared.Refusal.TheVariants.{IncrementNotPositive, AnswerNotFinite}
-use Rattle.lens.specs.declared.Undistorted.{Undistorted}
-use Rattle.lens.specs.declared.Undistorted.TheVariants as found
+use Rattle.lens.specs.Undistorted.{Undistorted}
 use Rattle.region.specs.Region.{increments, flat, wrong}
 use Rattle.region.specs.declared.Increments.{Increments}
 use Rattle.region.specs.declared.Region.{Region}
@@ -67,32 +65,32 @@ module _ (refusal : ℕ) (strict : Bool) where
   -- ---- a sample: 10, 16 or 11
 
   abbrev FoundKnown : Undistorted → Type 0
-  FoundKnown (found.At s) = Unit {0}
-  FoundKnown (found.Refused r) = Known refusal strict (number r)
+  FoundKnown (Ok s) = Unit {0}
+  FoundKnown (Err r) = Known refusal strict (number r)
 
   point_known : (camera : Camera) (pixel : Pixel) → FoundKnown (point_of camera pixel)
   point_known camera pixel = go (point_of camera pixel) refl
     where
-      either : (r : Refusal) → (number r ≡ 10) ⊎ (number r ≡ 16) → FoundKnown (found.Refused r)
+      either : (r : Refusal) → (number r ≡ 10) ⊎ (number r ≡ 16) → FoundKnown (Err r)
       either r (inl e) = subst (Known refusal strict) (sym e) refl
       either r (inr e) = subst (Known refusal strict) (sym e) refl
 
       go : (u : Undistorted) → point_of camera pixel ≡ u → FoundKnown u
-      go (found.At s) e = tt
-      go (found.Refused r) e = either r (model_refuses camera pixel r e)
+      go (Ok s) e = tt
+      go (Err r) e = either r (model_refuses camera pixel r e)
 
   finite_known : (u : Undistorted) → FoundKnown u → FoundKnown (finite_point u)
-  finite_known (found.Refused r) h = h
-  finite_known (found.At s) h = go (finite s.point.0 && finite s.point.1)
+  finite_known (Err r) h = h
+  finite_known (Ok s) h = go (finite s.point.0 && finite s.point.1)
     where
-      go : (f : Bool) → FoundKnown (cond f (found.At s) (found.Refused AnswerNotFinite))
+      go : (f : Bool) → FoundKnown (cond f (Ok s) (Err AnswerNotFinite))
       go true = tt
       go false = refl
 
   alike_known : (u v : Undistorted) → AlikeFound u v → FoundKnown v → FoundKnown u
-  alike_known (found.At s) v h k = tt
-  alike_known (found.Refused r) (found.At t) h k = absurd h
-  alike_known (found.Refused q) (found.Refused r) h k = subst (λ (r : Refusal). Known refusal strict (number r)) (sym h) k
+  alike_known (Ok s) v h k = tt
+  alike_known (Err r) (Ok t) h k = absurd h
+  alike_known (Err q) (Err r) h k = subst (λ (r : Refusal). Known refusal strict (number r)) (sym h) k
 
   picked_known : (camera : Camera) (pixel : Pixel) → FoundKnown ((picked camera).undistort pixel)
   picked_known camera pixel = alike_known ((picked camera).undistort pixel) ((full camera).undistort pixel) (points_alike camera pixel) (finite_known (point_of camera pixel) (point_known camera pixel))
@@ -100,14 +98,14 @@ module _ (refusal : ℕ) (strict : Bool) where
   -- ---- the increments: 8 or 11
 
   abbrev JudgedKnown : Judgement → Type 0
-  JudgedKnown judged.Taken = Unit {0}
-  JudgedKnown (judged.Refused r) = Known refusal strict (number r)
+  JudgedKnown (Ok _) = Unit {0}
+  JudgedKnown (Err r) = Known refusal strict (number r)
 
   wrong_known : (by : Increments) → JudgedKnown (wrong by)
   unfolding wrong
   wrong_known by = go (flat by.0 || flat by.1) (finite by.0 && finite by.1)
     where
-      go : (f g : Bool) → JudgedKnown (cond f (judged.Refused IncrementNotPositive) (cond g judged.Taken (judged.Refused AnswerNotFinite)))
+      go : (f g : Bool) → JudgedKnown (cond f (Err IncrementNotPositive) (cond g (Ok tt) (Err AnswerNotFinite)))
       go true g = refl
       go false true = tt
       go false false = refl
@@ -133,7 +131,7 @@ module _ {X : Type 0} (kind : Kind X) (fit : Fit kind) (strict : Bool) where
       pixel : Pixel
       pixel = pixel_of camera (cell_point region by u v)
 
-      go : (f g : Bool) → ContentKnown kind.refusal strict (cond f (of_pixel kind.holds (cond g (pixels.At pixel) (pixels.Refused AnswerNotFinite))) (none 11))
+      go : (f g : Bool) → ContentKnown kind.refusal strict (cond f (of_pixel kind.holds (cond g (Ok pixel) (Err AnswerNotFinite))) (none 11))
       go false g = refl
       go true false = refl
       go true true = pixel_known pixel

@@ -1,16 +1,16 @@
 -- What is picked for a camera's table answers as the camera does: the pixels are the same bit by bit, the points but for the signs of zeros, and the refusals are the same. Assumes nothing.
 use mathlib.Core.Path.{◌≡◌, refl, ap, ap₂}
+use Rattle.core.specs.declared.result.Result.TheVariants.{Ok, Err}
 use mathlib.Core.Bool.{Bool, true, false, cond, ◌&&◌, true≢false, false≢true}
 use Prim.Native.Nat.{ℕ}
 use lib.Ieee.Scale.{finite}
 use Rattle.exact.proofs.Alike.{≐-refl, ≐-finite}
 use Rattle.lens.specs.Alike.{AlikeSettled}
-use Rattle.lens.specs.declared.Distorted.{Distorted}
+use Rattle.lens.specs.Distorted.{Distorted}
 use Rattle.lens.specs.declared.Pixel.{Pixel}
 use Rattle.lens.specs.declared.Refusal.TheVariants.{AnswerNotFinite}
 use Rattle.lens.specs.declared.Settled.{Settled}
-use Rattle.lens.specs.declared.Undistorted.{Undistorted}
-use Rattle.lens.specs.declared.Undistorted.TheVariants.{At, Refused}
+use Rattle.lens.specs.Undistorted.{Undistorted}
 use Rattle.region.specs.declared.Increments.{Increments}
 use Rattle.region.specs.declared.Region.{Region}
 use Rattle.brown_conrady.specs.BrownConrady as bc
@@ -28,13 +28,13 @@ use Rattle.table_plans.specs.Tables.{full, picked}
 -- ---- points
 
 found_itself : (u : Undistorted) → AlikeFound u u
-found_itself (At s) = record { point = record { x = ≐-refl; y = ≐-refl }; updates = refl; flag = refl }
-found_itself (Refused r) = refl
+found_itself (Ok s) = record { point = record { x = ≐-refl; y = ≐-refl }; updates = refl; flag = refl }
+found_itself (Err r) = refl
 
-judged_alike : (a b : Settled) → AlikeSettled a b → AlikeFound (finite_point (At a)) (finite_point (At b))
+judged_alike : (a b : Settled) → AlikeSettled a b → AlikeFound (finite_point (Ok a)) (finite_point (Ok b))
 judged_alike a b h = go (finite a.point.0 && finite a.point.1) (finite b.point.0 && finite b.point.1) (ap₂ ◌&&◌ (≐-finite h.point.x) (≐-finite h.point.y))
   where
-    go : (p q : Bool) → p ≡ q → AlikeFound (cond p (At a) (Refused AnswerNotFinite)) (cond q (At b) (Refused AnswerNotFinite))
+    go : (p q : Bool) → p ≡ q → AlikeFound (cond p (Ok a) (Err AnswerNotFinite)) (cond q (Ok b) (Err AnswerNotFinite))
     go true true e = h
     go true false e = absurd (true≢false e)
     go false true e = absurd (false≢true e)

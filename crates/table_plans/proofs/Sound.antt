@@ -1,5 +1,8 @@
 -- The plans of our tables are sound: each engine's answers are finite and within its limit, and each refusal of a cell has a number. Assumes nothing.
 use mathlib.Core.Path.{◌≡◌, refl, sym, ap, ◌∙◌, subst}
+use Rattle.core.specs.declared.result.Result.TheVariants.{Ok, Err}
+use Rattle.core.specs.declared.option.Option.{Option}
+use Rattle.core.specs.declared.option.Option.TheVariants.{Some, None}
 use mathlib.Core.Bool.{Bool, true, false, cond, ◌&&◌}
 use Prim.Native.Nat.{ℕ, ◌≤◌, ◌<◌}
 use native.Mathlib.Omega.{arith}
@@ -8,23 +11,17 @@ use lib.Ieee.{Float}
 use lib.Ieee.Scale.{finite}
 use Rattle.narrow.specs.Narrow.{narrowed}
 use Rattle.thirty_seconds.specs.Multiple.{nearest_multiple}
-use Rattle.thirty_seconds.specs.declared.Multiple.{Multiple}
-use Rattle.thirty_seconds.specs.declared.Multiple.TheVariants.{Is, TooFar}
 use Rattle.exact.proofs.Alike.{≐-finite}
 use Rattle.lens.specs.Finite.{all_finite}
 use Rattle.lens.specs.Refusal.{number}
 use Rattle.lens.specs.Undistorted.{told}
-use Rattle.lens.specs.declared.Distorted.{Distorted}
-use Rattle.lens.specs.declared.Distorted.TheVariants as pixels
-use Rattle.lens.specs.declared.Judgement.{Judgement}
-use Rattle.lens.specs.declared.Judgement.TheVariants.{Taken}
-use Rattle.lens.specs.declared.Judgement.TheVariants as judged
+use Rattle.lens.specs.Distorted.{Distorted}
+use Rattle.lens.specs.Judgement.{Judgement}
 use Rattle.lens.specs.declared.Pixel.{Pixel}
 use Rattle.lens.specs.declared.Point.{Point}
 use Rattle.lens.specs.declared.Refusal.TheVariants.{NotFinite, ZeroFocalLength, WrongSize, AnswerNotFinite}
 use Rattle.lens.specs.declared.Settled.{Settled}
-use Rattle.lens.specs.declared.Undistorted.{Undistorted}
-use Rattle.lens.specs.declared.Undistorted.TheVariants.{At, Refused}
+use Rattle.lens.specs.Undistorted.{Undistorted}
 use Rattle.lens.proofs.Laws.{number_within}
 use Rattle.region.specs.Region.{four, increments}
 use Rattle.region.specs.Size.{sized, Sized}
@@ -43,8 +40,8 @@ use Rattle.table_plans.proofs.Picked.{points_alike}
 
 -- an engine whose answers are finite and within its limit
 pub record Sure (engine : Engine) : Type 0 where
-  pub limited : (pixel : Pixel) (settled : Settled) → engine.undistort pixel ≡ At settled → settled.updates ≤ engine.limit
-  pub points : (pixel : Pixel) (settled : Settled) → engine.undistort pixel ≡ At settled → (finite settled.point.0 ≡ true) × (finite settled.point.1 ≡ true)
+  pub limited : (pixel : Pixel) (settled : Settled) → engine.undistort pixel ≡ Ok settled → settled.updates ≤ engine.limit
+  pub points : (pixel : Pixel) (settled : Settled) → engine.undistort pixel ≡ Ok settled → (finite settled.point.0 ≡ true) × (finite settled.point.1 ≡ true)
 
 -- a kind of cell with one refusal, its own, which has a number
 pub record Fit {X : Type 0} (kind : Kind X) : Type 0 where
@@ -53,11 +50,11 @@ pub record Fit {X : Type 0} (kind : Kind X) : Type 0 where
 
 -- ---- engines and kinds
 
-found_finite : (u : Undistorted) (s : Settled) → finite_point u ≡ At s → (finite s.point.0 ≡ true) × (finite s.point.1 ≡ true)
-found_finite (Refused r) s h = let z : ◌≡◌ {A = ℕ} 0 1 = cc in absurd (omega arith)
-found_finite (At w) s h = go (finite w.point.0) refl (finite w.point.1) refl h
+found_finite : (u : Undistorted) (s : Settled) → finite_point u ≡ Ok s → (finite s.point.0 ≡ true) × (finite s.point.1 ≡ true)
+found_finite (Err r) s h = let z : ◌≡◌ {A = ℕ} 0 1 = cc in absurd (omega arith)
+found_finite (Ok w) s h = go (finite w.point.0) refl (finite w.point.1) refl h
   where
-    go : (p : Bool) → finite w.point.0 ≡ p → (q : Bool) → finite w.point.1 ≡ q → cond (p && q) (At w) (Refused AnswerNotFinite) ≡ At s → (finite s.point.0 ≡ true) × (finite s.point.1 ≡ true)
+    go : (p : Bool) → finite w.point.0 ≡ p → (q : Bool) → finite w.point.1 ≡ q → cond (p && q) (Ok w) (Err AnswerNotFinite) ≡ Ok s → (finite s.point.0 ≡ true) × (finite s.point.1 ≡ true)
     go true e true f k = let i : w ≡ s = cc in (sym (ap (λ (x : Settled). finite x.point.0) i) ∙ e, sym (ap (λ (x : Settled). finite x.point.1) i) ∙ f)
     go true e false f k = let z : ◌≡◌ {A = ℕ} 0 1 = cc in absurd (omega arith)
     go false e q f k = let z : ◌≡◌ {A = ℕ} 0 1 = cc in absurd (omega arith)
@@ -70,15 +67,15 @@ full_sure camera = record {
 
 -- an engine whose answers are alike those of a sure one is sure
 module _ (e f : Engine) (same-limit : e.limit ≡ f.limit) (alike : (pixel : Pixel) → AlikeFound (e.undistort pixel) (f.undistort pixel)) (s : Sure f) where
-  at_most_lem : (a : Settled) (v : Undistorted) (pixel : Pixel) → f.undistort pixel ≡ v → AlikeFound (At a) v → a.updates ≤ e.limit
-  at_most_lem a (At b) pixel i k = subst (λ (n : ℕ). n ≤ e.limit) (sym k.updates) (subst (λ (n : ℕ). b.updates ≤ n) (sym same-limit) (s.limited pixel b i))
-  at_most_lem a (Refused r) pixel i k = absurd k
+  at_most_lem : (a : Settled) (v : Undistorted) (pixel : Pixel) → f.undistort pixel ≡ v → AlikeFound (Ok a) v → a.updates ≤ e.limit
+  at_most_lem a (Ok b) pixel i k = subst (λ (n : ℕ). n ≤ e.limit) (sym k.updates) (subst (λ (n : ℕ). b.updates ≤ n) (sym same-limit) (s.limited pixel b i))
+  at_most_lem a (Err r) pixel i k = absurd k
 
-  both_finite : (a : Settled) (v : Undistorted) (pixel : Pixel) → f.undistort pixel ≡ v → AlikeFound (At a) v → (finite a.point.0 ≡ true) × (finite a.point.1 ≡ true)
-  both_finite a (At b) pixel i k = let t = s.points pixel b i in (≐-finite k.point.x ∙ t.0, ≐-finite k.point.y ∙ t.1)
-  both_finite a (Refused r) pixel i k = absurd k
+  both_finite : (a : Settled) (v : Undistorted) (pixel : Pixel) → f.undistort pixel ≡ v → AlikeFound (Ok a) v → (finite a.point.0 ≡ true) × (finite a.point.1 ≡ true)
+  both_finite a (Ok b) pixel i k = let t = s.points pixel b i in (≐-finite k.point.x ∙ t.0, ≐-finite k.point.y ∙ t.1)
+  both_finite a (Err r) pixel i k = absurd k
 
-  found_so : (pixel : Pixel) (a : Settled) → e.undistort pixel ≡ At a → AlikeFound (At a) (f.undistort pixel)
+  found_so : (pixel : Pixel) (a : Settled) → e.undistort pixel ≡ Ok a → AlikeFound (Ok a) (f.undistort pixel)
   found_so pixel a k = subst (λ (u : Undistorted). AlikeFound u (f.undistort pixel)) k (alike pixel)
 
   sure_alike : Sure e
@@ -109,15 +106,15 @@ f32_fit = record { only = λ pixel n. go (narrowed pixel.0) (narrowed pixel.1) n
 pub i16_fit : Fit i16s
 i16_fit = record { only = λ pixel n. go n (nearest_multiple pixel.0) (nearest_multiple pixel.1); numbered = omega arith }
   where
-    go : (n : ℕ) (a b : Multiple) → both_held a b ≡ none n → n ≡ 19
-    go n (Is a) (Is b) e = not_numbers a b n 19 e
-    go n (Is a) TooFar e = told_by {X = ℤ} 19 n e
-    go n TooFar b e = told_by {X = ℤ} 19 n e
+    go : (n : ℕ) (a b : Option ℤ) → both_held a b ≡ none n → n ≡ 19
+    go n (Some a) (Some b) e = not_numbers a b n 19 e
+    go n (Some a) None e = told_by {X = ℤ} 19 n e
+    go n None b e = told_by {X = ℤ} 19 n e
 
 module _ {X : Type 0} (engine : Engine) (kind : Kind X) (t : Fit kind) where
   telling_pixel : (d : Distorted) → of_pixel kind.holds d ≡ none 0 → ⊥
-  telling_pixel (pixels.At pixel) e = omega (arith, t.only pixel 0 e, t.numbered)
-  telling_pixel (pixels.Refused r) e = numbered (number r) (number_within r).0 e
+  telling_pixel (Ok pixel) e = omega (arith, t.only pixel 0 e, t.numbered)
+  telling_pixel (Err r) e = numbered (number r) (number_within r).0 e
 
   telling_cell : (region : Region) (by : Increments) (u v : ℕ) → cell_by engine.distort kind.holds region by u v ≡ none 0 → ⊥
   unfolding cell_by
@@ -134,7 +131,7 @@ module _ {X : Type 0} (engine : Engine) (kind : Kind X) (t : Fit kind) where
 
 module _ (camera : Camera) (width height : ℕ) where
   abbrev by_tests : Bool → Bool → Bool → Judgement
-  by_tests g z s = cond g (cond z (judged.Refused ZeroFocalLength) (cond s Taken (judged.Refused WrongSize))) (judged.Refused NotFinite)
+  by_tests g z s = cond g (cond z (Err ZeroFocalLength) (cond s (Ok tt) (Err WrongSize))) (Err NotFinite)
 
   opens_alike : (q r : Region) → all_finite (four q) ≡ true → all_finite (four r) ≡ true → opens_for camera width height q ≡ opens_for camera width height r
   unfolding opens_for
@@ -147,13 +144,13 @@ module _ (camera : Camera) (width height : ℕ) where
     pub taken_size : sized width height ≡ true
     pub size : Sized width height
 
-  passed : (g z s : Bool) → by_tests g z s ≡ Taken → (g ≡ true) × (z ≡ false) × (s ≡ true)
+  passed : (g z s : Bool) → by_tests g z s ≡ Ok tt → (g ≡ true) × (z ≡ false) × (s ≡ true)
   passed true false true h = (refl, refl, refl)
   passed true false false h = let z : ◌≡◌ {A = ℕ} 0 1 = cc in absurd (omega arith)
   passed true true s h = let z : ◌≡◌ {A = ℕ} 0 1 = cc in absurd (omega arith)
   passed false z s h = let z : ◌≡◌ {A = ℕ} 0 1 = cc in absurd (omega arith)
 
-  pub opened : (region : Region) → opens_for camera width height region ≡ Taken → Opened region
+  pub opened : (region : Region) → opens_for camera width height region ≡ Ok tt → Opened region
   unfolding opens_for
   opened region h =
       let p = passed (all_finite (parameters camera) && all_finite (four region)) (zero_focal camera) (sized width height) h in

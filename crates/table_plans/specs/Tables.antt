@@ -1,13 +1,12 @@
 -- The plans of a camera's tables: an engine, a border, a strict mark and a kind of cell make one. Definitions only.
-use Rattle.std.specs.Prelude.{Bool, false, cond, ◌&&◌, ◌||◌, List, [], ◌∷◌, ℕ, eqb, ℤ, Float, get_or}
+use Rattle.std.specs.Prelude.{Bool, false, cond, ◌&&◌, ◌||◌, List, [], ◌∷◌, ℕ, eqb, ℤ, Float, get_or, Ok, Err}
 use Rattle.lens.specs.Finite.{all_finite}
-use Rattle.lens.specs.declared.Distorted.{Distorted}
-use Rattle.lens.specs.declared.Judgement.{Judgement}
-use Rattle.lens.specs.declared.Judgement.TheVariants.{Taken, Refused}
+use Rattle.lens.specs.Distorted.{Distorted}
+use Rattle.lens.specs.Judgement.{Judgement}
 use Rattle.lens.specs.declared.Pixel.{Pixel}
 use Rattle.lens.specs.declared.Point.{Point}
 use Rattle.lens.specs.declared.Refusal.TheVariants.{NotFinite, ZeroFocalLength, WrongSize}
-use Rattle.lens.specs.declared.Undistorted.{Undistorted}
+use Rattle.lens.specs.Undistorted.{Undistorted}
 use Rattle.region.specs.Region.{four, increments}
 use Rattle.region.specs.Size.{sized}
 use Rattle.region.specs.declared.Region.{Region}
@@ -67,9 +66,9 @@ corners_twice width height = record {
 unfoldable pub opens_for : Camera → ℕ → ℕ → Region → Judgement
 opens_for camera width height region =
     cond (all_finite (parameters camera) && all_finite (four region))
-    (cond (zero_focal camera) (Refused ZeroFocalLength)
-    (cond (sized width height) Taken (Refused WrongSize)))
-    (Refused NotFinite)
+    (cond (zero_focal camera) (Err ZeroFocalLength)
+    (cond (sized width height) (Ok tt) (Err WrongSize)))
+    (Err NotFinite)
 
 -- ---- plans
 

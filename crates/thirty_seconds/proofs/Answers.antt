@@ -12,26 +12,26 @@ use lib.Ieee.{Float, nan, inf, fin, binary64, up, down, le, lt, eq, neg, is_nan,
 use lib.Ieee.Nearest.{closest}
 use Rattle.exact.specs.F64.{◌⊕◌}
 use Rattle.thirty_seconds.specs.Multiple.{held, nearest_multiple}
-use Rattle.thirty_seconds.specs.declared.Multiple.TheVariants.{Is, TooFar}
+use Rattle.std.specs.Prelude.{Some, None}
 use Rattle.thirty_seconds.proofs.Shifted.{shift, shifted_up, shifted_down}
 use Rattle.thirty_seconds.proofs.Ranges.{lower, upper, up_to, down_to, below_upper, negative_below, above_lower, positive_above}
 
 -- ---- ±n, by its range
-pub held_up : (n : ℕ) → n ≤ 32767 → held false n ≡ Is (pos n)
+pub held_up : (n : ℕ) → n ≤ 32767 → held false n ≡ Some (pos n)
 unfolding held
-held_up n h = ap (λ (b : Bool). cond b (Is (pos n)) TooFar) (le-leb n 32767 h)
+held_up n h = ap (λ (b : Bool). cond b (Some (pos n)) None) (le-leb n 32767 h)
 
-pub held_down : (n : ℕ) → n ≤ 32768 → held true n ≡ Is (neg_ℤ (pos n))
+pub held_down : (n : ℕ) → n ≤ 32768 → held true n ≡ Some (neg_ℤ (pos n))
 unfolding held
-held_down n h = ap (λ (b : Bool). cond b (Is (neg_ℤ (pos n))) TooFar) (le-leb n 32768 h)
+held_down n h = ap (λ (b : Bool). cond b (Some (neg_ℤ (pos n))) None) (le-leb n 32768 h)
 
-pub far_up : (n : ℕ) → 32767 < n → held false n ≡ TooFar
+pub far_up : (n : ℕ) → 32767 < n → held false n ≡ None
 unfolding held
-far_up n h = ap (λ (b : Bool). cond b (Is (pos n)) TooFar) (lt-leb n 32767 h)
+far_up n h = ap (λ (b : Bool). cond b (Some (pos n)) None) (lt-leb n 32767 h)
 
-pub far_down : (n : ℕ) → 32768 < n → held true n ≡ TooFar
+pub far_down : (n : ℕ) → 32768 < n → held true n ≡ None
 unfolding held
-far_down n h = ap (λ (b : Bool). cond b (Is (neg_ℤ (pos n))) TooFar) (lt-leb n 32768 h)
+far_down n h = ap (λ (b : Bool). cond b (Some (neg_ℤ (pos n))) None) (lt-leb n 32768 h)
 
 -- ---- a test that fails
 refused : (b : Bool) → b ≡ false → T b → ⊥
@@ -43,7 +43,7 @@ passed b e = subst T (sym e) tt
 pub beyond : (q n : ℕ) → (q ≤ n → ⊥) → n < q
 beyond q n f = elim (dec_le q n) [ yes h ↦ absurd (f h) | no h ↦ omega arith ]
 
-pub too_low : (x : Float) → le lower x ≡ false → TooFar ≡ nearest_multiple x
+pub too_low : (x : Float) → le lower x ≡ false → None ≡ nearest_multiple x
 unfolding nearest_multiple
 too_low nan h = refl
 too_low (inf s) h = refl
@@ -52,7 +52,7 @@ too_low (fin true m e) h =
     let q = closest (32 * (m * up e)) (down e) in
     sym (far_down q (beyond q 32768 (λ (l : q ≤ 32768). refused (le lower (fin true m e)) h ((above_lower m e).1 ((down_to m e).0 l)))))
 
-pub too_high : (x : Float) → lt x upper ≡ false → TooFar ≡ nearest_multiple x
+pub too_high : (x : Float) → lt x upper ≡ false → None ≡ nearest_multiple x
 unfolding nearest_multiple
 too_high nan h = refl
 too_high (inf s) h = refl
@@ -64,7 +64,7 @@ too_high (fin false m e) h =
 -- ---- both pass: a number of 16 bits, and the pattern less the shift's is it
 pub record Found (x : Float) : Type 0 where
   pub n : ℤ
-  pub is : nearest_multiple x ≡ Is n
+  pub is : nearest_multiple x ≡ Some n
   pub small : mag n < 2 ^ 15
   pub number : T (not (is_nan (x ⊕ shift)))
   pub bits : to_bits binary64 (x ⊕ shift) < 2 ^ 63

@@ -1,6 +1,8 @@
 -- Calls over bytes serve the plan of the table whose record they hold: each call reads back what the one before wrote. Assumes
 -- nothing.
 use mathlib.Core.Path.{◌≡◌, refl, sym, ap, ap₂, ◌∙◌, subst}
+use Rattle.core.specs.declared.result.Result.{Result}
+use Rattle.core.specs.declared.result.Result.TheVariants.{Ok, Err}
 use mathlib.Core.Bool.{Bool, true, false, cond}
 use mathlib.Core.List.{List, ◌∷◌, ◌++◌}
 use Prim.Native.Nat.{ℕ, ◌*◌, ◌^◌, ◌≤◌, ◌<◌, min}
@@ -13,8 +15,7 @@ use lib.Seq.{take-append_seam}
 use Rattle.lens.specs.Finite.{all_finite}
 use Rattle.lens.specs.Judgement.{verdict, decided}
 use Rattle.lens.specs.Refusal.{number}
-use Rattle.lens.specs.declared.Judgement.{Judgement}
-use Rattle.lens.specs.declared.Judgement.TheVariants.{Taken, Refused}
+use Rattle.lens.specs.Judgement.{Judgement}
 use Rattle.lens.specs.declared.Refusal.{Refusal}
 use Rattle.lens.proofs.Laws.{number_within}
 use Rattle.region.proofs.Size.{bounded}
@@ -42,7 +43,6 @@ use Rattle.little_endian.proofs.Laws.{length_bytes, value_bytes}
 use Rattle.given.specs.Given.{code}
 use Rattle.job_bytes.specs.Bytes.{record_bytes, record_read, job_at}
 use Rattle.job_bytes.specs.Check.{whole}
-use Rattle.job_bytes.specs.declared.Found.{Found}
 use Rattle.job_bytes.proofs.Laws.{Writable, written_read, written_whole}
 use Rattle.turn_bytes.specs.Turn.{Handed, handed, checked, answer_length, before_units, status_number, words, answer_bytes, written, turn_bytes}
 use Rattle.turn_bytes.specs.Calls.{HeldBytes, bytes_plan, bytes_state, left, bytes_said}
@@ -109,21 +109,21 @@ module _ {X : Type 0} (kind : Kind X) (fit : Fit kind) (job : Job) (w : Writable
   own_number : before_units (record_read bs) (whole bs) cells lent ≡ verdict (admitted job (length cells))
   unfolding code
   own_number =
-      ap₂ (λ (f : Found) (t : Bool). before_units f t cells lent) (written_read job w) (written_whole job)
+      ap₂ (λ (f : Result Job Refusal) (t : Bool). before_units f t cells lent) (written_read job w) (written_whole job)
       ∙ ap (code (checked true (verdict (admitted job (length cells))))) (eq-eqb (length lent) answer_length room)
       ∙ whole_number (verdict (admitted job (length cells)))
 
   as_job : turn_of kind (job_at bs) cells a ≡ turn_of kind job cells a
   as_job = ap (λ (j : Job). turn_of kind j cells a) (read_back job w)
 
-  refused_is : (r : Refusal) → admitted job (length cells) ≡ Refused r → after ≡ handed (number r) bs cells lent
+  refused_is : (r : Refusal) → admitted job (length cells) ≡ Err r → after ≡ handed (number r) bs cells lent
   unfolding turn_bytes
   refused_is r e =
       let n : before_units (record_read bs) (whole bs) cells lent ≡ number r = own_number ∙ ap verdict e in
       not_taken bs cells lent (turn_of kind (job_at bs) cells a) (before_units (record_read bs) (whole bs) cells lent) (λ z. omega (arith, (number_within r).0, n, z))
       ∙ ap (λ (k : ℕ). handed k bs cells lent) n
 
-  module _ (e : admitted job (length cells) ≡ Taken) where
+  module _ (e : admitted job (length cells) ≡ Ok tt) where
     as_turned : turn_of kind (job_at bs) cells a ≡ answer job turned
     as_turned = as_job ∙ ap (λ (j : Judgement). answer job (decided j (λ r. record { state = state_of job cells; said = refused (number r) }) turned)) e
 
@@ -166,10 +166,10 @@ module _ {X : Type 0} (kind : Kind X) (fit : Fit kind) (job : Job) (w : Writable
     where
       go : (j : Judgement) → admitted job (length cells) ≡ j
           → record { state = bytes_state (left after); said = bytes_said after } ≡ decided j (λ r. record { state = state_of job cells; said = refused (number r) }) turned
-      go (Refused r) e =
+      go (Err r) e =
           ap (λ (h : Handed X). record { state = bytes_state (left h); said = bytes_said h }) (refused_is r e)
           ∙ ap₂ (λ (k : Job) (b : Bool). record { state = state_of k cells; said = cond b (cond (eqb (word lent 0) 1) finished running) (refused (number r)) }) (read_back job w) (ne_eqb (number r) 0 (λ z. omega (arith, (number_within r).0, z)))
-      go Taken e =
+      go (Ok _) e =
           let x = answer job turned in
           ap (λ (h : Handed X). record { state = bytes_state (left h); said = bytes_said h }) (taken_is e)
           ∙ ap₂ (λ (k : Job) (s : Said). record { state = state_of k x.cells; said = s }) (read_back x.job (still_writable e)) (said_back kind.refusal fit.numbered x.said x.job x.cells (turn_known kind fit job.camera job.width job.height job.strict a (state_of job cells)))
@@ -179,10 +179,10 @@ module _ {X : Type 0} (kind : Kind X) (fit : Fit kind) (job : Job) (w : Writable
   kept_so = go (admitted job (length cells)) refl
     where
       go : (j : Judgement) → admitted job (length cells) ≡ j → (bytes_plan kind (left after) ≡ plan_of kind job) × Ready (left after)
-      go (Refused r) e =
+      go (Err r) e =
           subst (λ (h : Handed X). (bytes_plan kind (left h) ≡ plan_of kind job) × Ready (left h)) (sym (refused_is r e))
           (ap (plan_of kind) (read_back job w), record { job = job; bytes_of = refl; writable = w })
-      go Taken e =
+      go (Ok _) e =
           let x = answer job turned in
           subst (λ (h : Handed X). (bytes_plan kind (left h) ≡ plan_of kind job) × Ready (left h)) (sym (taken_is e))
           (ap (plan_of kind) (read_back x.job (still_writable e)), record { job = x.job; bytes_of = refl; writable = still_writable e })
@@ -231,9 +231,9 @@ pub record Reports {X : Type 0} (refusal : ℕ) (strict : Bool) (x : Handed X) :
   pub number : one_of x.code (0 ∷ unit_numbers refusal strict) ≡ true
   pub answer : x.answer ≡ answer_bytes (bytes_said x) (job_at x.job)
 
-pub admitted_reports : {X : Type 0} (kind : Kind X) → Fit kind → (h : HeldBytes X) → Ready h → plan.judged (bytes_plan kind h) (bytes_state h) ≡ Taken → (a : ℕ) (lent : List ℕ) → length lent ≡ answer_length → Reports kind.refusal (job_at h.job).strict (turn_bytes kind h.job h.cells a lent)
+pub admitted_reports : {X : Type 0} (kind : Kind X) → Fit kind → (h : HeldBytes X) → Ready h → plan.judged (bytes_plan kind h) (bytes_state h) ≡ Ok tt → (a : ℕ) (lent : List ℕ) → length lent ≡ answer_length → Reports kind.refusal (job_at h.job).strict (turn_bytes kind h.job h.cells a lent)
 admitted_reports kind fit h r e a lent room =
-    let f : admitted r.job (length h.cells) ≡ Taken = sym (ap (λ (j : Job). admitted j (length h.cells)) (job_so h r)) ∙ e in
+    let f : admitted r.job (length h.cells) ≡ Ok tt = sym (ap (λ (j : Job). admitted j (length h.cells)) (job_so h r)) ∙ e in
     let x = answer r.job (turn (next (plan_of kind r.job)) a (state_of r.job h.cells)) in
     let k = turn_known kind fit r.job.camera r.job.width r.job.height r.job.strict a (state_of r.job h.cells) in
     subst (λ (j : Job). Reports kind.refusal j.strict (turn_bytes kind h.job h.cells a lent)) (sym (job_so h r))

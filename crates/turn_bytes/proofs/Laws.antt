@@ -1,5 +1,7 @@
 -- What a caller may rely on, of the definitions of specs/ and of the contracts of src/. Assumes nothing.
 use mathlib.Core.Path.{◌≡◌, refl, sym, ap, ◌∙◌, subst}
+use Rattle.core.specs.declared.result.Result.{Result}
+use Rattle.lens.specs.declared.Refusal.{Refusal}
 use mathlib.Core.Bool.{Bool, true, false, false≢true}
 use mathlib.Core.List.{List, [], ◌∷◌}
 use Prim.Native.Nat.{ℕ, ◌*◌}
@@ -30,7 +32,6 @@ use Rattle.given.specs.Given.{code}
 use Rattle.job_bytes.specs.Places.{length_before}
 use Rattle.job_bytes.specs.Bytes.{record_bytes, record_read, job_at, fresh_bytes}
 use Rattle.job_bytes.specs.Check.{intact, marked, whole, RecordBytes, WordApart, ByteApart}
-use Rattle.job_bytes.specs.declared.Found.{Found}
 use Rattle.job_bytes.proofs.Laws.{fresh_read, fresh_opens_zero, written_whole, written_bytes, one_word_caught}
 use Rattle.job_bytes.proofs.Laws.{one_byte_caught, of_before_refused}
 use Rattle.turn_bytes.specs.Turn.{Handed, handed, answer_length, before_units, written, turn_bytes}
@@ -214,7 +215,7 @@ module _ {X : Type 0} (c : Cells X) (bs : List ℕ) (cells : List X) (allowance 
   pub job_of_before_refused : length bs ≡ length_before → after ≡ handed 7 bs cells lent
   job_of_before_refused old =
       let e : before ≡ 7 =
-      ap (λ (found : Found). before_units found (whole bs) cells lent) (of_before_refused bs old)
+      ap (λ (found : Result Job Refusal). before_units found (whole bs) cells lent) (of_before_refused bs old)
       ∙ seven (eqb (length lent) answer_length) in
       refused_untouched (λ z. omega (arith, e, z)) ∙ ap (λ (n : ℕ). handed n bs cells lent) e
 

@@ -1,5 +1,6 @@
 -- Which numbers a call can have: those before any unit, and those of a unit. Assumes nothing.
 use mathlib.Core.Path.{◌≡◌, refl, ap, ◌∙◌}
+use Rattle.core.specs.declared.result.Result.TheVariants.{Ok, Err}
 use mathlib.Core.Bool.{Bool, true, false, cond, ◌&&◌}
 use mathlib.Core.List.{List, ◌∷◌}
 use Prim.Native.Nat.{ℕ, ◌*◌}
@@ -9,8 +10,7 @@ use lib.ListN.{length}
 use Rattle.lens.specs.Finite.{all_finite}
 use Rattle.lens.specs.Judgement.{verdict, decided}
 use Rattle.lens.specs.Refusal.{number}
-use Rattle.lens.specs.declared.Judgement.{Judgement}
-use Rattle.lens.specs.declared.Judgement.TheVariants as judged
+use Rattle.lens.specs.Judgement.{Judgement}
 use Rattle.lens.specs.declared.Refusal.TheVariants.{UnknownModel, NotFinite, ZeroFocalLength, WrongSize, WrongLength, ImpossibleRecord}
 use Rattle.region.specs.Region.{four}
 use Rattle.region.specs.Size.{sized}
@@ -31,7 +31,6 @@ use Rattle.camera.specs.Numbers.{last}
 use Rattle.job_bytes.specs.Places.{record_length}
 use Rattle.job_bytes.specs.Bytes.{record_read, job_at}
 use Rattle.job_bytes.specs.Check.{whole}
-use Rattle.job_bytes.specs.declared.Found.TheVariants.{Of, Refused}
 use Rattle.turn_bytes.specs.Turn.{checked, own, answer_length, before_units}
 use Rattle.turn_bytes.specs.Calls.{call_numbers}
 use Rattle.turn_bytes.proofs.Turning.{none_before, is_right}
@@ -46,7 +45,7 @@ unfolding plan.admitted opens_for
 admitted_so job places = go (all_finite (parameters job.camera) && all_finite (four job.at.region)) (zero_focal job.camera) (sized job.width job.height) (eqb places (2 * (job.width * job.height))) (plan.possible (sweep_for job) job.at)
   where
     go : (g z s e p : Bool)
-        → BeforeUnits (verdict (decided (cond g (cond z (judged.Refused ZeroFocalLength) (cond s judged.Taken (judged.Refused WrongSize))) (judged.Refused NotFinite)) judged.Refused (cond e (cond p judged.Taken (judged.Refused ImpossibleRecord)) (judged.Refused WrongLength))))
+        → BeforeUnits (verdict (decided (cond g (cond z (Err ZeroFocalLength) (cond s (Ok tt) (Err WrongSize))) (Err NotFinite)) Err (cond e (cond p (Ok tt) (Err ImpossibleRecord)) (Err WrongLength))))
     go false z s e p = refl
     go true true s e p = refl
     go true false false e p = refl
@@ -66,7 +65,7 @@ own_so : (bs : List ℕ) (whole : Bool) (places : ℕ) → BeforeUnits (own (rec
 unfolding record_read
 own_so bs whole places = go (eqb (length bs) record_length) (leb (half bs 0) last)
   where
-    go : (l m : Bool) → BeforeUnits (own (cond l (cond m (Of (job_at bs)) (Refused UnknownModel)) (Refused WrongLength)) whole places)
+    go : (l m : Bool) → BeforeUnits (own (cond l (cond m (Ok (job_at bs)) (Err UnknownModel)) (Err WrongLength)) whole places)
     go false m = refl
     go true false = refl
     go true true = checked_so whole (verdict (admitted (job_at bs) places)) (admitted_so (job_at bs) places)
@@ -87,12 +86,12 @@ before_so bs cells lent = code_so (own (record_read bs) (whole bs) (length cells
 -- ---- a call that is taken
 
 -- its record is admitted, and its bytes are whole
-pub own_taken : (bs : List ℕ) (places : ℕ) → own (record_read bs) (whole bs) places ≡ 0 → (admitted (job_at bs) places ≡ judged.Taken) × (whole bs ≡ true)
+pub own_taken : (bs : List ℕ) (places : ℕ) → own (record_read bs) (whole bs) places ≡ 0 → (admitted (job_at bs) places ≡ Ok tt) × (whole bs ≡ true)
 unfolding record_read
 own_taken bs places h = go (eqb (length bs) record_length) (leb (half bs 0) last) h
   where
-    go : (l m : Bool) → own (cond l (cond m (Of (job_at bs)) (Refused UnknownModel)) (Refused WrongLength)) (whole bs) places ≡ 0
-        → (admitted (job_at bs) places ≡ judged.Taken) × (whole bs ≡ true)
+    go : (l m : Bool) → own (cond l (cond m (Ok (job_at bs)) (Err UnknownModel)) (Err WrongLength)) (whole bs) places ≡ 0
+        → (admitted (job_at bs) places ≡ Ok tt) × (whole bs ≡ true)
     go false m e = absurd (omega (arith, e))
     go true false e = absurd (omega (arith, e))
     go true true e = is_right (job_at bs) (whole bs) places e
@@ -104,6 +103,6 @@ pub taken_so :
 taken_so kind fit bs cells lent a z =
     let j : Job = job_at bs in
     let numbers : List ℕ = 0 ∷ unit_numbers kind.refusal j.strict in
-    let e : admitted j (length cells) ≡ judged.Taken = (own_taken bs (length cells) (none_before (record_read bs) (whole bs) cells lent z).0).0 in
+    let e : admitted j (length cells) ≡ Ok tt = (own_taken bs (length cells) (none_before (record_read bs) (whole bs) cells lent z).0).0 in
     ap (λ (v : Judgement). one_of (said_number (decided v (λ r. record { state = state_of j cells; said = refused (number r) }) (turn (next (plan_of kind j)) a (state_of j cells))).said) numbers) e
     ∙ said_known kind.refusal j.strict (turn (next (plan_of kind j)) a (state_of j cells)).said (turn_known kind fit j.camera j.width j.height j.strict a (state_of j cells))

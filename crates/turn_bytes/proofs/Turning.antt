@@ -1,5 +1,8 @@
 -- From the parts of a call to what it hands back. Assumes nothing.
 use mathlib.Core.Path.{◌≡◌, refl, sym, ap, ap₂, ◌∙◌, subst}
+use Rattle.core.specs.declared.result.Result.{Result}
+use Rattle.core.specs.declared.result.Result.TheVariants.{Ok, Err}
+use Rattle.lens.specs.declared.Refusal.{Refusal}
 use mathlib.Core.Bool.{Bool, true, false, cond}
 use mathlib.Core.List.{List, [], ◌∷◌, ◌++◌, append_assoc, append-nil}
 use Prim.Native.Nat.{ℕ, ◌+◌, ◌*◌, ◌≤◌}
@@ -8,7 +11,6 @@ use borrow.Author.Tests.{eq-eqb, ne_eqb, eqb-true, eqb-false}
 use lib.Dec.{eqb, leb}
 use lib.ListN.{length, length-append}
 use Rattle.lens.specs.Judgement.{verdict}
-use Rattle.lens.specs.declared.Judgement.TheVariants as judged
 use Rattle.lens.specs.declared.Refusal.TheVariants.{UnknownModel, WrongLength}
 use Rattle.lens.proofs.Laws.{verdict_one_to_one}
 use Rattle.region.specs.Size.{Sized}
@@ -27,10 +29,7 @@ use Rattle.camera.specs.Numbers.{last}
 use Rattle.job_bytes.specs.Places.{record_length}
 use Rattle.job_bytes.specs.Bytes.{record_bytes, record_read, job_at}
 use Rattle.job_bytes.specs.Check.{whole}
-use Rattle.job_bytes.specs.declared.Found.{Found}
-use Rattle.job_bytes.specs.declared.Found.TheVariants.{Of, Refused}
 use Rattle.turn_bytes.specs.Turn.{handed, checked, own, answer_length, before_units, words, answer_bytes, written, taken_or_not, Starts, turn_bytes}
-use Rattle.turn_bytes.specs.declared.Start.TheVariants.{With, Not}
 
 -- ---- numbers, as they are put one behind the other
 
@@ -68,13 +67,13 @@ all_words ws lent x h e = e ∙ put_whole (words ws) lent (length_words ws ∙ s
 
 -- ---- what is read out of bytes
 
-by_tests : (bs : List ℕ) (job : Job) (long known : Bool) → eqb (length bs) record_length ≡ long → cond long (cond known (Of (job_at bs)) (Refused UnknownModel)) (Refused WrongLength) ≡ Of job → (job ≡ job_at bs) × (length bs ≡ record_length)
+by_tests : (bs : List ℕ) (job : Job) (long known : Bool) → eqb (length bs) record_length ≡ long → cond long (cond known (Ok (job_at bs)) (Err UnknownModel)) (Err WrongLength) ≡ Ok job → (job ≡ job_at bs) × (length bs ≡ record_length)
 by_tests bs job true true e h = let q : job_at bs ≡ job = cc in (sym q, eqb-true (length bs) record_length e)
 by_tests bs job true false e h = let z : ◌≡◌ {A = ℕ} 0 1 = cc in absurd (omega arith)
 by_tests bs job false known e h = let z : ◌≡◌ {A = ℕ} 0 1 = cc in absurd (omega arith)
 
 -- a record that is read is the one at the bytes' places, and these are as many as a record has
-pub read_of : (bs : List ℕ) (job : Job) → record_read bs ≡ Of job → (job ≡ job_at bs) × (length bs ≡ record_length)
+pub read_of : (bs : List ℕ) (job : Job) → record_read bs ≡ Ok job → (job ≡ job_at bs) × (length bs ≡ record_length)
 unfolding record_read
 read_of bs job h = by_tests bs job (eqb (length bs) record_length) (leb (half bs 0) last) refl h
 
@@ -82,7 +81,7 @@ read_of bs job h = by_tests bs job (eqb (length bs) record_length) (leb (half bs
 
 -- a call is taken only before an answer of the right length, with a record that has no refusal of its own
 pub none_before :
-    {X : Type 0} (found : Found) (whole : Bool) (cells : List X) (lent : List ℕ) →
+    {X : Type 0} (found : Result Job Refusal) (whole : Bool) (cells : List X) (lent : List ℕ) →
     before_units found whole cells lent ≡ 0 →
     (own found whole (length cells) ≡ 0) × (length lent ≡ answer_length)
 unfolding answered
@@ -99,24 +98,24 @@ both_right whole refusal e = by_tests (eqb refusal 0) whole refl e
 
 pub is_right :
     (job : Job) (whole : Bool) (places : ℕ) →
-    own (Of job) whole places ≡ 0 →
-    (admitted job places ≡ judged.Taken) × (whole ≡ true)
+    own (Ok job) whole places ≡ 0 →
+    (admitted job places ≡ Ok tt) × (whole ≡ true)
 is_right job whole places e =
     let b = both_right whole (verdict (admitted job places)) e in
-    (verdict_one_to_one (admitted job places) judged.Taken b.0, b.1)
+    (verdict_one_to_one (admitted job places) (Ok tt) b.0, b.1)
 
 -- the record's own refusal by its parts: n is what all but the check word came to
 module _ (job : Job) (whole : Bool) (places n : ℕ) (e : n ≡ verdict (admitted job places)) where
-  by_check : (z : Bool) → eqb n 0 ≡ z → cond z (cond whole 0 13) n ≡ own (Of job) whole places
+  by_check : (z : Bool) → eqb n 0 ≡ z → cond z (cond whole 0 13) n ≡ own (Ok job) whole places
   by_check z f = ap₂ (λ (t : Bool) (m : ℕ). cond t (cond whole 0 13) m) (sym f ∙ ap (λ (m : ℕ). eqb m 0) e) e
 
-  pub own_refused : (n ≡ 0 → ⊥) → n ≡ own (Of job) whole places
+  pub own_refused : (n ≡ 0 → ⊥) → n ≡ own (Ok job) whole places
   own_refused h = by_check false (ne_eqb n 0 h)
 
-  pub own_damaged : n ≡ 0 → whole ≡ false → 13 ≡ own (Of job) whole places
+  pub own_damaged : n ≡ 0 → whole ≡ false → 13 ≡ own (Ok job) whole places
   own_damaged h w = ap (λ (t : Bool). cond t 0 13) (sym w) ∙ by_check true (eq-eqb n 0 h)
 
-  pub own_right : n ≡ 0 → whole ≡ true → 0 ≡ own (Of job) whole places
+  pub own_right : n ≡ 0 → whole ≡ true → 0 ≡ own (Ok job) whole places
   own_right h w = ap (λ (t : Bool). cond t 0 13) (sym w) ∙ by_check true (eq-eqb n 0 h)
 
 -- one that is not taken writes nothing, and one that is taken writes all that its turn answers
@@ -130,18 +129,18 @@ module _ {X : Type 0} (bs : List ℕ) (cells : List X) (lent : List ℕ) (a : An
 -- ---- a call by how it starts, whatever its table holds
 
 module _ {X : Type 0} (kind : Kind X) (bs : List ℕ) (cells : List X) (allowance : ℕ) (lent : List ℕ) where
-  pub not_begun : (n : ℕ) → Starts bs (length cells) (length lent) (Not n) → handed n bs cells lent ≡ turn_bytes kind bs cells allowance lent
+  pub not_begun : (n : ℕ) → Starts bs (length cells) (length lent) (Err n) → handed n bs cells lent ≡ turn_bytes kind bs cells allowance lent
   unfolding turn_bytes
   not_begun n (e, h) =
       ap (λ (k : ℕ). handed k bs cells lent) e
       ∙ sym (not_taken bs cells lent (turn_of kind (job_at bs) cells allowance) (before_units (record_read bs) (whole bs) cells lent) (λ z. h (e ∙ z)))
 
-  module _ (job : Job) (s : Starts bs (length cells) (length lent) (With job)) where
+  module _ (job : Job) (s : Starts bs (length cells) (length lent) (Ok job)) where
     record_is : job ≡ job_at bs
     record_is = (read_of bs job s.1).0
 
-    nothing_wrong : (own (Of job) (whole bs) (length cells) ≡ 0) × (length lent ≡ answer_length)
-    nothing_wrong = let n = none_before (record_read bs) (whole bs) cells lent s.0 in (sym (ap (λ (f : Found). own f (whole bs) (length cells)) s.1) ∙ n.0, n.1)
+    nothing_wrong : (own (Ok job) (whole bs) (length cells) ≡ 0) × (length lent ≡ answer_length)
+    nothing_wrong = let n = none_before (record_read bs) (whole bs) cells lent s.0 in (sym (ap (λ (f : Result Job Refusal). own f (whole bs) (length cells)) s.1) ∙ n.0, n.1)
 
     -- what is written into has the right length, and the table the record's size
     pub lengths : Sized job.width job.height × (length bs ≡ record_length) × (length lent ≡ answer_length)

@@ -5,7 +5,8 @@
 --     0  status: 0 running, 1 finished, 2 refused      24  updates
 --     8  units done                                    32  border samples done that didn't settle
 --    16  units in all                                  40  the position of the first of them, from 1; 0 for none
-use Rattle.std.specs.Prelude.{◌≡◌, Bool, cond, List, [], ◌∷◌, ◌++◌, ℕ, eqb, length}
+use Rattle.std.specs.Prelude.{◌≡◌, Bool, cond, List, [], ◌∷◌, ◌++◌, ℕ, eqb, length, Result, Ok, Err}
+use Rattle.lens.specs.declared.Refusal.{Refusal}
 use Rattle.lens.specs.Judgement.{verdict}
 use Rattle.lens.specs.Refusal.{number}
 use Rattle.border.specs.Border.{all_units}
@@ -20,10 +21,6 @@ use Rattle.little_endian.specs.Bytes.{bytes}
 use Rattle.given.specs.Given.{code}
 use Rattle.job_bytes.specs.Bytes.{record_bytes, record_read, job_at}
 use Rattle.job_bytes.specs.Check.{whole}
-use Rattle.job_bytes.specs.declared.Found.{Found}
-use Rattle.job_bytes.specs.declared.Found.TheVariants.{Of, Refused}
-use Rattle.turn_bytes.specs.declared.Start.{Start}
-use Rattle.turn_bytes.specs.declared.Start.TheVariants.{With, Not}
 
 -- what a call gives back: its number, and what it was lent
 pub record Handed (X : Type 0) : Type 0 where
@@ -43,16 +40,16 @@ checked whole refusal = cond (eqb refusal 0) (cond whole 0 13) refusal
 
 -- the record's own refusal: 7 and 1, then 4, 5, 6, 7, 13, and 13 for bytes that aren't whole; 0 if there is none.
 -- `places` is the length of the table
-abbrev pub own : Found → Bool → ℕ → ℕ
-own (Of job) whole places = checked whole (verdict (admitted job places))
-own (Refused refusal) whole places = number refusal
+abbrev pub own : Result Job Refusal → Bool → ℕ → ℕ
+own (Ok job) whole places = checked whole (verdict (admitted job places))
+own (Err refusal) whole places = number refusal
 
 -- how many bytes an answer has
 abbrev pub answer_length : ℕ
 answer_length = 48
 
 -- the lower of the record's own refusal and 7, which is for an answer of another length
-abbrev pub before_units : {X : Type 0} → Found → Bool → List X → List ℕ → ℕ
+abbrev pub before_units : {X : Type 0} → Result Job Refusal → Bool → List X → List ℕ → ℕ
 before_units found whole cells lent = code (own found whole (length cells)) (eqb (length lent) answer_length)
 
 -- ---- what a turn writes
@@ -91,8 +88,8 @@ turn_bytes kind bs cells allowance lent =
 
 -- how it starts, whatever the table holds, with a table of so many places and an answer of so many bytes: refused with
 -- a number, or with the record that the bytes hold
-abbrev pub Starts : List ℕ → ℕ → ℕ → Start → Type 0
-Starts bs places room (Not n) =
+abbrev pub Starts : List ℕ → ℕ → ℕ → Result Job ℕ → Type 0
+Starts bs places room (Err n) =
     (n ≡ code (own (record_read bs) (whole bs) places) (eqb room answer_length)) × (n ≡ 0 → ⊥)
-Starts bs places room (With job) =
-    (code (own (record_read bs) (whole bs) places) (eqb room answer_length) ≡ 0) × (record_read bs ≡ Of job)
+Starts bs places room (Ok job) =
+    (code (own (record_read bs) (whole bs) places) (eqb room answer_length) ≡ 0) × (record_read bs ≡ Ok job)

@@ -18,27 +18,19 @@ ghost use Rattle.turn_bytes.specs.Turn.{turn_bytes};
 
 use distortion_table::{Status, Turned};
 use job::Job;
-use job_bytes::Found;
-use lens::{Judgement, Refusal};
+use lens::Refusal;
 use plans::Progress;
-
-// How a call starts: with a record, or refused with a number that isn't 0.
-#[derive(Clone, Copy)]
-enum Start {
-    With(Job),
-    Not(u8),
-}
 
 // How many bytes an answer has.
 pub const ANSWER: usize = 48;
 
 // A judgement by its number: 0 for a record that is taken.
-fn verdict(judgement: Judgement) -> u8
+fn verdict(judgement: Result<(), Refusal>) -> u8
     ensures { result ≡ verdict judgement }
 {
     match judgement {
-        Judgement::Taken => 0,
-        Judgement::Refused(refusal) => lens::number(refusal),
+        Ok(()) => 0,
+        Err(refusal) => lens::number(refusal),
     }
 }
 
@@ -119,28 +111,28 @@ fn own(held: Job, job: &[u8], places: usize) -> u8
 
 // What a record that is read says to a table of so many places and an answer of so many bytes: 4, 5, 6, 7, 13 before
 // any unit.
-fn start_held(held: Job, job: &[u8], places: usize, room: usize) -> Start
+fn start_held(held: Job, job: &[u8], places: usize, room: usize) -> Result<Job, u8>
     requires { record_read job.now ≡ Of held }
     ensures { Starts job.now places room result }
 {
     let number = own(held, job, places);
     let code = given::code(number, room == ANSWER);
     if code != 0 {
-        return Start::Not(code);
+        return Err(code);
     }
-    Start::With(held)
+    Ok(held)
 }
 
 // How a call starts, whatever the table holds.
-fn begin(job: &[u8], places: usize, room: usize) -> Start
+fn begin(job: &[u8], places: usize, room: usize) -> Result<Job, u8>
     ensures { Starts job.now places room result }
 {
     match job_bytes::read(job) {
-        Found::Refused(refusal) => {
+        Err(refusal) => {
             let code = given::code(lens::number(refusal), room == ANSWER);
-            Start::Not(code)
+            Err(code)
         }
-        Found::Of(held) => start_held(held, job, places, room),
+        Ok(held) => start_held(held, job, places, room),
     }
 }
 
@@ -151,8 +143,8 @@ pub fn turn(job: &mut [u8], table: &mut [f32], allowance: u64, answer: &mut [u8]
         ≡ turn_bytes f32s job.old table.old allowance answer.old }
 {
     match begin(job, table.len(), answer.len()) {
-        Start::Not(code) => code,
-        Start::With(held) => give(
+        Err(code) => code,
+        Ok(held) => give(
             distortion_table::turn(held, table, allowance as usize),
             job,
             answer,
@@ -166,8 +158,8 @@ pub fn turn16(job: &mut [u8], table: &mut [i16], allowance: u64, answer: &mut [u
         ≡ turn_bytes i16s job.old table.old allowance answer.old }
 {
     match begin(job, table.len(), answer.len()) {
-        Start::Not(code) => code,
-        Start::With(held) => give(
+        Err(code) => code,
+        Ok(held) => give(
             distortion_table::turn16(held, table, allowance as usize),
             job,
             answer,

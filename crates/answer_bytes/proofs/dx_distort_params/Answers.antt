@@ -1,8 +1,10 @@
 -- `answer_bytes::dx_distort_params` meets its contract. Assumes nothing.
 use mathlib.Core.Path.{refl}
+use Rattle.core.specs.declared.result.Result.{Result}
+use Rattle.camera.specs.declared.Camera.{Camera}
+use Rattle.lens.specs.declared.Refusal.{Refusal}
 use Rattle.answer_bytes.specs.Answer.{parameter_slopes, dx_distort_params_bytes}
 use Rattle.camera_bytes.specs.Reading.{read}
-use Rattle.camera_bytes.specs.declared.Asked.{Asked}
 use Rattle.answer_bytes.proofs.Entries.{parameter_slopes_finite}
 use Rattle.answer_bytes.proofs.Giving.{jacobian_call}
 use Rattle.answer_bytes.proofs.dx_distort_params.Goals as goal
@@ -13,4 +15,4 @@ give_jacobian-requires c =
 
 pub returns : goal.returns
 unfolding dx_distort_params_bytes
-returns c = jacobian_call (λ (a : Asked). parameter_slopes a record { 0 = c.args.x; 1 = c.args.y }) (read c.args.model c.args.params.now) _ _ _ _ c.give_jacobian.ensures c.parameter_slopes-told.ensures refl
+returns c = jacobian_call (λ (a : Result Camera Refusal). parameter_slopes a record { 0 = c.args.x; 1 = c.args.y }) (read c.args.model c.args.params.now) _ _ _ _ c.give_jacobian.ensures c.parameter_slopes-told.ensures refl

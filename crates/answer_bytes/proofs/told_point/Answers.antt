@@ -2,5 +2,5 @@
 use mathlib.Core.Path.{refl}
 use Rattle.answer_bytes.proofs.told_point.Goals as goal
 
-pub returns-in-Refused : goal.returns-in-Refused
-returns-in-Refused c = rw c.in-Refused.is (c.number.ensures, refl)
+pub returns-in-Err : goal.returns-in-Err
+returns-in-Err c = rw c.in-Err.is (c.number.ensures, refl)

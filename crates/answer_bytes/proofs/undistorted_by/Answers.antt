@@ -3,12 +3,12 @@ use mathlib.Core.Path.{refl}
 use Rattle.camera.proofs.Known.{judged_finite}
 use Rattle.answer_bytes.proofs.undistorted_by.Goals as goal
 
-pub returns-in-Refused : goal.returns-in-Refused
-returns-in-Refused c =
+pub returns-in-Err : goal.returns-in-Err
+returns-in-Err c =
     let a = c.args in
-    rw (judged_finite a.camera a.pixel.0 a.pixel.1 c.requires, ← c.placed.ensures, c.in-Refused.is) refl
+    rw (judged_finite a.camera a.pixel.0 a.pixel.1 c.requires, ← c.placed.ensures, c.in-Err.is) refl
 
-pub returns-in-Taken : goal.returns-in-Taken
-returns-in-Taken c =
+pub returns-in-Ok : goal.returns-in-Ok
+returns-in-Ok c =
     let a = c.args in
-    rw (judged_finite a.camera a.pixel.0 a.pixel.1 c.requires, ← c.placed.ensures, c.in-Taken.is) c.undistort_judged.ensures
+    rw (judged_finite a.camera a.pixel.0 a.pixel.1 c.requires, ← c.placed.ensures, c.in-Ok.is) c.undistort_judged.ensures

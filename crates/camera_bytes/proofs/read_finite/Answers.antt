@@ -5,14 +5,14 @@ use Rattle.camera_bytes.proofs.Counted.{read_refused, read_taken, judged_taken}
 use Rattle.camera_bytes.proofs.read_finite.Goals as goal
 
 pub whole-requires : goal.whole-requires
-whole-requires c = let a = c.args in judged_taken a.model a.params.now (sym c.judged.ensures ∙ c.in-Taken.is)
+whole-requires c = let a = c.args in judged_taken a.model a.params.now (sym c.judged.ensures ∙ c.in-Ok.is)
 
-pub returns-in-Refused : goal.returns-in-Refused
-returns-in-Refused c =
+pub returns-in-Err : goal.returns-in-Err
+returns-in-Err c =
     let a = c.args in
-    sym (ap finite_only (read_refused a.model a.params.now (sym c.judged.ensures ∙ c.in-Refused.is)))
+    sym (ap finite_only (read_refused a.model a.params.now (sym c.judged.ensures ∙ c.in-Err.is)))
 
-pub returns-in-Taken : goal.returns-in-Taken
-returns-in-Taken c =
+pub returns-in-Ok : goal.returns-in-Ok
+returns-in-Ok c =
     let a = c.args in
-    c.whole.ensures ∙ sym (ap finite_only (read_taken a.model a.params.now (sym c.judged.ensures ∙ c.in-Taken.is)))
+    c.whole.ensures ∙ sym (ap finite_only (read_taken a.model a.params.now (sym c.judged.ensures ∙ c.in-Ok.is)))

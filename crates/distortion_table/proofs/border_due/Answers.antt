@@ -1,10 +1,10 @@
 -- `distortion_table::border_due` meets its contract. Assumes nothing.
 use mathlib.Core.Path.{◌≡◌, sym, ap, ◌∙◌}
+use Rattle.core.specs.declared.result.Result.TheVariants.{Ok}
 use Prim.Native.Nat.{ℕ, ◌-◌, min}
 use native.Mathlib.Nat.{min-le_left}
 use native.Mathlib.Omega.{arith}
-use Rattle.lens.specs.declared.Judgement.{Judgement}
-use Rattle.lens.specs.declared.Judgement.TheVariants.{Taken}
+use Rattle.lens.specs.Judgement.{Judgement}
 use Rattle.border.specs.Border.{samples}
 use Rattle.turns.specs.Turns.{Turn}
 use Rattle.plans.specs.declared.Progress.{Progress}
@@ -36,14 +36,14 @@ overflow_sub-allowance c = let a = c.args in omega (arith, c.due-count.ensures, 
 pub cells_due-requires : goal.cells_due-requires
 cells_due-requires c = c.requires
 
-pub returns-in-Refused : goal.returns-in-Refused
-returns-in-Refused c = let a = c.args in swept_so a.job a.allowance c.sweep-stop.result c.sweep-stop.ensures _ c.in-Refused.is
+pub returns-in-Err : goal.returns-in-Err
+returns-in-Err c = let a = c.args in swept_so a.job a.allowance c.sweep-stop.result c.sweep-stop.ensures _ c.in-Err.is
 
-pub returns-in-Taken : goal.returns-in-Taken
-returns-in-Taken c =
+pub returns-in-Ok : goal.returns-in-Ok
+returns-in-Ok c =
     let a = c.args in
     let j = a.job in
     let counted : c.due-count.result ≡ min a.allowance (samples j.width j.height - j.at.done) = rw (← c.samples-border.ensures) c.due-count.ensures in
     c.cells_due.ensures
-    ∙ ap (λ (n : ℕ). after_border j.width j.height (a.allowance - n) (told_refusal Taken) c.sweep-stop.result.at) counted
-    ∙ swept_so j a.allowance c.sweep-stop.result c.sweep-stop.ensures Taken c.in-Taken.is
+    ∙ ap (λ (n : ℕ). after_border j.width j.height (a.allowance - n) (told_refusal (Ok tt)) c.sweep-stop.result.at) counted
+    ∙ swept_so j a.allowance c.sweep-stop.result c.sweep-stop.ensures (Ok tt) c.in-Ok.is

@@ -3,7 +3,7 @@ use mathlib.Core.Path.{◌≡◌, sym, ap, ◌∙◌}
 use Prim.Native.Nat.{ℕ}
 use Rattle.lens.specs.Judgement.{verdict, decided}
 use Rattle.lens.specs.Refusal.{number}
-use Rattle.lens.specs.declared.Judgement.{Judgement}
+use Rattle.lens.specs.Judgement.{Judgement}
 use Rattle.lens.proofs.Laws.{verdict_one_to_one}
 use Rattle.turns.specs.Turns.{refused}
 use Rattle.job.specs.Job.{admitted}
@@ -20,10 +20,10 @@ judged_so job places allowance r h e =
     ap (λ (j : Judgement). decided j (λ r. over (refused (number r)) job.at) (by_border job allowance)) (sym e ∙ verdict_one_to_one r (admitted job places) h)
 
 pub border_due-requires : goal.border_due-requires
-border_due-requires c = let a = c.args in (taking a.job a.places (sym (verdict_one_to_one _ _ c.admitted.ensures) ∙ c.in-Taken.is)).size
+border_due-requires c = let a = c.args in (taking a.job a.places (sym (verdict_one_to_one _ _ c.admitted.ensures) ∙ c.in-Ok.is)).size
 
-pub returns-in-Refused : goal.returns-in-Refused
-returns-in-Refused c = let a = c.args in judged_so a.job a.places a.allowance _ c.admitted.ensures c.in-Refused.is
+pub returns-in-Err : goal.returns-in-Err
+returns-in-Err c = let a = c.args in judged_so a.job a.places a.allowance _ c.admitted.ensures c.in-Err.is
 
-pub returns-in-Taken : goal.returns-in-Taken
-returns-in-Taken c = let a = c.args in c.border_due.ensures ∙ judged_so a.job a.places a.allowance _ c.admitted.ensures c.in-Taken.is
+pub returns-in-Ok : goal.returns-in-Ok
+returns-in-Ok c = let a = c.args in c.border_due.ensures ∙ judged_so a.job a.places a.allowance _ c.admitted.ensures c.in-Ok.is

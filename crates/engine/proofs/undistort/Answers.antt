@@ -1,10 +1,10 @@
 -- `engine::undistort` meets its contract: each call gives its definition's answer. Assumes nothing.
 use mathlib.Core.Path.{◌≡◌, sym, ap, ◌∙◌}
+use Rattle.core.specs.declared.result.Result.TheVariants.{Ok}
 use Rattle.lens.specs.Undistorted.{told}
 use Rattle.lens.specs.declared.Pixel.{Pixel}
 use Rattle.lens.specs.declared.Settled.{Settled}
-use Rattle.lens.specs.declared.Undistorted.{Undistorted}
-use Rattle.lens.specs.declared.Undistorted.TheVariants.{At}
+use Rattle.lens.specs.Undistorted.{Undistorted}
 use Rattle.brown_conrady.specs.declared.BrownConradyParams.{BrownConradyParams}
 use Rattle.short_brown_conrady.specs.ShortBrownConrady as short
 use Rattle.camera.specs.Camera.{finite_point, undistort_judged}
@@ -14,12 +14,12 @@ use Rattle.engine.proofs.undistort.Goals as goal
 use Rattle.engine.proofs.undistort.Goals.{then-short+in_default, else-short}
 
 abbrev by_short : Pixel → BrownConradyParams → Undistorted
-by_short pixel params = finite_point (At (short.undistort params pixel))
+by_short pixel params = finite_point (Ok (short.undistort params pixel))
 
 pub returns-in-BrownConrady : goal.returns-in-BrownConrady
 returns-in-BrownConrady c =
     let m = c in
-    rw (m.in-BrownConrady.is, m.if-short.true) (ap told (c.finite.ensures ∙ ap (λ (s : Settled). finite_point (At s)) c.undistort.ensures))
+    rw (m.in-BrownConrady.is, m.if-short.true) (ap told (c.finite.ensures ∙ ap (λ (s : Settled). finite_point (Ok s)) c.undistort.ensures))
 
 pub returns : goal.returns
 returns c =

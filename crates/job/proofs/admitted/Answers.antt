@@ -1,9 +1,9 @@
 -- `job::admitted` meets its contract. Assumes nothing.
 use mathlib.Core.Path.{◌≡◌, sym, ap, ◌∙◌}
+use Rattle.core.specs.declared.result.Result.TheVariants.{Err}
 use Prim.Native.Nat.{ℕ}
 use Rattle.lens.specs.Judgement.{verdict, decided}
-use Rattle.lens.specs.declared.Judgement.{Judgement}
-use Rattle.lens.specs.declared.Judgement.TheVariants.{Refused}
+use Rattle.lens.specs.Judgement.{Judgement}
 use Rattle.lens.proofs.Laws.{verdict_one_to_one}
 use Rattle.plans.specs.Calls as plan
 use Rattle.table_plans.specs.Tables.{opens_for}
@@ -18,18 +18,18 @@ opens job = opens_for job.camera job.width job.height job.at.region
 -- by what the camera's and the size's judging says
 judged_so :
     (job : Job) (places : ℕ) {r j : Judgement} → verdict r ≡ verdict (opens job) → r ≡ j
-    → verdict (decided j Refused (plan.sound (sweep_for job) job.at places)) ≡ verdict (admitted job places)
+    → verdict (decided j Err (plan.sound (sweep_for job) job.at places)) ≡ verdict (admitted job places)
 unfolding plan.admitted
 judged_so job places {r} h e =
-    ap (λ (j : Judgement). verdict (decided j Refused (plan.sound (sweep_for job) job.at places))) (sym e ∙ verdict_one_to_one r (opens job) h)
+    ap (λ (j : Judgement). verdict (decided j Err (plan.sound (sweep_for job) job.at places))) (sym e ∙ verdict_one_to_one r (opens job) h)
 
 pub sound-requires : goal.sound-requires
 sound-requires c =
     let j = c.args.job in
-    (opened j.camera j.width j.height j.at.region (sym (verdict_one_to_one _ (opens j) c.opens-opened.ensures) ∙ c.in-Taken.is)).size
+    (opened j.camera j.width j.height j.at.region (sym (verdict_one_to_one _ (opens j) c.opens-opened.ensures) ∙ c.in-Ok.is)).size
 
-pub returns-in-Refused : goal.returns-in-Refused
-returns-in-Refused c = let a = c.args in judged_so a.job a.places c.opens-opened.ensures c.in-Refused.is
+pub returns-in-Err : goal.returns-in-Err
+returns-in-Err c = let a = c.args in judged_so a.job a.places c.opens-opened.ensures c.in-Err.is
 
-pub returns-in-Taken : goal.returns-in-Taken
-returns-in-Taken c = let a = c.args in c.sound.ensures ∙ judged_so a.job a.places c.opens-opened.ensures c.in-Taken.is
+pub returns-in-Ok : goal.returns-in-Ok
+returns-in-Ok c = let a = c.args in c.sound.ensures ∙ judged_so a.job a.places c.opens-opened.ensures c.in-Ok.is

@@ -4,10 +4,10 @@ use borrow.Author.Tests.{lt-leb}
 use Rattle.job_bytes.proofs.known_mark.Goals as goal
 
 pub returns-then-mark-le1 : goal.returns-then-mark-le1
-returns-then-mark-le1 c = rw (c.in-With.is, le-leb _ 1 c.if-mark-le1.true) refl
+returns-then-mark-le1 c = rw (c.in-Ok.is, le-leb _ 1 c.if-mark-le1.true) refl
 
 pub returns-else-mark-le1 : goal.returns-else-mark-le1
-returns-else-mark-le1 c = rw (c.in-With.is, lt-leb _ 1 c.if-mark-le1.false) refl
+returns-else-mark-le1 c = rw (c.in-Ok.is, lt-leb _ 1 c.if-mark-le1.false) refl
 
-pub returns-in-Refused : goal.returns-in-Refused
-returns-in-Refused c = rw c.in-Refused.is refl
+pub returns-in-Err : goal.returns-in-Err
+returns-in-Err c = rw c.in-Err.is refl

@@ -1,6 +1,6 @@
 -- `job_bytes::read` meets its contract. Assumes nothing.
 use Rattle.std.proofs.Common.{ap, ◌∙◌, arith}
-use Rattle.job_bytes.specs.declared.Found.TheVariants.{Of}
+use Rattle.core.specs.declared.result.Result.TheVariants.{Ok}
 use Rattle.job_bytes.proofs.Reading.{read_misfit, read_unknown, read_job}
 use Rattle.job_bytes.proofs.read.Goals as goal
 
@@ -19,5 +19,5 @@ job_at-requires c = (c.half-model.ensures, omega (arith, c.if-bytes-ne-LENGTH.fa
 
 pub returns : goal.returns
 returns c =
-    ap Of c.job_at.ensures
+    ap Ok c.job_at.ensures
     ∙ read_job c.args.bytes.now (omega (arith, c.if-bytes-ne-LENGTH.false)) (omega (arith, c.if-model.false, c.half-model.ensures))

@@ -1,16 +1,16 @@
 -- `kannala_brandt::outward` meets its contract. Assumes nothing.
 use mathlib.Core.Path.{sym, ap, ◌∙◌}
-use Rattle.arctan.specs.declared.Slope.{Slope}
+use Rattle.core.specs.declared.option.Option.{Option}
 use Rattle.kannala_brandt.specs.KannalaBrandt.{outward}
 use Rattle.kannala_brandt.proofs.outward.Goals as goal
 
-pub returns-in-TooSteep : goal.returns-in-TooSteep
-returns-in-TooSteep c =
+pub returns-in-None : goal.returns-in-None
+returns-in-None c =
     let a = c.args in
-    ap (λ (slope : Slope). outward slope a.at a.rth a.un a.vn) (sym c.in-TooSteep.is ∙ c.tangent.ensures.is)
+    ap (λ (slope : Option Float). outward slope a.at a.rth a.un a.vn) (sym c.in-None.is ∙ c.tangent.ensures.is)
 
-pub returns-in-Is : goal.returns-in-Is
-returns-in-Is c =
+pub returns-in-Some : goal.returns-in-Some
+returns-in-Some c =
     let a = c.args in
     rw (c.flag.ensures, c.sign_of-sign.ensures)
-    (ap (λ (slope : Slope). outward slope a.at a.rth a.un a.vn) (sym c.in-Is.is ∙ c.tangent.ensures.is))
+    (ap (λ (slope : Option Float). outward slope a.at a.rth a.un a.vn) (sym c.in-Some.is ∙ c.tangent.ensures.is))

@@ -10,18 +10,18 @@ looked_up-requires c =
     let p = c.requires in
     let by = c.increments_of-by.result in
     let w = verdict_one_to_one _ _ c.wrong.ensures in
-    let n = indices by p (sym w ∙ c.in-Taken.is) in
-    (p.whole, subst Number (sym c.index.ensures) n.0, subst Number (sym c.index-in-Taken.ensures) n.1)
+    let n = indices by p (sym w ∙ c.in-Ok.is) in
+    (p.whole, subst Number (sym c.index.ensures) n.0, subst Number (sym c.index-in-Ok.ensures) n.1)
 
-pub returns-in-Refused : goal.returns-in-Refused
-returns-in-Refused c =
+pub returns-in-Err : goal.returns-in-Err
+returns-in-Err c =
     let w = verdict_one_to_one _ _ c.wrong.ensures in
-    spread_so _ _ _ _ _ c.increments_of-by.ensures (sym c.in-Refused.is ∙ w) refl
+    spread_so _ _ _ _ _ c.increments_of-by.ensures (sym c.in-Err.is ∙ w) refl
 
-pub returns-in-Taken : goal.returns-in-Taken
-returns-in-Taken c =
+pub returns-in-Ok : goal.returns-in-Ok
+returns-in-Ok c =
     let w = verdict_one_to_one _ _ c.wrong.ensures in
     spread_so _ _ _ _ _
     c.increments_of-by.ensures
-    (sym c.in-Taken.is ∙ w)
-    (c.looked_up.ensures ∙ rw (c.index-in-Taken.ensures, c.index.ensures) refl)
+    (sym c.in-Ok.is ∙ w)
+    (c.looked_up.ensures ∙ rw (c.index-in-Ok.ensures, c.index.ensures) refl)

@@ -3,9 +3,9 @@ use mathlib.Core.Path.{refl}
 use lib.Ieee.{of_bits}
 use Rattle.number_bytes.proofs.told_slope.Goals as goal
 
-pub returns-in-Is : goal.returns-in-Is
-returns-in-Is c = rw c.in-Is.is (refl, refl)
+pub returns-in-Some : goal.returns-in-Some
+returns-in-Some c = rw c.in-Some.is (refl, refl)
 
-pub returns-in-TooSteep : goal.returns-in-TooSteep
+pub returns-in-None : goal.returns-in-None
 unfolding of_bits
-returns-in-TooSteep c = rw c.in-TooSteep.is (c.number.ensures, refl)
+returns-in-None c = rw c.in-None.is (c.number.ensures, refl)

@@ -8,10 +8,10 @@ use Rattle.observation_bytes.specs.Bytes.{observe_bytes}
 use Rattle.observation_bytes.proofs.Called.{by_camera, by_none}
 use Rattle.observation_bytes.proofs.observe.Goals as goal
 
-pub returns-in-Of : goal.returns-in-Of
+pub returns-in-Ok : goal.returns-in-Ok
 unfolding observe_bytes
-returns-in-Of c = by_camera _ c.args.list.now _ _ _ (sym c.read.ensures ∙ c.in-Of.is) c.observed_by.ensures.0 c.observed_by.ensures.1
+returns-in-Ok c = by_camera _ c.args.list.now _ _ _ (sym c.read.ensures ∙ c.in-Ok.is) c.observed_by.ensures.0 c.observed_by.ensures.1
 
-pub returns-in-Refused : goal.returns-in-Refused
+pub returns-in-Err : goal.returns-in-Err
 unfolding observe_bytes
-returns-in-Refused c = by_none _ c.args.list.now _ _ (sym c.read.ensures ∙ c.in-Refused.is) (c.code.ensures ∙ ap (λ (n : ℕ). code n (eqb (length c.args.list.now % 40) 0)) c.number.ensures)
+returns-in-Err c = by_none _ c.args.list.now _ _ (sym c.read.ensures ∙ c.in-Err.is) (c.code.ensures ∙ ap (λ (n : ℕ). code n (eqb (length c.args.list.now % 40) 0)) c.number.ensures)

@@ -4,12 +4,12 @@ use Rattle.lens.proofs.Laws.{verdict_one_to_one}
 use Rattle.region.specs.Region.{wrong}
 use Rattle.sweep.proofs.closed.Goals as goal
 
-pub returns-in-Refused : goal.returns-in-Refused
-returns-in-Refused c =
+pub returns-in-Err : goal.returns-in-Err
+returns-in-Err c =
     let same = verdict_one_to_one c.wrong.result (wrong c.increments_of.result) c.wrong.ensures in
-    rw (← c.doubled-region.ensures, ← c.increments_of.ensures, ← same, c.in-Refused.is) refl
+    rw (← c.doubled-region.ensures, ← c.increments_of.ensures, ← same, c.in-Err.is) refl
 
-pub returns-in-Taken : goal.returns-in-Taken
-returns-in-Taken c =
+pub returns-in-Ok : goal.returns-in-Ok
+returns-in-Ok c =
     let same = verdict_one_to_one c.wrong.result (wrong c.increments_of.result) c.wrong.ensures in
-    rw (← c.doubled-region.ensures, ← c.increments_of.ensures, ← same, c.in-Taken.is) refl
+    rw (← c.doubled-region.ensures, ← c.increments_of.ensures, ← same, c.in-Ok.is) refl

@@ -20,11 +20,11 @@ loop-left-init c = (refl, omega arith, c.requires.3, c.requires.4, refl)
 pub sweep_one-requires : goal.sweep_one-requires
 sweep_one-requires c = (c.requires.0, omega (arith, c.requires.1, c.requires.2), omega arith, omega arith)
 
-pub returns-in-Refused : goal.returns-in-Refused
-returns-in-Refused c =
+pub returns-in-Err : goal.returns-in-Err
+returns-in-Err c =
     let a = c.args in
     let l = c.loop-left in
-    let e = sym c.sweep_one.ensures ∙ ap told_swept c.in-Refused.is in
+    let e = sym c.sweep_one.ensures ∙ ap told_swept c.in-Err.is in
     sym (met_refused (swept (by_mark a.camera a.short a.width a.height a.strict)) l.left l.at (omega arith) _ e) ∙ l.invariant.4
 
 pub loop-left-smaller : goal.loop-left-smaller
@@ -34,8 +34,8 @@ pub loop-left-preserved : goal.loop-left-preserved
 loop-left-preserved c =
     let a = c.args in
     let l = c.loop-left in
-    let t = c.in-To.next in
-    let e = sym c.sweep_one.ensures ∙ ap told_swept c.in-To.is in
+    let t = c.in-Ok.next in
+    let e = sym c.sweep_one.ensures ∙ ap told_swept c.in-Ok.is in
     let n = swept_counts (by_mark a.camera a.short a.width a.height a.strict) l.at t e in (
       omega (arith, n.units),
       omega arith,

@@ -8,7 +8,7 @@ use mir.Syntax.{w16, w64}
 use mir.Val.{SFits, to_z, of_z}
 use mir.ValLaws.{to_z_pos, to_z-of_z}
 use Rattle.exact.specs.F64.{◌⊕◌}
-use Rattle.thirty_seconds.specs.declared.Multiple.TheVariants.{Is}
+use Rattle.std.specs.Prelude.{Some}
 use Rattle.thirty_seconds.proofs.Shifted.{shift}
 use Rattle.thirty_seconds.proofs.Answers.{Found, found, too_low, too_high}
 use Rattle.thirty_seconds.proofs.thirty_seconds.Goals as goal
@@ -44,9 +44,9 @@ overflow_cast-number c =
 pub returns-then-x-2 : goal.returns-then-x-2
 returns-then-x-2 c =
     let f = found c.args.x c.if-x.true c.if-x-2.true in
-    ap (λ (z : ℤ). Is (to_z w16 (of_z w16 (to_z w64 (of_z w64 z))))) (read f)
-    ∙ ap (λ (z : ℤ). Is (to_z w16 (of_z w16 z))) (to_z-of_z w64 f.n (wide f))
-    ∙ ap Is (to_z-of_z w16 f.n (narrow f))
+    ap (λ (z : ℤ). Some (to_z w16 (of_z w16 (to_z w64 (of_z w64 z))))) (read f)
+    ∙ ap (λ (z : ℤ). Some (to_z w16 (of_z w16 z))) (to_z-of_z w64 f.n (wide f))
+    ∙ ap Some (to_z-of_z w16 f.n (narrow f))
     ∙ sym f.is
 
 pub returns-else-x-2 : goal.returns-else-x-2

@@ -9,19 +9,19 @@ use Rattle.turn_bytes.proofs.turn.Goals as goal
 pub give-requires : goal.give-requires
 give-requires c =
     let a = c.args in
-    let s = subst (Starts a.job.now (length a.table.now) (length a.answer.now)) c.in-With.is c.begin.ensures in
+    let s = subst (Starts a.job.now (length a.table.now) (length a.answer.now)) c.in-Ok.is c.begin.ensures in
     let l = lengths f32s a.job.now a.table.now a.allowance a.answer.now _ s in
     (size_kept f32s a.job.now a.table.now a.allowance a.answer.now _ s c.turn.result _ c.turn.ensures, l.1, l.2)
 
-pub returns-in-Not : goal.returns-in-Not
-returns-in-Not c =
+pub returns-in-Err : goal.returns-in-Err
+returns-in-Err c =
     let a = c.args in
     not_begun f32s a.job.now a.table.now a.allowance a.answer.now _
-    (subst (Starts a.job.now (length a.table.now) (length a.answer.now)) c.in-Not.is c.begin.ensures)
+    (subst (Starts a.job.now (length a.table.now) (length a.answer.now)) c.in-Err.is c.begin.ensures)
 
-pub returns-in-With : goal.returns-in-With
-returns-in-With c =
+pub returns-in-Ok : goal.returns-in-Ok
+returns-in-Ok c =
     let a = c.args in
     begun f32s a.job.now a.table.now a.allowance a.answer.now _
-    (subst (Starts a.job.now (length a.table.now) (length a.answer.now)) c.in-With.is c.begin.ensures)
+    (subst (Starts a.job.now (length a.table.now) (length a.answer.now)) c.in-Ok.is c.begin.ensures)
     c.turn.result _ c.turn.ensures _ _ _ c.give.ensures

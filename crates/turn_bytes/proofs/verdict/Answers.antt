@@ -1,5 +1,5 @@
 -- `turn_bytes::verdict` meets its contract. Assumes nothing.
 use Rattle.turn_bytes.proofs.verdict.Goals as goal
 
-pub returns-in-Refused : goal.returns-in-Refused
-returns-in-Refused c = rw c.in-Refused.is c.number.ensures
+pub returns-in-Err : goal.returns-in-Err
+returns-in-Err c = rw c.in-Err.is c.number.ensures

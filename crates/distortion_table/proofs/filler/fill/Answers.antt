@@ -17,10 +17,10 @@ nonzero_div-place c = omega arith
 pub loop-i-init : goal.loop-i-init
 loop-i-init c = none_filled c.requires.0
 
-pub returns-in-Refused : goal.returns-in-Refused
-returns-in-Refused c =
+pub returns-in-Err : goal.returns-in-Err
+returns-in-Err c =
     one_refused c.loop-i.invariant c.loop-i-test.true _
-    (sym c.cell_at.ensures ∙ ap told c.in-Refused.is)
+    (sym c.cell_at.ensures ∙ ap told c.in-Err.is)
 
 pub overflow_mul-rest : goal.overflow_mul-rest
 overflow_mul-rest c = omega arith

@@ -20,9 +20,9 @@ nonzero_div-place c = omega arith
 pub loop-i-init : goal.loop-i-init
 loop-i-init c = none_filled c.requires.0
 
-pub returns-in-Refused : goal.returns-in-Refused
-returns-in-Refused c =
-    one_refused c.loop-i.invariant c.loop-i-test.true _ (sym c.cell_at16.ensures ∙ ap told16 c.in-Refused.is)
+pub returns-in-Err : goal.returns-in-Err
+returns-in-Err c =
+    one_refused c.loop-i.invariant c.loop-i-test.true _ (sym c.cell_at16.ensures ∙ ap told16 c.in-Err.is)
 
 pub overflow_mul-a : goal.overflow_mul-a
 overflow_mul-a c = omega arith
