@@ -51,7 +51,6 @@ module _ (file : CameraFile) (form : Form file) where
 
   -- where each field starts
   to_name : past tab (text_of file) ≡ named
-  unfolding all
   to_name = ap (past tab) flat ∙ past_is tab named camera_word refl
 
   to_width : past tab (past tab (text_of file)) ≡ wide
@@ -68,7 +67,6 @@ module _ (file : CameraFile) (form : Form file) where
 
   -- each field
   the_word : before tab (text_of file) ≡ camera_word
-  unfolding all
   the_word = ap (before tab) flat ∙ before_is tab named camera_word refl
 
   the_name : before tab (past tab (text_of file)) ≡ file.name
