@@ -1,7 +1,8 @@
 -- Finite numbers put one behind the other, as they are. Assumes nothing.
+use Rattle.camera.specs.Camera.{Differentiated}
 use mathlib.Core.Path.{◌≡◌, refl, sym, ap, ◌∙◌, subst}
-use Rattle.core.specs.declared.result.Result.{Result}
-use Rattle.core.specs.declared.result.Result.TheVariants.{Ok, Err}
+use Rattle.std.specs.declared.result.Result.{Result}
+use Rattle.std.specs.declared.result.Result.TheVariants.{Ok, Err}
 use mathlib.Core.Bool.{Bool, true, false, not, ◌&&◌}
 use mathlib.Core.List.{List, [], ◌∷◌}
 use Prim.Native.Nat.{ℕ, zero, suc, ◌+◌, ◌*◌, ◌≤◌, ◌<◌}
@@ -20,7 +21,6 @@ use Rattle.lens.specs.declared.Point.{Point}
 use Rattle.lens.specs.declared.Refusal.{Refusal}
 use Rattle.lens.proofs.Laws.{number_within}
 use Rattle.camera.specs.declared.Camera.{Camera}
-use Rattle.camera.specs.declared.Differentiated.{Differentiated}
 use Rattle.camera.proofs.Laws.{jacobians_finite}
 use Rattle.answer_bytes.specs.Answer.{columns_place, slopes, parameter_slopes}
 

@@ -1,7 +1,8 @@
 -- What a caller may rely on, of the definitions of specs/ and of the contracts of src/. Assumes nothing.
+use Rattle.camera.specs.Camera.{told_jacobian}
 use mathlib.Core.Path.{◌≡◌, refl, sym, ap, ap₂, ◌∙◌}
-use Rattle.core.specs.declared.result.Result.{Result}
-use Rattle.core.specs.declared.result.Result.TheVariants.{Ok}
+use Rattle.std.specs.declared.result.Result.{Result}
+use Rattle.std.specs.declared.result.Result.TheVariants.{Ok}
 use Rattle.lens.specs.declared.Refusal.{Refusal}
 use mathlib.Core.List.{List, [], ◌∷◌, ◌++◌, append-nil, append_assoc}
 use Prim.Native.Nat.{ℕ, ◌*◌, ◌^◌, ◌≤◌, ◌<◌}
@@ -120,19 +121,19 @@ module _ (model : ℕ) (params lent : List ℕ) (x y : Float) (known : model ≤
 
   -- Where it answers a Jacobian, so many bytes are that, by the point and by the parameters.
   pub dx_distort_x_answered :
-      (dx_distort_x camera record { 0 = x; 1 = y }).number ≡ 0 →
+      (told_jacobian (dx_distort_x camera record { 0 = x; 1 = y })).number ≡ 0 →
       length lent ≡ jacobian_length →
       dx_distort_x_bytes model params x y lent
-      ≡ given 0 (jacobian_bytes (dx_distort_x camera record { 0 = x; 1 = y }).jacobian)
+      ≡ given 0 (jacobian_bytes (told_jacobian (dx_distort_x camera record { 0 = x; 1 = y })).jacobian)
   unfolding dx_distort_x_bytes
   dx_distort_x_answered e f = is_read (λ (a : Result Camera Refusal). give_jacobian (slopes a record { 0 = x; 1 = y }) lent)
       ∙ filled jacobian_length _ _ lent e f
 
   pub dx_distort_params_answered :
-      (dx_distort_params camera record { 0 = x; 1 = y }).number ≡ 0 →
+      (told_jacobian (dx_distort_params camera record { 0 = x; 1 = y })).number ≡ 0 →
       length lent ≡ jacobian_length →
       dx_distort_params_bytes model params x y lent
-      ≡ given 0 (jacobian_bytes (dx_distort_params camera record { 0 = x; 1 = y }).jacobian)
+      ≡ given 0 (jacobian_bytes (told_jacobian (dx_distort_params camera record { 0 = x; 1 = y })).jacobian)
   unfolding dx_distort_params_bytes
   dx_distort_params_answered e f = is_read (λ (a : Result Camera Refusal). give_jacobian
       (parameter_slopes a record { 0 = x; 1 = y }) lent) ∙ filled jacobian_length _ _ lent e f

@@ -1,5 +1,6 @@
 -- The four operations over bytes, each as what is handed in and the buffer lent, and the number and the buffer that
 -- come back. Definitions only.
+use Rattle.camera.specs.Camera.{Differentiated}
 use Rattle.std.specs.Prelude.{List, [], ◌∷◌, ◌++◌, ℕ, ◌+◌, ◌*◌, Float, Result, Ok, Err}
 use Rattle.camera.specs.declared.Camera.{Camera}
 use Rattle.lens.specs.declared.Refusal.{Refusal}
@@ -13,8 +14,7 @@ use Rattle.lens.specs.declared.Pixel.{Pixel}
 use Rattle.lens.specs.declared.Point.{Point}
 use Rattle.lens.specs.declared.Settled.{Settled}
 use Rattle.lens.specs.Undistorted.{Undistorted}
-use Rattle.camera.specs.Camera.{distort, undistort, refused, dx_distort_x, dx_distort_params}
-use Rattle.camera.specs.declared.Differentiated.{Differentiated}
+use Rattle.camera.specs.Camera.{distort, undistort, dx_distort_x, dx_distort_params}
 use Rattle.camera_bytes.specs.Reading.{read}
 use Rattle.given.specs.Given.{Given, flag_number, answered}
 
@@ -50,7 +50,9 @@ abbrev pub give_point : ℕ → Settled → List ℕ → Given
 give_point number settled lent = answered 24 number (point_bytes settled) lent
 
 abbrev pub give_jacobian : Differentiated → List ℕ → Given
-give_jacobian d lent = answered jacobian_length d.number (jacobian_bytes d.jacobian) lent
+give_jacobian d lent =
+    let t = told_jacobian d in
+    answered jacobian_length t.number (jacobian_bytes t.jacobian) lent
 
 -- ---- the camera's operation, or why there is no camera
 
@@ -64,11 +66,11 @@ undistorted (Err refusal) pixel = Err refusal
 
 abbrev pub slopes : Result Camera Refusal → Point → Differentiated
 slopes (Ok camera) point = dx_distort_x camera point
-slopes (Err refusal) point = refused refusal
+slopes (Err refusal) point = Err refusal
 
 abbrev pub parameter_slopes : Result Camera Refusal → Point → Differentiated
 parameter_slopes (Ok camera) point = dx_distort_params camera point
-parameter_slopes (Err refusal) point = refused refusal
+parameter_slopes (Err refusal) point = Err refusal
 
 -- ---- the functions
 

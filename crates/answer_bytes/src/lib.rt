@@ -45,7 +45,7 @@ pub fn told_pixel(distorted: Result<Pixel, Refusal>) -> ToldPixel
 // The pixel that a camera gives whose parameters are finite.
 fn distorted_by(camera: Camera, point: Point) -> Result<Pixel, Refusal>
     requires { all_finite (parameters camera) ≡ true }
-    ensures { told_pixel result ≡ told_pixel (distort camera point) }
+    ensures { result ≡ distort camera point }
 {
     match camera::placed(camera, point.0, point.1) {
         Err(refusal) => Err(refusal),
@@ -55,7 +55,7 @@ fn distorted_by(camera: Camera, point: Point) -> Result<Pixel, Refusal>
 
 // The pixel that a camera gives, or why there is no camera.
 fn distorted(model: u8, params: &[u8], point: Point) -> Result<Pixel, Refusal>
-    ensures { told_pixel result ≡ told_pixel (distorted (read model params.now) point) }
+    ensures { result ≡ distorted (read model params.now) point }
 {
     match camera_bytes::read_finite(model, params) {
         Err(refusal) => Err(refusal),
@@ -113,7 +113,7 @@ fn told_point(undistorted: Result<Settled, Refusal>) -> ToldPoint
 
 fn undistorted_by(camera: Camera, pixel: Pixel) -> Result<Settled, Refusal>
     requires { all_finite (parameters camera) ≡ true }
-    ensures { told result ≡ told (undistort camera pixel) }
+    ensures { result ≡ undistort camera pixel }
 {
     match camera::placed(camera, pixel.0, pixel.1) {
         Err(refusal) => Err(refusal),
@@ -122,7 +122,7 @@ fn undistorted_by(camera: Camera, pixel: Pixel) -> Result<Settled, Refusal>
 }
 
 fn undistorted(model: u8, params: &[u8], pixel: Pixel) -> Result<Settled, Refusal>
-    ensures { told result ≡ told (undistorted (read model params.now) pixel) }
+    ensures { result ≡ undistorted (read model params.now) pixel }
 {
     match camera_bytes::read_finite(model, params) {
         Err(refusal) => Err(refusal),

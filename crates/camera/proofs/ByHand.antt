@@ -1,9 +1,9 @@
 -- Laws: the numbers to check by hand. A camera answers them as its model does: camera and place are taken, and the
 -- answer is finite. Assumes nothing.
 use mathlib.Core.Path.{◌≡◌, refl, ap, ◌∙◌}
-use Rattle.core.specs.declared.result.Result.TheVariants.{Ok, Err}
-use Rattle.core.specs.declared.option.Option.{Option}
-use Rattle.core.specs.declared.option.Option.TheVariants.{Some}
+use Rattle.std.specs.declared.result.Result.TheVariants.{Ok, Err}
+use Rattle.std.specs.declared.option.Option.{Option}
+use Rattle.std.specs.declared.option.Option.TheVariants.{Some}
 use mathlib.Core.Bool.{true}
 use mathlib.Core.List.{List, [], ◌∷◌}
 use Prim.Native.Nat.{ℕ}
@@ -35,12 +35,12 @@ use Rattle.kannala_brandt.proofs.Laws as kb-laws
 use Rattle.brown_conrady.specs.BrownConrady as bc
 use Rattle.brown_conrady.proofs.Laws as bc-laws
 use Rattle.thin_prism.proofs.Laws as bc12-laws
-use Rattle.camera.specs.Camera.{judged, pixel_of, distort, point_of, finite_point, undistort, refused}
+use Rattle.camera.specs.Camera.{Differentiated}
+use Rattle.camera.specs.Camera.{judged, pixel_of, distort, point_of, finite_point, undistort}
 use Rattle.camera.specs.Camera.{finite_jacobian, slopes, dx_distort_x, parameter_slopes, dx_distort_params}
 use Rattle.camera.specs.declared.Camera.{Camera}
 use Rattle.camera.specs.declared.Camera.TheVariants.{Affine, EnhancedUnified, KannalaBrandt, BrownConrady}
 use Rattle.camera.specs.declared.Camera.TheVariants.{ThinPrism}
-use Rattle.camera.specs.declared.Differentiated.{Differentiated}
 
 sends :
     (camera : Camera) (point : Point) (pixel : Pixel) → judged camera point.0 point.1 ≡ Ok tt → pixel_of camera point ≡ pixel → finite_pixel pixel ≡ Ok pixel
@@ -57,9 +57,9 @@ finds camera pixel u w j e f =
 -- of the slopes, by the point or by the parameters
 derives :
     (camera : Camera) (point : Point) (slopes j : Jacobian) (d : Differentiated) → judged camera point.0 point.1 ≡ Ok tt → slopes ≡ j → finite_jacobian j ≡ d
-    → decided (judged camera point.0 point.1) refused (finite_jacobian slopes) ≡ d
+    → decided (judged camera point.0 point.1) Err (finite_jacobian slopes) ≡ d
 derives camera point slopes j d t e f =
-    ap (λ (v : Judgement). decided v refused (finite_jacobian slopes)) t ∙ ap finite_jacobian e ∙ f
+    ap (λ (v : Judgement). decided v Err (finite_jacobian slopes)) t ∙ ap finite_jacobian e ∙ f
 
 -- an undistort with no update
 abbrev pub at_once : Point → Undistorted
@@ -108,7 +108,7 @@ kbs = (
 
 -- a derivative that is answered, by its rows
 abbrev pub answer : List Float → List Float → Differentiated
-answer top bottom = record { number = 0; jacobian = two_rows top bottom }
+answer top bottom = Ok (two_rows top bottom)
 
 abbrev bc_camera : ℕ → ℕ → Camera
 bc_camera p1 p2 =

@@ -1,6 +1,6 @@
 -- What undistort finds is rounded to f64, whatever its camera and pixel are. Assumes nothing.
 use mathlib.Core.Bool.{Bool, true, false, cond, ◌&&◌}
-use Rattle.core.specs.declared.result.Result.TheVariants.{Ok, Err}
+use Rattle.std.specs.declared.result.Result.TheVariants.{Ok, Err}
 use lib.Ieee.Scale.{finite}
 use Rattle.arctan.specs.Tangent.{tangent}
 use Rattle.lens.specs.declared.Pixel.{Pixel}

@@ -1,6 +1,6 @@
 -- What is given, tested at once, and a pixel that is worked out before: the parts of `judged` and of `distort`. Assumes nothing.
 use mathlib.Core.Path.{◌≡◌, refl, sym, ap, ◌∙◌, subst}
-use Rattle.core.specs.declared.result.Result.TheVariants.{Ok, Err}
+use Rattle.std.specs.declared.result.Result.TheVariants.{Ok, Err}
 use mathlib.Core.Bool.{Bool, true, false, cond, ◌&&◌}
 use mathlib.Core.List.{List, [], ◌∷◌, ◌++◌}
 use lib.Dec.{T}
@@ -11,7 +11,7 @@ use lib.Ieee.Scale.{finite}
 use Rattle.exact.specs.F64.{f64, ◌⊕◌, ◌⊗◌, mark}
 use Rattle.exact.proofs.Marks.{mark_itself}
 use Rattle.exact.proofs.Operations.{sum_finite, product_finite}
-use Rattle.lens.specs.Distorted.{ToldPixel, told_pixel, finite_pixel}
+use Rattle.lens.specs.Distorted.{finite_pixel}
 use Rattle.lens.specs.Finite.{all_finite}
 use Rattle.lens.specs.Judgement.{decided}
 use Rattle.lens.specs.Distorted.{Distorted}
@@ -64,13 +64,13 @@ module _ (camera : Camera) (x y : Float) where
 abbrev by_tests : Bool → Bool → Pixel → Distorted
 by_tests g z pixel = cond g (cond z (Err ZeroFocalLength) (finite_pixel pixel)) (Err NotFinite)
 
-pub zero_told : {g z : Bool} (pixel : Pixel) → g ≡ true → z ≡ true → told_pixel (Err ZeroFocalLength) ≡ told_pixel (by_tests g z pixel)
+pub zero_told : {g z : Bool} (pixel : Pixel) → g ≡ true → z ≡ true → Err ZeroFocalLength ≡ by_tests g z pixel
 zero_told pixel p q = rw (p, q) refl
 
-pub finite_told : {g z : Bool} (pixel : Pixel) {t : ToldPixel} → t ≡ told_pixel (finite_pixel pixel) → g ≡ true → z ≡ false → t ≡ told_pixel (by_tests g z pixel)
+pub finite_told : {g z : Bool} (pixel : Pixel) {t : Distorted} → t ≡ finite_pixel pixel → g ≡ true → z ≡ false → t ≡ by_tests g z pixel
 finite_told pixel e p q = rw (p, q) e
 
-pub refused_told : {g : Bool} (z : Bool) (pixel : Pixel) → g ≡ false → told_pixel (Err NotFinite) ≡ told_pixel (by_tests g z pixel)
+pub refused_told : {g : Bool} (z : Bool) (pixel : Pixel) → g ≡ false → Err NotFinite ≡ by_tests g z pixel
 refused_told z pixel p = rw p refl
 
 -- a model's pixel, told by the tests
@@ -80,14 +80,17 @@ module _ (camera : Camera) (point : Point) where
   tests true false = refl
   tests false z = refl
 
-  pub told_by_tests : {s : Float} {pixel : Pixel} {t : ToldPixel} → s ≡ mark (all_finite (parameters camera) && (finite point.0 && finite point.1)) → pixel ≡ pixel_of camera point → t ≡ told_pixel (by_tests (eq s s) (zero_focal camera) pixel) → t ≡ told_pixel (distort camera point)
+  pub told_by_tests :
+      {s : Float} {z : Bool} {pixel : Pixel} {t : Distorted} → s ≡ mark (all_finite (parameters camera) && (finite point.0 && finite point.1))
+      → z ≡ zero_focal camera → pixel ≡ pixel_of camera point → t ≡ by_tests (eq s s) z pixel → t ≡ distort camera point
   unfolding judged
-  told_by_tests {s} {pixel} e f h =
+  told_by_tests {s} {z} {pixel} e k f h =
       let g = all_finite (parameters camera) && (finite point.0 && finite point.1) in
       h
-      ∙ ap (λ (b : Bool). told_pixel (by_tests b (zero_focal camera) pixel)) (ap (λ (d : Float). eq d d) e ∙ mark_itself g)
-      ∙ ap (λ (p : Pixel). told_pixel (by_tests g (zero_focal camera) p)) f
-      ∙ ap told_pixel (tests g (zero_focal camera))
+      ∙ ap (λ (b : Bool). by_tests (eq s s) b pixel) k
+      ∙ ap (λ (b : Bool). by_tests b (zero_focal camera) pixel) (ap (λ (d : Float). eq d d) e ∙ mark_itself g)
+      ∙ ap (by_tests g (zero_focal camera)) f
+      ∙ tests g (zero_focal camera)
 
 -- a finite pixel of affine says that all that is given is finite
 module _ (p : AffineParams) (point : Point) where
@@ -111,5 +114,5 @@ module _ (p : AffineParams) (point : Point) where
       let down = parts point.1 p.fy p.cy (and_r (finite u) (finite v) both) in
       rw (across.1.0, down.1.0, across.1.1, down.1.1, across.0, down.0) refl
 
-pub found_told : {pixel : Pixel} {b : Bool} → b ≡ (finite pixel.0 && finite pixel.1) → b ≡ true → told_pixel (Ok pixel) ≡ told_pixel (finite_pixel pixel)
+pub found_told : {pixel : Pixel} {b : Bool} → b ≡ (finite pixel.0 && finite pixel.1) → b ≡ true → Ok pixel ≡ finite_pixel pixel
 found_told {pixel} e t = rw (sym e ∙ t) refl

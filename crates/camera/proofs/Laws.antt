@@ -1,7 +1,7 @@
 -- What a caller may rely on, of the definitions of specs/ and of the contracts of src/; ByHand and Reached have more.
 -- Assumes nothing.
 use mathlib.Core.Path.{◌≡◌, refl, sym, ap, ◌∙◌}
-use Rattle.core.specs.declared.result.Result.TheVariants.{Ok, Err}
+use Rattle.std.specs.declared.result.Result.TheVariants.{Ok, Err}
 use mathlib.Core.Bool.{true, false, ◌&&◌}
 use mathlib.Core.Logic.{◌↔◌, ◌⊎◌}
 use Prim.Native.Nat.{ℕ, suc, ◌≤◌}
@@ -39,6 +39,7 @@ use Rattle.kannala_brandt.proofs.Fits.{angle_fits}
 use Rattle.thin_prism.specs.ThinPrism.{NoPrism}
 use Rattle.thin_prism.specs.declared.ThinPrismParams.{ThinPrismParams}
 use Rattle.thin_prism.proofs.Laws as bc12-laws
+use Rattle.camera.specs.Camera.{told_jacobian}
 use Rattle.camera.specs.Camera.{parameters, zero_focal, judged, pixel_of, distort, point_of, finite_point}
 use Rattle.camera.specs.Camera.{undistort_judged, undistort, limit, slopes, dx_distort_x, parameter_slopes}
 use Rattle.camera.specs.Camera.{dx_distort_params, point_before, undistort_before}
@@ -66,7 +67,6 @@ use Rattle.camera.proofs.undistort.Reads as undistort-contract
 use Rattle.camera.proofs.dx_distort_x.Reads as dx-distort-x-contract
 use Rattle.camera.proofs.dx_distort_params.Reads as dx-distort-params-contract
 use Rattle.camera.proofs.placed.Reads as placed-contract
-use Rattle.camera.proofs.refused.Reads as refused-contract
 use Rattle.camera.proofs.dx_distort_x_judged.Reads as dx-distort-x-judged-contract
 use Rattle.camera.proofs.dx_distort_params_judged.Reads as dx-distort-params-judged-contract
 use Rattle.camera.proofs.numbers.count.Reads as count-contract
@@ -81,8 +81,8 @@ pub determined :
     Determined distort-contract.Post × Determined undistort-contract.Post
     × Determined dx-distort-x-contract.Post × Determined dx-distort-params-contract.Post
 determined = (
-  λ κ a s s' r r' p q. told_pixel_one_to_one r r' (p ∙ sym q),
-  λ κ a s s' r r' p q. told_one_to_one r r' (p ∙ sym q),
+  λ κ a s s' r r' p q. p ∙ sym q,
+  λ κ a s s' r r' p q. p ∙ sym q,
   λ κ a s s' r r' p q. p ∙ sym q,
   λ κ a s s' r r' p q. p ∙ sym q,
 )
@@ -95,17 +95,16 @@ pub determined_parts :
 determined_parts = (
   λ κ a s s' r r' p q. p ∙ sym q,
   λ κ a s s' r r' p q. p ∙ sym q,
-  λ κ a s s' r r' p q. told_pixel_one_to_one r r' (p ∙ sym q),
-  λ κ a s s' r r' p q. told_one_to_one r r' (p ∙ sym q),
+  λ κ a s s' r r' p q. p ∙ sym q,
+  λ κ a s s' r r' p q. p ∙ sym q,
   λ κ a s s' r r' p q. p ∙ sym q,
 )
 
--- and for the four that are called where the parameters are known to be finite,
+-- and for the three that are called where the parameters are known to be finite,
 pub determined_known :
-    Determined placed-contract.Post × Determined refused-contract.Post
+    Determined placed-contract.Post
     × Determined dx-distort-x-judged-contract.Post × Determined dx-distort-params-judged-contract.Post
 determined_known = (
-  λ κ a s s' r r' p q. p ∙ sym q,
   λ κ a s s' r r' p q. p ∙ sym q,
   λ κ a s s' r r' p q. p ∙ sym q,
   λ κ a s s' r r' p q. p ∙ sym q,
@@ -271,13 +270,13 @@ same_side p pixel s h =
 
 -- The derivative by the point gives 4, 5 or 11 exactly when the table says so, the lowest first.
 pub dx_distort_x_number :
-    (camera : Camera) (point : Point) → (dx_distort_x camera point).number ≡ first (dx_distort_x_rows camera point)
+    (camera : Camera) (point : Point) → (told_jacobian (dx_distort_x camera point)).number ≡ first (dx_distort_x_rows camera point)
 dx_distort_x_number camera point = jacobian_number camera point (slopes camera point)
 
 -- The derivative by the parameters gives 4, 5 or 11 exactly when the table says so, the lowest first: 2 of no camera.
 pub dx_distort_params_number :
     (camera : Camera) (point : Point)
-    → (dx_distort_params camera point).number ≡ first (dx_distort_params_rows camera point)
+    → (told_jacobian (dx_distort_params camera point)).number ≡ first (dx_distort_params_rows camera point)
 dx_distort_params_number camera point = jacobian_number camera point (parameter_slopes camera point)
 
 -- ---- an answered call has the number 0, and its answer is the model's own
@@ -299,8 +298,8 @@ undistort_answered camera pixel = undistort_own (judged camera pixel.0 pixel.1) 
 -- A derivative that tells 0 is the Jacobian of the model's formula, by the point or by the parameters.
 pub dx_answered :
     (camera : Camera) (point : Point)
-    → ((dx_distort_x camera point).number ≡ 0 → (dx_distort_x camera point).jacobian ≡ slopes camera point)
-    × ((dx_distort_params camera point).number ≡ 0 → (dx_distort_params camera point).jacobian ≡ parameter_slopes camera point)
+    → ((told_jacobian (dx_distort_x camera point)).number ≡ 0 → (told_jacobian (dx_distort_x camera point)).jacobian ≡ slopes camera point)
+    × ((told_jacobian (dx_distort_params camera point)).number ≡ 0 → (told_jacobian (dx_distort_params camera point)).jacobian ≡ parameter_slopes camera point)
 dx_answered camera point = (
   jacobian_own (judged camera point.0 point.1) (all_finite (slopes camera point).entries) (slopes camera point),
   jacobian_own (judged camera point.0 point.1) (all_finite (parameter_slopes camera point).entries)
@@ -310,8 +309,8 @@ dx_answered camera point = (
 -- A derivative that tells 0 has finite numbers only.
 pub jacobians_finite :
     (camera : Camera) (point : Point) →
-    ((dx_distort_x camera point).number ≡ 0 → all_finite (dx_distort_x camera point).jacobian.entries ≡ true)
-    × ((dx_distort_params camera point).number ≡ 0 → all_finite (dx_distort_params camera point).jacobian.entries ≡ true)
+    ((told_jacobian (dx_distort_x camera point)).number ≡ 0 → all_finite (told_jacobian (dx_distort_x camera point)).jacobian.entries ≡ true)
+    × ((told_jacobian (dx_distort_params camera point)).number ≡ 0 → all_finite (told_jacobian (dx_distort_params camera point)).jacobian.entries ≡ true)
 jacobians_finite camera point = (
   jacobian_finite (judged camera point.0 point.1) (slopes camera point),
   jacobian_finite (judged camera point.0 point.1) (parameter_slopes camera point),
@@ -331,9 +330,9 @@ pub prism_zero :
     → ((told (undistort (ThinPrism p) pixel)).number ≡ 0)
     × AlikeSettled
     (told (undistort (BrownConrady p.bc) pixel)).settled (told (undistort (ThinPrism p) pixel)).settled)
-    × ((point : Point) → (dx_distort_x (BrownConrady p.bc) point).number ≡ 0
-    → ((dx_distort_x (ThinPrism p) point).number ≡ 0)
-    × AlikeJacobians (dx_distort_x (BrownConrady p.bc) point).jacobian (dx_distort_x (ThinPrism p) point).jacobian)
+    × ((point : Point) → (told_jacobian (dx_distort_x (BrownConrady p.bc) point)).number ≡ 0
+    → ((told_jacobian (dx_distort_x (ThinPrism p) point)).number ≡ 0)
+    × AlikeJacobians (told_jacobian (dx_distort_x (BrownConrady p.bc) point)).jacobian (told_jacobian (dx_distort_x (ThinPrism p) point)).jacobian)
 prism_zero p zs =
     let models = bc12-laws.prism_zero p zs in (
       λ point e. rw (same_judged p zs point.0 point.1)

@@ -1,6 +1,6 @@
 -- bc12 with a prism of zeros is judged as bc is, before and behind, and its model's answers are alike. Assumes nothing.
 use mathlib.Core.Path.{◌≡◌, refl, sym, ap, ap₂, ◌∙◌, subst}
-use Rattle.core.specs.declared.result.Result.TheVariants.{Ok, Err}
+use Rattle.std.specs.declared.result.Result.TheVariants.{Ok, Err}
 use mathlib.Core.Bool.{Bool, true, false, cond, ◌&&◌, true≢false, false≢true}
 use mathlib.Core.List.{List, [], ◌∷◌}
 use lib.Dec.{T}
@@ -22,7 +22,8 @@ use Rattle.lens.specs.declared.Refusal.TheVariants.{NotFinite, ZeroFocalLength, 
 use Rattle.lens.specs.declared.Settled.{Settled}
 use Rattle.thin_prism.specs.ThinPrism.{NoPrism}
 use Rattle.thin_prism.specs.declared.ThinPrismParams.{ThinPrismParams}
-use Rattle.camera.specs.Camera.{parameters, zero_focal, judged, finite_point, refused, finite_jacobian}
+use Rattle.camera.specs.Camera.{told_jacobian}
+use Rattle.camera.specs.Camera.{parameters, zero_focal, judged, finite_point, finite_jacobian}
 use Rattle.camera.specs.declared.Camera.{Camera}
 use Rattle.camera.specs.declared.Camera.TheVariants.{BrownConrady, ThinPrism}
 use Rattle.camera.proofs.Known.{prism, prism_behind}
@@ -93,16 +94,16 @@ all_alike_finite (x ∷ xs) [] h = absurd h
 all_alike_finite (x ∷ xs) (y ∷ ys) h = ap₂ ◌&&◌ (≐-finite h.0) (all_alike_finite xs ys h.1)
 
 pub jacobian_alike :
-    (j : Judgement) (a b : Jacobian) → AlikeJacobians a b → slope_number (decided j refused (finite_jacobian a)) ≡ 0
-    → (slope_number (decided j refused (finite_jacobian b)) ≡ 0)
-    × AlikeJacobians (decided j refused (finite_jacobian a)).jacobian (decided j refused (finite_jacobian b)).jacobian
+    (j : Judgement) (a b : Jacobian) → AlikeJacobians a b → slope_number (decided j Err (finite_jacobian a)) ≡ 0
+    → (slope_number (decided j Err (finite_jacobian b)) ≡ 0)
+    × AlikeJacobians (told_jacobian (decided j Err (finite_jacobian a))).jacobian (told_jacobian (decided j Err (finite_jacobian b))).jacobian
 jacobian_alike (Err r) a b h e = absurd (none r e)
 jacobian_alike (Ok _) a b h e = go (all_finite a.entries) (all_finite b.entries) (all_alike_finite a.entries b.entries h.entries) e
   where
     go :
-        (f g : Bool) → f ≡ g → slope_number (cond f record { number = 0; jacobian = a } (refused AnswerNotFinite)) ≡ 0
-        → (slope_number (cond g record { number = 0; jacobian = b } (refused AnswerNotFinite)) ≡ 0)
-        × AlikeJacobians (cond f record { number = 0; jacobian = a } (refused AnswerNotFinite)).jacobian (cond g record { number = 0; jacobian = b } (refused AnswerNotFinite)).jacobian
+        (f g : Bool) → f ≡ g → slope_number (cond f (Ok a) (Err AnswerNotFinite)) ≡ 0
+        → (slope_number (cond g (Ok b) (Err AnswerNotFinite)) ≡ 0)
+        × AlikeJacobians (told_jacobian (cond f (Ok a) (Err AnswerNotFinite))).jacobian (told_jacobian (cond g (Ok b) (Err AnswerNotFinite))).jacobian
     go true true i e = (refl, h)
     go true false i e = absurd (true≢false i)
     go false g i e = absurd (none AnswerNotFinite e)
@@ -115,13 +116,13 @@ and_both false b e = absurd (false≢true e)
 
 pub focal_finite :
     (p : ThinPrismParams) (x y : Float) (a : Jacobian)
-    → slope_number (decided (judged (BrownConrady p.bc) x y) refused (finite_jacobian a)) ≡ 0 → T (finite p.bc.fx) × T (finite p.bc.fy)
+    → slope_number (decided (judged (BrownConrady p.bc) x y) Err (finite_jacobian a)) ≡ 0 → T (finite p.bc.fx) × T (finite p.bc.fy)
 unfolding judged all_finite
 focal_finite p x y a e =
     let all = (and_both (all_finite (parameters (BrownConrady p.bc))) (finite x && finite y) (go _ (zero_focal (BrownConrady p.bc)) e)).0 in
     let fx = and_both (finite p.bc.fx) _ all in
     (subst T (sym fx.0) tt, subst T (sym (and_both (finite p.bc.fy) _ fx.1).0) tt)
   where
-    go : (g z : Bool) → slope_number (decided (cond g (cond z (Err ZeroFocalLength) (Ok tt)) (Err NotFinite)) refused (finite_jacobian a)) ≡ 0 → g ≡ true
+    go : (g z : Bool) → slope_number (decided (cond g (cond z (Err ZeroFocalLength) (Ok tt)) (Err NotFinite)) Err (finite_jacobian a)) ≡ 0 → g ≡ true
     go true z e = refl
     go false z e = absurd (none NotFinite e)

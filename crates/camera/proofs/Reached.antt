@@ -1,4 +1,5 @@
 -- Laws: each refusal is given to some call. Assumes nothing.
+use Rattle.camera.specs.Camera.{told_jacobian}
 use mathlib.Core.Path.{◌≡◌, refl, ap}
 use lib.Ieee.{nan, add, sub, mul, div, neg, of_bits, of_int}
 use Rattle.exact.specs.F64.{f64, is_zero}
@@ -72,19 +73,19 @@ undistort_reached =
 
 -- The derivative by the point with 4, 5 and 11.
 pub dx_distort_x_reached :
-    ((dx_distort_x flat nowhere).number ≡ 4) × ((dx_distort_x flat far).number ≡ 5)
-    × ((dx_distort_x plain far).number ≡ 11)
+    ((told_jacobian (dx_distort_x flat nowhere)).number ≡ 4) × ((told_jacobian (dx_distort_x flat far)).number ≡ 5)
+    × ((told_jacobian (dx_distort_x plain far)).number ≡ 11)
 unfolding judged all_finite is_zero bc.slopes_at bc.shared_at add mul div of_bits
 dx_distort_x_reached = (refl, refl, refl)
 
 -- The derivative by the parameters with 4, 5 and 11, bc's and bc12's too.
 pub dx_distort_params_reached :
-    ((dx_distort_params flat nowhere).number ≡ 4)
-    × ((dx_distort_params flat far).number ≡ 5)
-    × ((dx_distort_params (EnhancedUnified (eucm.camera ones ones zeros zeros (halves 1) ones)) far).number ≡ 11)
-    × ((dx_distort_params plain nowhere).number ≡ 4)
-    × ((dx_distort_params plain far).number ≡ 11)
-    × ((dx_distort_params plain12 nowhere).number ≡ 4)
-    × ((dx_distort_params plain12 far).number ≡ 11)
+    ((told_jacobian (dx_distort_params flat nowhere)).number ≡ 4)
+    × ((told_jacobian (dx_distort_params flat far)).number ≡ 5)
+    × ((told_jacobian (dx_distort_params (EnhancedUnified (eucm.camera ones ones zeros zeros (halves 1) ones)) far)).number ≡ 11)
+    × ((told_jacobian (dx_distort_params plain nowhere)).number ≡ 4)
+    × ((told_jacobian (dx_distort_params plain far)).number ≡ 11)
+    × ((told_jacobian (dx_distort_params plain12 nowhere)).number ≡ 4)
+    × ((told_jacobian (dx_distort_params plain12 far)).number ≡ 11)
 unfolding judged all_finite is_zero bc-formula.dx_distort_params bc12.dx_distort_params rounded root add sub mul div neg of_bits of_int
 dx_distort_params_reached = (refl, refl, refl, refl, refl, refl, refl)

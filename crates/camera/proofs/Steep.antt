@@ -1,7 +1,7 @@
 -- A pixel whose kb angle is past the tangent's limit: 1 1 0 0 with no distortion, and (4, 0). Newton starts at the root of 4, is at 4 after one update, and the next step is 0. Assumes nothing.
 use mathlib.Core.Path.{◌≡◌, refl, ap, ◌∙◌}
-use Rattle.core.specs.declared.result.Result.TheVariants.{Err}
-use Rattle.core.specs.declared.option.Option.TheVariants.{None}
+use Rattle.std.specs.declared.result.Result.TheVariants.{Err}
+use Rattle.std.specs.declared.option.Option.TheVariants.{None}
 use mathlib.Core.Bool.{true, false}
 use Prim.Native.Nat.{◌*◌, ◌^◌}
 use native.Mathlib.Nat.{mul-pos}

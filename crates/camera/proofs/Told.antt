@@ -1,8 +1,8 @@
 -- What a camera tells of a call, put together from what is judged before, the model's answer, and what is judged behind. Assumes nothing.
 use mathlib.Core.Path.{◌≡◌, refl, sym, ap, ◌∙◌, subst}
-use Rattle.core.specs.declared.result.Result.TheVariants.{Ok, Err}
-use Rattle.core.specs.declared.option.Option.{Option}
-use Rattle.core.specs.declared.option.Option.TheVariants.{Some, None}
+use Rattle.std.specs.declared.result.Result.TheVariants.{Ok, Err}
+use Rattle.std.specs.declared.option.Option.{Option}
+use Rattle.std.specs.declared.option.Option.TheVariants.{Some, None}
 use mathlib.Core.Bool.{Bool, true, false, not, cond, ◌&&◌}
 use mathlib.Core.List.{[], ◌∷◌}
 use mathlib.Core.Logic.{◌⊎◌, inl, inr}
@@ -32,12 +32,12 @@ use Rattle.kannala_brandt.proofs.Laws as kb-laws
 use Rattle.brown_conrady.proofs.Laws as bc-laws
 use Rattle.thin_prism.proofs.Laws as bc12-laws
 use Rattle.kannala_brandt.specs.declared.Reached.{Reached}
-use Rattle.camera.specs.Camera.{parameters, zero_focal, judged, point_of, point_before, finite_point, limit, finite_jacobian, refused}
+use Rattle.camera.specs.Camera.{told_jacobian, Differentiated}
+use Rattle.camera.specs.Camera.{parameters, zero_focal, judged, point_of, point_before, finite_point, limit, finite_jacobian}
 use Rattle.camera.specs.Rows.{not_finite, steep, too_steep, mirrored, point_not_finite}
 use Rattle.lens.specs.Distorted.{told_pixel}
 use Rattle.camera.specs.declared.Camera.{Camera}
 use Rattle.camera.specs.declared.Camera.TheVariants.{Affine, EnhancedUnified, KannalaBrandt, BrownConrady, ThinPrism}
-use Rattle.camera.specs.declared.Differentiated.{Differentiated}
 use Rattle.lens.specs.Judgement.{Judgement}
 use Rattle.lens.specs.Distorted.{Distorted}
 
@@ -99,15 +99,15 @@ own_refusal camera pixel r e = go (subst (λ (u : Undistorted). Agree u (point_b
     go (inr e) = inr e.0
 
 abbrev pub slope_number : Differentiated → ℕ
-slope_number d = d.number
+slope_number d = (told_jacobian d).number
 
 -- a Jacobian at a point
 pub jacobian_number : (camera : Camera) (point : Point) (j : Jacobian)
-    → slope_number (decided (judged camera point.0 point.1) refused (finite_jacobian j)) ≡ first ((4 when not_finite camera point.0 point.1) ∷ (5 when zero_focal camera) ∷ (11 when not (all_finite j.entries)) ∷ [])
+    → slope_number (decided (judged camera point.0 point.1) Err (finite_jacobian j)) ≡ first ((4 when not_finite camera point.0 point.1) ∷ (5 when zero_focal camera) ∷ (11 when not (all_finite j.entries)) ∷ [])
 unfolding judged
 jacobian_number camera point j =
-    let answer = behind slope_number record { number = 0; jacobian = j } (refused AnswerNotFinite) refl refl (all_finite j.entries) in
-    before slope_number refused (finite_jacobian j) (λ r. refl) answer (given camera point.0 point.1) (zero_focal camera)
+    let answer = behind slope_number (Ok j) (Err AnswerNotFinite) refl refl (all_finite j.entries) in
+    before slope_number Err (finite_jacobian j) (λ r. refl) answer (given camera point.0 point.1) (zero_focal camera)
 
 -- ---- an answer
 
@@ -131,17 +131,17 @@ pub undistort_own : (j : Judgement) (u : Undistorted) → point_number (decided 
 undistort_own (Err r) u e = absurd (none r e)
 undistort_own (Ok _) u e = point_own u e
 
-pub jacobian_own : (v : Judgement) (f : Bool) (j : Jacobian) → slope_number (decided v refused (cond f record { number = 0; jacobian = j } (refused AnswerNotFinite))) ≡ 0 → (decided v refused (cond f record { number = 0; jacobian = j } (refused AnswerNotFinite))).jacobian ≡ j
+pub jacobian_own : (v : Judgement) (f : Bool) (j : Jacobian) → slope_number (decided v Err (cond f (Ok j) (Err AnswerNotFinite))) ≡ 0 → (told_jacobian (decided v Err (cond f (Ok j) (Err AnswerNotFinite)))).jacobian ≡ j
 jacobian_own (Err r) f j e = absurd (none r e)
 jacobian_own (Ok _) true j e = refl
 jacobian_own (Ok _) false j e = absurd (none AnswerNotFinite e)
 
 -- a Jacobian that is given is finite
-pub jacobian_finite : (v : Judgement) (j : Jacobian) → slope_number (decided v refused (finite_jacobian j)) ≡ 0 → all_finite (decided v refused (finite_jacobian j)).jacobian.entries ≡ true
+pub jacobian_finite : (v : Judgement) (j : Jacobian) → slope_number (decided v Err (finite_jacobian j)) ≡ 0 → all_finite (told_jacobian (decided v Err (finite_jacobian j))).jacobian.entries ≡ true
 jacobian_finite (Err r) j e = absurd (none r e)
 jacobian_finite (Ok _) j e = go (all_finite j.entries) refl e
   where
-    go : (f : Bool) → all_finite j.entries ≡ f → slope_number (cond f record { number = 0; jacobian = j } (refused AnswerNotFinite)) ≡ 0 → all_finite (cond f record { number = 0; jacobian = j } (refused AnswerNotFinite)).jacobian.entries ≡ true
+    go : (f : Bool) → all_finite j.entries ≡ f → slope_number (cond f (Ok j) (Err AnswerNotFinite)) ≡ 0 → all_finite (told_jacobian (cond f (Ok j) (Err AnswerNotFinite))).jacobian.entries ≡ true
     go true g e = g
     go false g e = absurd (none AnswerNotFinite e)
 

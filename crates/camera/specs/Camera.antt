@@ -1,6 +1,6 @@
 -- The four operations of a camera: what refuses a call beforehand, the model's own definition, and what refuses its
 -- answer. Definitions only.
-use Rattle.std.specs.Prelude.{Bool, cond, ◌&&◌, ◌||◌, List, [], ◌∷◌, ◌++◌, ℕ, Float, Ok, Err}
+use Rattle.std.specs.Prelude.{Bool, cond, ◌&&◌, ◌||◌, List, [], ◌∷◌, ◌++◌, ℕ, Float, Ok, Err, Result}
 use Rattle.std.specs.Float.Ieee.Scale.{finite}
 use Rattle.exact.specs.F64.{is_zero}
 use Rattle.arctan.specs.Arctangent.{arctangent}
@@ -25,7 +25,6 @@ use Rattle.brown_conrady.specs.declared.BrownConradyParams.{BrownConradyParams}
 use Rattle.thin_prism.specs.ThinPrism as bc12
 use Rattle.camera.specs.declared.Camera.{Camera}
 use Rattle.camera.specs.declared.Camera.TheVariants.{Affine, EnhancedUnified, KannalaBrandt, BrownConrady, ThinPrism}
-use Rattle.camera.specs.declared.Differentiated.{Differentiated}
 use Rattle.lens.specs.Distorted.{Distorted}
 use Rattle.lens.specs.Judgement.{Judgement}
 
@@ -119,14 +118,24 @@ limit (KannalaBrandt p) = kb.limit
 limit (BrownConrady p) = bc.limit
 limit (ThinPrism p) = bc.limit
 
--- ---- the derivatives: number 0 and the model's, or a refusal's number and zeros, 11 among them
+-- ---- the derivatives: the model's, or why there is none, 11 among the reasons
 
-abbrev pub refused : Refusal → Differentiated
-refused refusal = record { number = number refusal; jacobian = two_rows [] [] }
+abbrev pub Differentiated : Type 0
+Differentiated = Result Jacobian Refusal
+
+-- a number, and the Jacobian that stands beside it
+pub record ToldJacobian : Type 0 where
+  pub number : ℕ
+  pub jacobian : Jacobian
+
+-- an answer has the number 0, a refusal its own, and zeros
+abbrev pub told_jacobian : Differentiated → ToldJacobian
+told_jacobian (Ok jacobian) = record { number = 0; jacobian = jacobian }
+told_jacobian (Err refusal) = record { number = number refusal; jacobian = two_rows [] [] }
 
 abbrev pub finite_jacobian : Jacobian → Differentiated
 finite_jacobian jacobian =
-    cond (all_finite jacobian.entries) record { number = 0; jacobian = jacobian } (refused AnswerNotFinite)
+    cond (all_finite jacobian.entries) (Ok jacobian) (Err AnswerNotFinite)
 
 abbrev pub slopes : Camera → Point → Jacobian
 slopes (Affine p) point = affine.dx_distort_x p point
@@ -140,7 +149,7 @@ dx_distort_x_judged camera point = finite_jacobian (slopes camera point)
 
 abbrev pub dx_distort_x : Camera → Point → Differentiated
 dx_distort_x camera point =
-    decided (judged camera point.0 point.1) refused (dx_distort_x_judged camera point)
+    decided (judged camera point.0 point.1) Err (dx_distort_x_judged camera point)
 
 abbrev pub parameter_slopes : Camera → Point → Jacobian
 parameter_slopes (Affine p) point = affine.dx_distort_params p point
@@ -154,4 +163,4 @@ dx_distort_params_judged camera point = finite_jacobian (parameter_slopes camera
 
 abbrev pub dx_distort_params : Camera → Point → Differentiated
 dx_distort_params camera point =
-    decided (judged camera point.0 point.1) refused (dx_distort_params_judged camera point)
+    decided (judged camera point.0 point.1) Err (dx_distort_params_judged camera point)

@@ -41,7 +41,7 @@ told16_one_to_one (sixteen.Refused q) (sixteen.Refused r) e = ap sixteen.Refused
 
 -- Any two answers to one call that the contract of `cell_at` permits are equal; and so for `cell_at16`.
 pub cell_at_determined : Determined cell-at-contract.Post
-cell_at_determined κ a s s' r r' p q = told_one_to_one r r' (p ∙ sym q)
+cell_at_determined κ a s s' r r' p q = p ∙ sym q
 
 pub cell_at16_determined : Determined cell-at16-contract.Post
 cell_at16_determined κ a s s' r r' p q = told16_one_to_one r r' (p ∙ sym q)

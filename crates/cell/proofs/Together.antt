@@ -1,7 +1,7 @@
 -- A float's nearest f32 and its nearest multiple of 1/32 are at most 1/64 and 2^-14 apart (`together`), and so are the numbers of a cell of each kind (`cells_together`). Assumes nothing.
 use mathlib.Core.Path.{◌≡◌, refl, subst}
-use Rattle.core.specs.declared.option.Option.{Option}
-use Rattle.core.specs.declared.option.Option.TheVariants.{Some, None}
+use Rattle.std.specs.declared.option.Option.{Option}
+use Rattle.std.specs.declared.option.Option.TheVariants.{Some, None}
 use mathlib.Core.Logic.{◌⊎◌, inl, inr, ◌↔◌}
 use mathlib.Core.Bool.{Bool, true, false, cond, ◌&&◌}
 use Prim.Native.Nat.{ℕ, ◌+◌, ◌*◌, ◌^◌, ◌≤◌, ◌<◌}

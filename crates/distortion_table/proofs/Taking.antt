@@ -1,6 +1,6 @@
 -- What the code may rely on in a record that is admitted: a size that is taken, and room for every count. Assumes nothing.
 use mathlib.Core.Path.{◌≡◌}
-use Rattle.core.specs.declared.result.Result.TheVariants.{Ok}
+use Rattle.std.specs.declared.result.Result.TheVariants.{Ok}
 use mathlib.Core.Bool.{true}
 use Prim.Native.Nat.{ℕ, ◌*◌, ◌^◌, ◌≤◌, ◌<◌, min}
 use native.Mathlib.Nat.{le_trans, mul-le-mul, min-le_right}

@@ -1,6 +1,6 @@
 -- What a caller may rely on, of the definitions of specs/ and of the contracts of src/. Assumes nothing.
 use mathlib.Core.Path.{◌≡◌, refl, sym, ap, ◌∙◌}
-use Rattle.core.specs.declared.result.Result.TheVariants.{Ok, Err}
+use Rattle.std.specs.declared.result.Result.TheVariants.{Ok, Err}
 use mathlib.Core.Bool.{Bool, true, false, cond, ◌&&◌}
 use Prim.Native.Nat.{◌≤◌}
 use native.Mathlib.Nat.{le_trans}
@@ -35,7 +35,7 @@ pub determined : Determined short-for-contract.Post × Determined distort-contra
 determined = (
   λ κ a s s' r r' p q. p ∙ sym q,
   λ κ a s s' r r' p q. p ∙ sym q,
-  λ κ a s s' r r' p q. told_one_to_one r r' (p ∙ sym q),
+  λ κ a s s' r r' p q. p ∙ sym q,
 )
 
 -- what holds of a camera's own answers, and of bc with zeros, holds of a camera's tables

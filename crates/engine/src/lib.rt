@@ -51,7 +51,7 @@ fn finite(settled: Settled) -> Result<Settled, Refusal>
 
 // The point of a sample's pixel, by the short engine or not, for a camera that 4 and 5 do not refuse.
 pub fn undistort(camera: Camera, short: bool, pixel: Pixel) -> Result<Settled, Refusal>
-    ensures { told result ≡ told (undistort camera short pixel) }
+    ensures { result ≡ undistort camera short pixel }
 {
     if short {
         if let Camera::BrownConrady(params) = camera {

@@ -1,6 +1,6 @@
 -- What undistort finds is rounded to f64, whatever its parameters and pixel are. Assumes nothing.
 use mathlib.Core.Bool.{Bool, true, false, cond}
-use Rattle.core.specs.declared.result.Result.TheVariants.{Ok, Err}
+use Rattle.std.specs.declared.result.Result.TheVariants.{Ok, Err}
 use lib.Ieee.{binary64}
 use lib.Ieee.Fits.{div-fits}
 use Rattle.lens.specs.Fits.{PointFits}

@@ -1,6 +1,6 @@
 -- What a caller may rely on, of the definitions of specs/ and of the contracts of src/. Assumes nothing.
 use mathlib.Core.Path.{◌≡◌, refl, sym, ap, ◌∙◌, subst}
-use Rattle.core.specs.declared.result.Result.TheVariants.{Ok, Err}
+use Rattle.std.specs.declared.result.Result.TheVariants.{Ok, Err}
 use mathlib.Core.Logic.{◌↔◌}
 use mathlib.Core.Bool.{Bool, true, false, cond}
 use Prim.Native.Nat.{ℕ, ◌*◌, ◌^◌}
@@ -40,7 +40,7 @@ pub determined :
     × Determined dx-distort-x-contract.Post × Determined dx-distort-params-contract.Post
 determined = (
   λ κ a s s' r r' p q. p ∙ sym q,
-  λ κ a s s' r r' p q. told_one_to_one r r' (p ∙ sym q),
+  λ κ a s s' r r' p q. p ∙ sym q,
   λ κ a s s' r r' p q. p ∙ sym q,
   λ κ a s s' r r' p q. p ∙ sym q,
 )

@@ -58,7 +58,7 @@ fn k_of(alpha: f64, beta: f64, r2: f64) -> f64
 // The point of a pixel, found with no update. Refused with 16 where the ray's z is zero or negative: the quotient would
 // be nowhere, or a point on the wrong side of the centre. A NaN z passes, and the camera refuses what comes of it.
 pub fn undistort(params: EnhancedUnifiedParams, pixel: Pixel) -> Result<Settled, Refusal>
-    ensures { told result ≡ told (undistort params pixel) }
+    ensures { result ≡ undistort params pixel }
 {
     let mx = (pixel.0 - params.cx) / params.fx;
     let my = (pixel.1 - params.cy) / params.fy;

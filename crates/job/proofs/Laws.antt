@@ -1,7 +1,7 @@
 -- What a caller may rely on, of the definitions of specs/ and of the contracts of src/. Assumes nothing.
 use mathlib.Core.Path.{◌≡◌, sym, ap, ◌∙◌}
-use Rattle.core.specs.declared.result.Result.{Result}
-use Rattle.core.specs.declared.result.Result.TheVariants.{Ok, Err}
+use Rattle.std.specs.declared.result.Result.{Result}
+use Rattle.std.specs.declared.result.Result.TheVariants.{Ok, Err}
 use Rattle.lens.specs.declared.Refusal.{Refusal}
 use mathlib.Core.Bool.{Bool}
 use Prim.Native.Nat.{ℕ}
@@ -37,7 +37,7 @@ begun_determined κ a s s' r r' p q = p ∙ sym q
 
 -- and `admitted`.
 pub admitted_determined : Determined admitted-contract.Post
-admitted_determined κ a s s' r r' p q = verdict_one_to_one r r' (p ∙ sym q)
+admitted_determined κ a s s' r r' p q = p ∙ sym q
 
 -- ---- which records are taken
 

@@ -61,7 +61,7 @@ pub fn begun(camera: Camera, width: usize, height: usize, strict: bool) -> Job
 
 // 4, 5, 6: what refuses a record before its table is looked at.
 fn opens(camera: Camera, width: usize, height: usize, region: Region) -> Result<(), Refusal>
-    ensures { verdict result ≡ verdict (opens_for camera width height region) }
+    ensures { result ≡ opens_for camera width height region }
 {
     if !camera::finite_parameters(camera) {
         return Err(Refusal::NotFinite);
@@ -80,7 +80,7 @@ fn opens(camera: Camera, width: usize, height: usize, region: Region) -> Result<
 
 // A fresh record, with no unit done.
 pub fn fresh(camera: Camera, width: usize, height: usize, strict: bool) -> Result<Job, Refusal>
-    ensures { told_started result ≡ told_started (fresh camera width height strict) }
+    ensures { result ≡ fresh camera width height strict }
 {
     match opens(camera, width, height, nowhere()) {
         Err(refusal) => Err(refusal),
@@ -159,7 +159,7 @@ fn possible(camera: Camera, width: usize, height: usize, strict: bool, at: Progr
 
 // 4, 5, 6, 7, 13, before any unit.
 pub fn admitted(job: Job, places: usize) -> Result<(), Refusal>
-    ensures { verdict result ≡ verdict (admitted job places) }
+    ensures { result ≡ admitted job places }
 {
     let camera = job.camera;
     let at = job.at;
@@ -182,7 +182,7 @@ fn sound(
     places: usize,
 ) -> Result<(), Refusal>
     requires { Sized width height }
-    ensures { verdict result ≡ verdict (sound (sweep_of camera width height strict) at places) }
+    ensures { result ≡ sound (sweep_of camera width height strict) at places }
 {
     if places != 2 * (width * height) {
         return Err(Refusal::WrongLength);

@@ -1,6 +1,6 @@
 -- What a caller may rely on, of the definitions of specs/ and of the contracts of src/. Assumes nothing.
 use Rattle.std.proofs.Common.{◌≡◌, ℕ, ◌/◌, ◌^◌, ◌<◌, Bool, true, false, eqb, List, length, sym, refl, ap, ◌∙◌, arith}
-use Rattle.core.specs.declared.result.Result.TheVariants.{Ok, Err}
+use Rattle.std.specs.declared.result.Result.TheVariants.{Ok, Err}
 use lib.Ieee.{binary64}
 use lib.Ieee.Bits.{of_bits-fits}
 use Rattle.exact.specs.Determined.{Determined, DeterminedWith}

@@ -1,6 +1,6 @@
 -- What is read, each at its place, and why nothing is. Assumes nothing.
 use Rattle.std.proofs.Common.{◌≡◌, ℕ, ◌+◌, ◌-◌, ◌<◌, ◌≤◌, eqb, List, length, take, drop, refl, ◌∙◌, ap₂, arith, length-drop, take_all, eq-eqb, ne_eqb, le-leb}
-use Rattle.core.specs.declared.result.Result.TheVariants.{Ok, Err}
+use Rattle.std.specs.declared.result.Result.TheVariants.{Ok, Err}
 use borrow.Author.Tests.{lt-leb}
 use lib.Ieee.{Float}
 use Rattle.lens.specs.declared.Refusal.TheVariants.{UnknownModel, WrongLength}

@@ -201,7 +201,7 @@ pub fn write(job: Job, out: &mut [u8])
 
 // 13 for a mark that is neither 0 nor 1.
 fn known_mark(mark: u8, started: Result<Job, Refusal>) -> Result<Job, Refusal>
-    ensures { told_started result ≡ told_started (known_mark mark started) }
+    ensures { result ≡ known_mark mark started }
 {
     match started {
         Ok(job) => {
@@ -216,7 +216,7 @@ fn known_mark(mark: u8, started: Result<Job, Refusal>) -> Result<Job, Refusal>
 
 // A fresh record of the camera that is asked for, or why there is none.
 fn started(asked: Result<Camera, Refusal>, width: usize, height: usize, mark: u8) -> Result<Job, Refusal>
-    ensures { told_started result ≡ told_started (started asked width height mark) }
+    ensures { result ≡ started asked width height mark }
 {
     match asked {
         Ok(camera) => known_mark(mark, job::fresh(camera, width, height, mark == 1)),

@@ -1,8 +1,8 @@
 -- Two numbers to check by hand off the axis, with a k0 that isn't 0. The roots they take are of squares, and all else computes. Assumes nothing.
 use mathlib.Core.Path.{◌≡◌, refl, ap, ◌∙◌}
-use Rattle.core.specs.declared.result.Result.TheVariants.{Ok}
-use Rattle.core.specs.declared.option.Option.{Option}
-use Rattle.core.specs.declared.option.Option.TheVariants.{Some}
+use Rattle.std.specs.declared.result.Result.TheVariants.{Ok}
+use Rattle.std.specs.declared.option.Option.{Option}
+use Rattle.std.specs.declared.option.Option.TheVariants.{Some}
 use mathlib.Core.Bool.{true, false}
 use Prim.Native.Nat.{◌*◌, ◌^◌}
 use native.Mathlib.Nat.{mul-pos}

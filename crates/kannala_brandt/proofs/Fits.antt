@@ -1,8 +1,8 @@
 -- What Newton and undistort find is rounded to f64, whatever the parameters, the pixel and the tangent are. Assumes nothing.
 use mathlib.Core.Bool.{Bool, true, false, cond}
-use Rattle.core.specs.declared.result.Result.TheVariants.{Ok}
-use Rattle.core.specs.declared.option.Option.{Option}
-use Rattle.core.specs.declared.option.Option.TheVariants.{Some, None}
+use Rattle.std.specs.declared.result.Result.TheVariants.{Ok}
+use Rattle.std.specs.declared.option.Option.{Option}
+use Rattle.std.specs.declared.option.Option.TheVariants.{Some, None}
 use Prim.Native.Nat.{ℕ, suc}
 use lib.Ieee.{Float, binary64, le}
 use lib.Ieee.Fits.{sub-fits, div-fits}

@@ -176,7 +176,7 @@ fn outward(at: Reached, rth: f64, un: f64, vn: f64) -> Result<Settled, Refusal>
 // The point of a pixel: near the axis at once, else by Newton. Refused with 10 where Newton ends past the tangent's
 // limit.
 pub fn undistort(params: KannalaBrandtParams, pixel: Pixel) -> Result<Settled, Refusal>
-    ensures { told result ≡ told (undistort tangent params pixel) }
+    ensures { result ≡ undistort tangent params pixel }
 {
     let un = (pixel.0 - params.cx) / params.fx;
     let vn = (pixel.1 - params.cy) / params.fy;

@@ -1,6 +1,6 @@
 -- What a caller may rely on, of the definitions of specs/ and of the contracts of src/. Assumes nothing.
 use mathlib.Core.Path.{◌≡◌, refl, sym, ap, ◌∙◌}
-use Rattle.core.specs.declared.result.Result.TheVariants.{Ok, Err}
+use Rattle.std.specs.declared.result.Result.TheVariants.{Ok, Err}
 use mathlib.Core.List.{List, [], ◌∷◌, ◌++◌}
 use Prim.Native.Nat.{ℕ, zero, suc, ◌+◌, ◌-◌, ◌≤◌, ◌<◌}
 use native.Mathlib.Nat.{add-zero, le_of_suc-le-suc, not-suc-le-zero}
@@ -152,7 +152,7 @@ module _ (top bottom : List Float) where
 
 -- Any two answers to one call that the contract of `finite_pixel` permits are equal; and so for the nine other functions.
 pub finite_pixel_determined : Determined finite-pixel-contract.Post
-finite_pixel_determined κ a s s' r r' p q = told_pixel_one_to_one r r' (p ∙ sym q)
+finite_pixel_determined κ a s s' r r' p q = p ∙ sym q
 
 pub eps_determined : Determined eps-contract.Post
 eps_determined κ a s s' r r' p q = p ∙ sym q

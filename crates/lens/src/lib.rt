@@ -221,7 +221,7 @@ pub fn both_finite(x: f64, y: f64) -> bool
 
 // 11 for a pixel that isn't finite.
 pub fn finite_pixel(pixel: Pixel) -> Result<Pixel, Refusal>
-    ensures { told_pixel result ≡ told_pixel (finite_pixel pixel) }
+    ensures { result ≡ finite_pixel pixel }
 {
     if both_finite(pixel.0, pixel.1) {
         return Ok(pixel);

@@ -1,6 +1,6 @@
 -- An index among the cells: that it is a number, and what its whole part is. Assumes nothing.
 use Rattle.std.proofs.Common.{◌≡◌, ℕ, zero, suc, ◌+◌, ◌-◌, ◌*◌, ◌/◌, ◌^◌, ◌<◌, ◌≤◌, Bool, true, false, cond, not, ◌&&◌, ◌||◌, T, eqb, ltb, ℤ, pos, sym, refl, ap, ◌∙◌, subst, inl, inr, true≢false, le_trans, mul-le-mul_right, zero-lt-suc, mul-pos, div-mul-le_self, arith, lit≤, lt→ltb}
-use Rattle.core.specs.declared.result.Result.TheVariants.{Ok, Err}
+use Rattle.std.specs.declared.result.Result.TheVariants.{Ok, Err}
 use mathlib.Core.Bool.{beq, false≢true}
 use native.Mathlib.Nat.{min-eq_left, div-le_of_le-mul, lt-div-mul-add}
 use native.Mathlib.Decide.{dec_lt}

@@ -1,6 +1,6 @@
 -- What a caller may rely on, of the definitions of specs/ and of the contract of src/. Assumes nothing.
 use Rattle.std.proofs.Common.{◌≡◌, ℕ, ◌+◌, ◌-◌, ◌*◌, ◌<◌, Bool, true, false, cond, not, ◌&&◌, ◌||◌, T, eqb, ◌↔◌, List, [], ◌∷◌, length, sym, refl, ap, ◌∙◌, subst, true≢false, arith}
-use Rattle.core.specs.declared.result.Result.TheVariants.{Ok, Err}
+use Rattle.std.specs.declared.result.Result.TheVariants.{Ok, Err}
 use mathlib.Core.Bool.{false≢true}
 use native.Mathlib.Nat.{min-le_right}
 use lib.Ieee.{Float, binary64, of_bits, of_int, round, add, sub, mul, div, neg, lt, eq, le, to_unsigned, fits}
@@ -43,7 +43,7 @@ use Rattle.lookup.proofs.lookup.Reads as lookup-contract
 
 -- Any two answers to one call that the contract of `lookup` permits are equal.
 pub lookup_determined : Determined lookup-contract.Post
-lookup_determined κ a s s' r r' p q = told_pixel_one_to_one r r' (p ∙ sym q)
+lookup_determined κ a s s' r r' p q = p ∙ sym q
 
 -- ---- the refusals
 

@@ -1,6 +1,6 @@
 -- What the refusals before the answer leave, and that the four cells around two spots are in the table. Assumes nothing.
 use Rattle.std.proofs.Common.{◌≡◌, ℕ, ◌+◌, ◌-◌, ◌*◌, ◌<◌, Bool, true, false, cond, not, ◌&&◌, ◌||◌, eqb, List, [], ◌∷◌, refl, mul-le-mul_right, arith, eqb-true}
-use Rattle.core.specs.declared.result.Result.TheVariants.{Ok, Err}
+use Rattle.std.specs.declared.result.Result.TheVariants.{Ok, Err}
 use mathlib.Core.Bool.{false≢true}
 use native.Mathlib.Nat.{min-le_right}
 use lib.Ieee.{Float}

@@ -159,7 +159,7 @@ fn admitted(places: usize, region: Region, width: usize, height: usize, point: P
 
 // The pixel at a point, between the four cells around it.
 pub fn lookup(table: &[f32], region: Region, width: usize, height: usize, point: Point) -> Result<Pixel, Refusal>
-    ensures { told_pixel result ≡ told_pixel (lookup table.now region width height point) }
+    ensures { result ≡ lookup table.now region width height point }
 {
     match admitted(table.len(), region, width, height, point) {
         Err(refusal) => Err(refusal),

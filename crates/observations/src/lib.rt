@@ -42,7 +42,7 @@ fn rounds(number: u8, length: usize) -> usize
 
 // The point of a pixel, for a camera that is not refused: its parameters are not judged again.
 fn found(camera: Camera, pixel: Pixel) -> Result<Settled, Refusal>
-    ensures { told result ≡ told (found camera pixel) }
+    ensures { result ≡ found camera pixel }
 {
     if lens::both_finite(pixel.0, pixel.1) {
         camera::undistort_judged(camera, pixel)

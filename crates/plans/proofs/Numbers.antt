@@ -1,6 +1,6 @@
 -- Which numbers a turn is refused with: those that its samples, its increments and its cells are refused with. Assumes nothing.
 use mathlib.Core.Path.{◌≡◌, refl, sym, subst}
-use Rattle.core.specs.declared.result.Result.TheVariants.{Ok, Err}
+use Rattle.std.specs.declared.result.Result.TheVariants.{Ok, Err}
 use mathlib.Core.Bool.{Bool, true, false, cond, not, ◌&&◌}
 use mathlib.Core.List.{List}
 use Prim.Native.Nat.{ℕ}

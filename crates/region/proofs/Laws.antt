@@ -22,4 +22,4 @@ pub increments_determined : Determined increments-contract.Post
 increments_determined κ a s s' r r' p q = p ∙ sym q
 
 pub wrong_determined : Determined wrong-contract.Post
-wrong_determined κ a s s' r r' p q = verdict_one_to_one r r' (p ∙ sym q)
+wrong_determined κ a s s' r r' p q = p ∙ sym q

@@ -87,7 +87,7 @@ fn flat(x: f64) -> bool
 
 // What is wrong with increments: 8, then 11.
 pub fn wrong(by: Increments) -> Result<(), Refusal>
-    ensures { verdict result ≡ verdict (wrong by) }
+    ensures { result ≡ wrong by }
 {
     if flat(by.0) || flat(by.1) {
         return Err(Refusal::IncrementNotPositive);

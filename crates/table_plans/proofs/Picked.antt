@@ -1,6 +1,6 @@
 -- What is picked for a camera's table answers as the camera does: the pixels are the same bit by bit, the points but for the signs of zeros, and the refusals are the same. Assumes nothing.
 use mathlib.Core.Path.{◌≡◌, refl, ap, ap₂}
-use Rattle.core.specs.declared.result.Result.TheVariants.{Ok, Err}
+use Rattle.std.specs.declared.result.Result.TheVariants.{Ok, Err}
 use mathlib.Core.Bool.{Bool, true, false, cond, ◌&&◌, true≢false, false≢true}
 use Prim.Native.Nat.{ℕ}
 use lib.Ieee.Scale.{finite}

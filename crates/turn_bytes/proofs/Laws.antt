@@ -1,6 +1,6 @@
 -- What a caller may rely on, of the definitions of specs/ and of the contracts of src/. Assumes nothing.
 use mathlib.Core.Path.{◌≡◌, refl, sym, ap, ◌∙◌, subst}
-use Rattle.core.specs.declared.result.Result.{Result}
+use Rattle.std.specs.declared.result.Result.{Result}
 use Rattle.lens.specs.declared.Refusal.{Refusal}
 use mathlib.Core.Bool.{Bool, true, false, false≢true}
 use mathlib.Core.List.{List, [], ◌∷◌}

@@ -1,6 +1,6 @@
 -- `answer_bytes::distort` meets its contract. Assumes nothing.
 use mathlib.Core.Path.{refl}
-use Rattle.core.specs.declared.result.Result.{Result}
+use Rattle.std.specs.declared.result.Result.{Result}
 use Rattle.camera.specs.declared.Camera.{Camera}
 use Rattle.lens.specs.declared.Refusal.{Refusal}
 use Prim.Native.Nat.{ℕ}

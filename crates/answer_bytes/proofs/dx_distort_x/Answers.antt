@@ -1,6 +1,6 @@
 -- `answer_bytes::dx_distort_x` meets its contract. Assumes nothing.
 use mathlib.Core.Path.{refl}
-use Rattle.core.specs.declared.result.Result.{Result}
+use Rattle.std.specs.declared.result.Result.{Result}
 use Rattle.camera.specs.declared.Camera.{Camera}
 use Rattle.lens.specs.declared.Refusal.{Refusal}
 use Rattle.answer_bytes.specs.Answer.{slopes, dx_distort_x_bytes}

@@ -1,6 +1,6 @@
 -- `answer_bytes::slopes` meets its contract. Assumes nothing.
 use mathlib.Core.Path.{refl, sym, ◌∙◌}
-use Rattle.core.specs.declared.result.Result.{Result}
+use Rattle.std.specs.declared.result.Result.{Result}
 use Rattle.lens.specs.declared.Refusal.{Refusal}
 use Rattle.camera.specs.declared.Camera.{Camera}
 use Rattle.camera.proofs.Known.{judged_not}

@@ -1,17 +1,8 @@
 -- `camera::mark_of` meets its contract. Assumes nothing.
 use Rattle.camera.proofs.mark_of.Goals as goal
 
-pub returns-in-Affine : goal.returns-in-Affine
-returns-in-Affine c = rw c.in-Affine.is c.mark_affine.ensures
-
-pub returns-in-EnhancedUnified : goal.returns-in-EnhancedUnified
-returns-in-EnhancedUnified c = rw c.in-EnhancedUnified.is c.mark_enhanced_unified.ensures
-
-pub returns-in-KannalaBrandt : goal.returns-in-KannalaBrandt
-returns-in-KannalaBrandt c = rw c.in-KannalaBrandt.is c.mark_kannala_brandt.ensures
-
 pub returns-in-BrownConrady : goal.returns-in-BrownConrady
-returns-in-BrownConrady c = rw c.in-BrownConrady.is c.mark_brown_conrady.ensures
+returns-in-BrownConrady c = rw c.in-BrownConrady.is c.mark-in-BrownConrady.ensures
 
 pub returns-in-ThinPrism : goal.returns-in-ThinPrism
-returns-in-ThinPrism c = rw c.in-ThinPrism.is c.mark_thin_prism.ensures
+returns-in-ThinPrism c = rw c.in-ThinPrism.is c.mark-in-ThinPrism.ensures

@@ -1,6 +1,6 @@
 -- `camera_bytes::read` meets its contract. Assumes nothing.
 use mathlib.Core.Path.{sym, ap, ◌∙◌}
-use Rattle.core.specs.declared.result.Result.TheVariants.{Ok, Err}
+use Rattle.std.specs.declared.result.Result.TheVariants.{Ok, Err}
 use Rattle.lens.specs.Judgement.{decided}
 use Rattle.lens.specs.Judgement.{Judgement}
 use Rattle.camera_bytes.specs.Reading.{camera_of}

@@ -1,6 +1,6 @@
 -- `distortion_table::border_due` meets its contract. Assumes nothing.
 use mathlib.Core.Path.{◌≡◌, sym, ap, ◌∙◌}
-use Rattle.core.specs.declared.result.Result.TheVariants.{Ok}
+use Rattle.std.specs.declared.result.Result.TheVariants.{Ok}
 use Prim.Native.Nat.{ℕ, ◌-◌, min}
 use native.Mathlib.Nat.{min-le_left}
 use native.Mathlib.Omega.{arith}

@@ -1,6 +1,6 @@
 -- `job::admitted` meets its contract. Assumes nothing.
 use mathlib.Core.Path.{◌≡◌, sym, ap, ◌∙◌}
-use Rattle.core.specs.declared.result.Result.TheVariants.{Err}
+use Rattle.std.specs.declared.result.Result.TheVariants.{Err}
 use Prim.Native.Nat.{ℕ}
 use Rattle.lens.specs.Judgement.{verdict, decided}
 use Rattle.lens.specs.Judgement.{Judgement}

@@ -1,6 +1,6 @@
 -- `job_bytes::read` meets its contract. Assumes nothing.
 use Rattle.std.proofs.Common.{ap, ◌∙◌, arith}
-use Rattle.core.specs.declared.result.Result.TheVariants.{Ok}
+use Rattle.std.specs.declared.result.Result.TheVariants.{Ok}
 use Rattle.job_bytes.proofs.Reading.{read_misfit, read_unknown, read_job}
 use Rattle.job_bytes.proofs.read.Goals as goal
 

@@ -1,6 +1,6 @@
 -- `job_bytes::started` meets its contract. Assumes nothing.
 use Rattle.std.proofs.Common.{◌≡◌, ℕ, eqb, refl, ap, ◌∙◌}
-use Rattle.core.specs.declared.result.Result.{Result}
+use Rattle.std.specs.declared.result.Result.{Result}
 use Rattle.lens.specs.declared.Refusal.{Refusal}
 use Rattle.job.specs.declared.Job.{Job}
 use Rattle.job.specs.Job.{fresh, told_started}

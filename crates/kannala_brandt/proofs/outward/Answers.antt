@@ -1,6 +1,7 @@
 -- `kannala_brandt::outward` meets its contract. Assumes nothing.
 use mathlib.Core.Path.{sym, ap, ◌∙◌}
-use Rattle.core.specs.declared.option.Option.{Option}
+use lib.Ieee.{Float}
+use Rattle.std.specs.declared.option.Option.{Option}
 use Rattle.kannala_brandt.specs.KannalaBrandt.{outward}
 use Rattle.kannala_brandt.proofs.outward.Goals as goal
 

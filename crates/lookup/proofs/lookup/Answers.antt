@@ -1,6 +1,6 @@
 -- `lookup::lookup` meets its contract. Assumes nothing.
 use Rattle.std.proofs.Common.{◌≡◌, ℕ, List, length, sym, refl, ◌∙◌}
-use Rattle.core.specs.declared.result.Result.TheVariants.{Err}
+use Rattle.std.specs.declared.result.Result.TheVariants.{Err}
 use lib.Ieee.{Float}
 use Rattle.lens.specs.Distorted.{told_pixel}
 use Rattle.lens.specs.Judgement.{decided}

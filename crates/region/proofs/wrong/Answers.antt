@@ -1,8 +1,7 @@
 -- `region::wrong` meets its contract. Assumes nothing.
 use Rattle.std.proofs.Common.{◌≡◌, Bool, cond, ◌&&◌, ◌||◌, sym, refl, ◌∙◌}
-use Rattle.core.specs.declared.result.Result.TheVariants.{Ok, Err}
+use Rattle.std.specs.declared.result.Result.TheVariants.{Ok, Err}
 use lib.Ieee.Scale.{finite}
-use Rattle.lens.specs.Judgement.{verdict}
 use Rattle.lens.specs.declared.Refusal.TheVariants.{IncrementNotPositive, AnswerNotFinite}
 use Rattle.region.specs.Region.{flat, wrong}
 use Rattle.region.specs.declared.Increments.{Increments}
@@ -11,7 +10,7 @@ use Rattle.region.proofs.wrong.Goals.{then-flat-via-then-flat, then-flat-via-els
 
 -- by what the tests say
 judged_so : (by : Increments) {f g b : Bool} → f ≡ flat by.0 → g ≡ flat by.1 → b ≡ (finite by.0 && finite by.1)
-    → verdict (cond (f || g) (Err IncrementNotPositive) (cond b (Ok tt) (Err AnswerNotFinite))) ≡ verdict (wrong by)
+    → cond (f || g) (Err IncrementNotPositive) (cond b (Ok tt) (Err AnswerNotFinite)) ≡ wrong by
 unfolding wrong
 judged_so by f g b = rw (f, g, b) refl
 

@@ -1,6 +1,6 @@
 -- `turn_bytes::begin` meets its contract. Assumes nothing.
 use mathlib.Core.Path.{◌≡◌, sym, ap, ◌∙◌}
-use Rattle.core.specs.declared.result.Result.{Result}
+use Rattle.std.specs.declared.result.Result.{Result}
 use Rattle.lens.specs.declared.Refusal.{Refusal}
 use Rattle.job.specs.declared.Job.{Job}
 use mathlib.Core.Bool.{Bool, true, false, cond}

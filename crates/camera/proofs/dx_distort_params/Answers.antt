@@ -1,9 +1,0 @@
--- `camera::dx_distort_params` meets its contract. Assumes nothing.
-use mathlib.Core.Path.{refl}
-use Rattle.camera.proofs.dx_distort_params.Goals as goal
-
-pub returns-in-Err : goal.returns-in-Err
-returns-in-Err c = rw (c.refused.ensures, ← c.judged.ensures, c.in-Err.is) refl
-
-pub returns-in-Ok : goal.returns-in-Ok
-returns-in-Ok c = rw (c.finite_jacobian.ensures, c.parameter_slopes.ensures, ← c.judged.ensures, c.in-Ok.is) refl

@@ -1,8 +1,0 @@
--- `camera::mark_enhanced_unified` meets its contract. Assumes nothing.
-use mathlib.Core.Path.{ap, ◌∙◌}
-use Rattle.exact.specs.F64.{mark}
-use Rattle.camera.proofs.Given.{behind}
-use Rattle.camera.proofs.mark_enhanced_unified.Goals as goal
-
-pub returns : goal.returns
-returns c = c.marks.ensures ∙ ap mark (behind _ _ _)
