@@ -1,13 +1,12 @@
 -- A text cut at the first byte of a kind. Assumes nothing.
 use mathlib.Core.Path.{◌≡◌, sym, ap, ◌∙◌}
 use mathlib.Core.List.{List, []}
-use Prim.Native.Nat.{ℕ, suc, ◌+◌, ◌-◌, ◌≤◌, ◌<◌}
+use Prim.Native.Nat.{ℕ, suc, ◌+◌, ◌-◌, ◌≤◌}
 use native.Mathlib.Numerals.{add-one}
 use native.Mathlib.Omega.{arith}
 use lib.ListN.{length, take, drop, drop_of_length-le, length-drop}
 use lib.Seq.{take_all}
 use Rattle.decimal.specs.Text.{place, before, past}
-use Rattle.decimal.proofs.Parts.{place_within}
 
 module _ (b : ℕ) (l : List ℕ) (i : ℕ) (e : i ≡ place b l) where
   pub first_is : take i l ≡ before b l

@@ -8,7 +8,6 @@ use native.Mathlib.Omega.{arith}
 use lib.Dec.{eqb}
 use lib.ListN.{length}
 use Rattle.exact.specs.Determined.{Determined}
-use Rattle.lens.specs.Refusal.{number}
 use Rattle.lens.specs.Rows.{first}
 use Rattle.lens.specs.declared.Refusal.{Refusal}
 use Rattle.lens.specs.declared.Refusal.TheVariants as refusals

@@ -5,7 +5,7 @@ use mathlib.Core.List.{List}
 use Prim.Native.Nat.{ℕ}
 use borrow.Author.Tests.{eq-eqb, ne_eqb}
 use lib.ListN.{length}
-use Rattle.std.proofs.Common.{Option, Some, None, Ok, Err}
+use Rattle.std.proofs.Common.{Some, None, Ok, Err}
 use Rattle.lens.specs.declared.Refusal.TheVariants.{WrongCount}
 use Rattle.camera.specs.Numbers.{count}
 use Rattle.camera.specs.declared.Camera.{Camera}

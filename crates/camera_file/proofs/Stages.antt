@@ -7,14 +7,13 @@ use native.Mathlib.Omega.{arith}
 use borrow.Author.Tests.{lt-ltb, le-ltb, le-leb, lt-leb}
 use lib.Dec.{leb}
 use lib.ListN.{length}
-use Rattle.std.proofs.Common.{Option, Some, None, Result, Ok, Err}
-use Rattle.lens.specs.declared.Refusal.{Refusal}
+use Rattle.std.proofs.Common.{Some, None, Err}
 use Rattle.lens.specs.declared.Refusal.TheVariants.{NotTheForm}
 use Rattle.decimal.specs.Decimal.{worth, number_in, is_number}
 use Rattle.decimal.specs.Text.{tab, newline, all, same, before, past}
 use Rattle.decimal.proofs.Numbers.{number_is, number_isnt}
 use Rattle.params_line.specs.Params.{is_params, params_of}
-use Rattle.camera_file.specs.Text.{camera_word, letter, longest, CameraFile}
+use Rattle.camera_file.specs.Text.{camera_word, letter, longest}
 use Rattle.camera_file.specs.Reading.{is_name, is_high, is_wide, is_named, is_file, file_of, read}
 use Rattle.camera_file.specs.Asked.{model, asked_of, asked, asked_if, parsed}
 

@@ -1,5 +1,5 @@
 -- `camera_file::asked_of` meets its contract. Assumes nothing.
-use mathlib.Core.Path.{◌≡◌, sym, ap, ◌∙◌}
+use mathlib.Core.Path.{sym, ap, ◌∙◌}
 use Prim.Native.Nat.{ℕ}
 use Rattle.std.proofs.Common.{Option}
 use Rattle.params_line.specs.Params.{params_of}

@@ -1,6 +1,5 @@
 -- `camera_file::parse` meets its contract: what the fields of a text decide is what the text asks for. Assumes nothing.
 use mathlib.Core.Path.{◌≡◌, sym, ap, ◌∙◌}
-use mathlib.Core.List.{List}
 use Prim.Native.Nat.{ℕ}
 use Rattle.std.proofs.lemmas.Result.{err_from_is_err_and}
 use Rattle.std.proofs.Common.{Option, None, Result, Err}
