@@ -158,6 +158,7 @@ fn is_fixed(matrix: &[u8]) -> bool
 }
 
 // Whether so many coefficients are taken.
+#[tactic(auto, unfolding(crate::specs::Moved::counted))]
 fn is_counted(n: usize) -> bool
     ensures { result ≡ counted n }
 {
