@@ -4,8 +4,10 @@ ghost use Rattle.std.specs.Float.Ieee.Scale.{finite};
 ghost use Rattle.exact.specs.F64.{mark};
 ghost use Rattle.lens.specs.Finite.{all_finite};
 ghost use Rattle.camera.specs.Camera.{parameters, either_zero, zero_focal, pixel_of, point_of, slopes, parameter_slopes};
+ghost use Rattle.camera.specs.Numbers.{padded};
 
 use crate::Camera;
+use crate::numbers::MOST;
 use affine::AffineParams;
 use brown_conrady::BrownConradyParams;
 use enhanced_unified::EnhancedUnifiedParams;
@@ -42,6 +44,10 @@ pub(crate) trait Lens: Copy {
     // and by its parameters.
     fn parameter_slopes(self, point: Point) -> Jacobian
         ensures { result ≡ parameter_slopes (camera self) point };
+
+    // The parameters, and zeros behind them.
+    fn padded(self) -> [f64; MOST]
+        ensures { result ≡ padded (camera self) };
 }
 
 // Whether one of two focal lengths is zero.
@@ -79,6 +85,15 @@ impl Lens for AffineParams {
     fn parameter_slopes(self, point: Point) -> Jacobian {
         affine::dx_distort_params(self, point)
     }
+
+    fn padded(self) -> [f64; MOST] {
+        let mut n = [0.0; MOST];
+        n[0] = self.fx;
+        n[1] = self.fy;
+        n[2] = self.cx;
+        n[3] = self.cy;
+        n
+    }
 }
 
 impl Lens for EnhancedUnifiedParams {
@@ -110,6 +125,17 @@ impl Lens for EnhancedUnifiedParams {
 
     fn parameter_slopes(self, point: Point) -> Jacobian {
         enhanced_unified::dx_distort_params(self, point)
+    }
+
+    fn padded(self) -> [f64; MOST] {
+        let mut n = [0.0; MOST];
+        n[0] = self.fx;
+        n[1] = self.fy;
+        n[2] = self.cx;
+        n[3] = self.cy;
+        n[4] = self.alpha;
+        n[5] = self.beta;
+        n
     }
 }
 
@@ -143,6 +169,19 @@ impl Lens for KannalaBrandtParams {
     fn parameter_slopes(self, point: Point) -> Jacobian {
         kannala_brandt::dx_distort_params(self, point)
     }
+
+    fn padded(self) -> [f64; MOST] {
+        let mut n = [0.0; MOST];
+        n[0] = self.fx;
+        n[1] = self.fy;
+        n[2] = self.cx;
+        n[3] = self.cy;
+        n[4] = self.k0;
+        n[5] = self.k1;
+        n[6] = self.k2;
+        n[7] = self.k3;
+        n
+    }
 }
 
 impl Lens for BrownConradyParams {
@@ -175,6 +214,23 @@ impl Lens for BrownConradyParams {
 
     fn parameter_slopes(self, point: Point) -> Jacobian {
         brown_conrady::dx_distort_params(self, point)
+    }
+
+    fn padded(self) -> [f64; MOST] {
+        let mut n = [0.0; MOST];
+        n[0] = self.fx;
+        n[1] = self.fy;
+        n[2] = self.cx;
+        n[3] = self.cy;
+        n[4] = self.k1;
+        n[5] = self.k2;
+        n[6] = self.p1;
+        n[7] = self.p2;
+        n[8] = self.k3;
+        n[9] = self.k4;
+        n[10] = self.k5;
+        n[11] = self.k6;
+        n
     }
 }
 
@@ -210,5 +266,14 @@ impl Lens for ThinPrismParams {
 
     fn parameter_slopes(self, point: Point) -> Jacobian {
         thin_prism::dx_distort_params(self, point)
+    }
+
+    fn padded(self) -> [f64; MOST] {
+        let mut n = self.bc.padded();
+        n[12] = self.s1;
+        n[13] = self.s2;
+        n[14] = self.s3;
+        n[15] = self.s4;
+        n
     }
 }

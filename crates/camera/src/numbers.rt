@@ -4,6 +4,7 @@ ghost use Rattle.std.specs.Prelude.{◌≡◌};
 ghost use Rattle.camera.specs.Numbers.{count, at, brown_conrady_params, camera_of, model_number, padded};
 
 use crate::Camera;
+use crate::lenses::Lens;
 use affine::AffineParams;
 use brown_conrady::BrownConradyParams;
 use enhanced_unified::EnhancedUnifiedParams;
@@ -19,16 +20,12 @@ pub const MOST: usize = 16;
 pub fn count(model: u8) -> u8
     ensures { result ≡ count model }
 {
-    if model == 0 {
-        4
-    } else if model == 1 {
-        6
-    } else if model == 2 {
-        8
-    } else if model == 3 {
-        12
-    } else {
-        16
+    match model {
+        0 => 4,
+        1 => 6,
+        2 => 8,
+        3 => 12,
+        _ => 16,
     }
 }
 
@@ -59,19 +56,17 @@ pub fn camera_of(model: u8, n: &[f64; MOST]) -> Camera
     let fy = n[1];
     let cx = n[2];
     let cy = n[3];
-    if model == 0 {
-        Camera::Affine(AffineParams { fx, fy, cx, cy })
-    } else if model == 1 {
-        Camera::EnhancedUnified(EnhancedUnifiedParams {
+    match model {
+        0 => Camera::Affine(AffineParams { fx, fy, cx, cy }),
+        1 => Camera::EnhancedUnified(EnhancedUnifiedParams {
             fx,
             fy,
             cx,
             cy,
             alpha: n[4],
             beta: n[5],
-        })
-    } else if model == 2 {
-        Camera::KannalaBrandt(KannalaBrandtParams {
+        }),
+        2 => Camera::KannalaBrandt(KannalaBrandtParams {
             fx,
             fy,
             cx,
@@ -80,17 +75,15 @@ pub fn camera_of(model: u8, n: &[f64; MOST]) -> Camera
             k1: n[5],
             k2: n[6],
             k3: n[7],
-        })
-    } else if model == 3 {
-        Camera::BrownConrady(brown_conrady_of(n))
-    } else {
-        Camera::ThinPrism(ThinPrismParams {
+        }),
+        3 => Camera::BrownConrady(brown_conrady_of(n)),
+        _ => Camera::ThinPrism(ThinPrismParams {
             bc: brown_conrady_of(n),
             s1: n[12],
             s2: n[13],
             s3: n[14],
             s4: n[15],
-        })
+        }),
     }
 }
 
@@ -112,79 +105,10 @@ pub fn padded(camera: Camera) -> [f64; MOST]
     ensures { result ≡ padded camera }
 {
     match camera {
-        Camera::Affine(p) => of_affine(p),
-        Camera::EnhancedUnified(p) => of_enhanced_unified(p),
-        Camera::KannalaBrandt(p) => of_kannala_brandt(p),
-        Camera::BrownConrady(p) => of_brown_conrady(p),
-        Camera::ThinPrism(p) => of_thin_prism(p),
+        Camera::Affine(p) => p.padded(),
+        Camera::EnhancedUnified(p) => p.padded(),
+        Camera::KannalaBrandt(p) => p.padded(),
+        Camera::BrownConrady(p) => p.padded(),
+        Camera::ThinPrism(p) => p.padded(),
     }
-}
-
-fn of_affine(p: AffineParams) -> [f64; MOST]
-    ensures { result ≡ padded (Camera.Affine p) }
-{
-    let mut n = [0.0; MOST];
-    n[0] = p.fx;
-    n[1] = p.fy;
-    n[2] = p.cx;
-    n[3] = p.cy;
-    n
-}
-
-fn of_enhanced_unified(p: EnhancedUnifiedParams) -> [f64; MOST]
-    ensures { result ≡ padded (Camera.EnhancedUnified p) }
-{
-    let mut n = [0.0; MOST];
-    n[0] = p.fx;
-    n[1] = p.fy;
-    n[2] = p.cx;
-    n[3] = p.cy;
-    n[4] = p.alpha;
-    n[5] = p.beta;
-    n
-}
-
-fn of_kannala_brandt(p: KannalaBrandtParams) -> [f64; MOST]
-    ensures { result ≡ padded (Camera.KannalaBrandt p) }
-{
-    let mut n = [0.0; MOST];
-    n[0] = p.fx;
-    n[1] = p.fy;
-    n[2] = p.cx;
-    n[3] = p.cy;
-    n[4] = p.k0;
-    n[5] = p.k1;
-    n[6] = p.k2;
-    n[7] = p.k3;
-    n
-}
-
-fn of_brown_conrady(p: BrownConradyParams) -> [f64; MOST]
-    ensures { result ≡ padded (Camera.BrownConrady p) }
-{
-    let mut n = [0.0; MOST];
-    n[0] = p.fx;
-    n[1] = p.fy;
-    n[2] = p.cx;
-    n[3] = p.cy;
-    n[4] = p.k1;
-    n[5] = p.k2;
-    n[6] = p.p1;
-    n[7] = p.p2;
-    n[8] = p.k3;
-    n[9] = p.k4;
-    n[10] = p.k5;
-    n[11] = p.k6;
-    n
-}
-
-fn of_thin_prism(p: ThinPrismParams) -> [f64; MOST]
-    ensures { result ≡ padded (Camera.ThinPrism p) }
-{
-    let mut n = of_brown_conrady(p.bc);
-    n[12] = p.s1;
-    n[13] = p.s2;
-    n[14] = p.s3;
-    n[15] = p.s4;
-    n
 }

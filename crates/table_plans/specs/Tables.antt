@@ -1,8 +1,8 @@
 -- The plans of a camera's tables: an engine, a border, a strict mark and a kind of cell make one. Definitions only.
-use Rattle.std.specs.Prelude.{Bool, false, cond, ◌&&◌, ◌||◌, List, [], ◌∷◌, ℕ, eqb, ℤ, Float, get_or, Ok, Err}
+use Rattle.std.specs.Prelude.{Bool, false, cond, ◌&&◌, ◌||◌, List, [], ◌∷◌, ℕ, eqb, ℤ, Float, get_or, Err}
 use Rattle.lens.specs.Finite.{all_finite}
 use Rattle.lens.specs.Distorted.{Distorted}
-use Rattle.lens.specs.Judgement.{Judgement}
+use Rattle.lens.specs.Judgement.{Judgement, accepted}
 use Rattle.lens.specs.declared.Pixel.{Pixel}
 use Rattle.lens.specs.declared.Point.{Point}
 use Rattle.lens.specs.declared.Refusal.TheVariants.{NotFinite, ZeroFocalLength, WrongSize}
@@ -67,7 +67,7 @@ unfoldable pub opens_for : Camera → ℕ → ℕ → Region → Judgement
 opens_for camera width height region =
     cond (all_finite (parameters camera) && all_finite (four region))
     (cond (zero_focal camera) (Err ZeroFocalLength)
-    (cond (sized width height) (Ok tt) (Err WrongSize)))
+    (cond (sized width height) accepted (Err WrongSize)))
     (Err NotFinite)
 
 -- ---- plans

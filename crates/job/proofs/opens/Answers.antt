@@ -1,10 +1,10 @@
 -- `job::opens` meets its contract. Assumes nothing.
 use mathlib.Core.Path.{◌≡◌, refl, sym, ◌∙◌}
-use Rattle.std.specs.declared.result.Result.TheVariants.{Ok, Err}
+use Rattle.std.specs.declared.result.Result.TheVariants.{Err}
 use mathlib.Core.Bool.{Bool, cond, ◌&&◌}
 use Prim.Native.Nat.{ℕ}
 use Rattle.lens.specs.Finite.{all_finite}
-use Rattle.lens.specs.Judgement.{verdict}
+use Rattle.lens.specs.Judgement.{verdict, accepted}
 use Rattle.lens.specs.declared.Refusal.TheVariants.{NotFinite, ZeroFocalLength, WrongSize}
 use Rattle.region.specs.Region.{four}
 use Rattle.region.specs.Size.{sized}
@@ -18,7 +18,7 @@ use Rattle.job.proofs.opens.Goals as goal
 judged_so :
     (camera : Camera) (width height : ℕ) (region : Region) {p q z s : Bool}
     → all_finite (parameters camera) ≡ p → all_finite (four region) ≡ q → zero_focal camera ≡ z → sized width height ≡ s
-    → verdict (cond (p && q) (cond z (Err ZeroFocalLength) (cond s (Ok tt) (Err WrongSize))) (Err NotFinite)) ≡ verdict (opens_for camera width height region)
+    → verdict (cond (p && q) (cond z (Err ZeroFocalLength) (cond s accepted (Err WrongSize))) (Err NotFinite)) ≡ verdict (opens_for camera width height region)
 unfolding opens_for
 judged_so camera width height region e f g h = rw (e, f, g, h) refl
 
