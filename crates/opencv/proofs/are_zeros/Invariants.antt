@@ -8,4 +8,3 @@ use Rattle.opencv.proofs.are_zeros.Given as goal
 
 abbrev pub invariant-loop-k : goal.invariant-loop-k
 invariant-loop-k l = all zero_bits (drop l.k (params_of l.coeffs)) ≡ all zero_bits (drop 8 (params_of l.coeffs))
-

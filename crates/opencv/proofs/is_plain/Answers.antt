@@ -15,13 +15,13 @@ returns-then-many-ne9 c =
     let m = params_length c.args.matrix.now in
     let n = params_length c.args.coeffs.now in
     elim c.then-many-ne9.branch [
-        then-many-ne9-via-then-many-ne9 w ↦
-            no _ (sym (no _ (ne_eqb (length (params_of c.args.matrix.now)) 9 (λ e. w.if-many-ne9.true (c.many.ensures ∙ sym m ∙ e)))))
+      | then-many-ne9-via-then-many-ne9 w ↦
+          no _ (sym (no _ (ne_eqb (length (params_of c.args.matrix.now)) 9 (λ e. w.if-many-ne9.true (c.many.ensures ∙ sym m ∙ e)))))
       | then-many-ne9-via-else-many-ne9+then-not-is_fixed w ↦
-            no _ (sym (yes (eq-eqb _ 9 (m ∙ sym c.many.ensures ∙ w.if-many-ne9.false)) (sym (sym w.is_fixed.ensures ∙ w.if-not-is_fixed.true))))
+          no _ (sym (yes (eq-eqb _ 9 (m ∙ sym c.many.ensures ∙ w.if-many-ne9.false)) (sym (sym w.is_fixed.ensures ∙ w.if-not-is_fixed.true))))
       | then-many-ne9-via-else-many-ne9+else-not-is_fixed+then-not-is_counted w ↦
-            yes (sym (yes (eq-eqb _ 9 (m ∙ sym c.many.ensures ∙ w.if-many-ne9.false)) (sym (sym w.is_fixed.ensures ∙ w.if-not-is_fixed.false))))
-            (no _ (ap counted (n ∙ sym w.many-else-not-is_fixed.ensures) ∙ sym w.is_counted.ensures ∙ w.if-not-is_counted.true))
+          yes (sym (yes (eq-eqb _ 9 (m ∙ sym c.many.ensures ∙ w.if-many-ne9.false)) (sym (sym w.is_fixed.ensures ∙ w.if-not-is_fixed.false))))
+          (no _ (ap counted (n ∙ sym w.many-else-not-is_fixed.ensures) ∙ sym w.is_counted.ensures ∙ w.if-not-is_counted.true))
     ]
 
 pub returns : goal.returns

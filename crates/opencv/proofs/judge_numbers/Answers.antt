@@ -15,9 +15,9 @@ unfolding our_params number_rows
 returns-then-is_zero c =
     past 4 (ap not (sym c.all_finite.ensures ∙ c.if-not-all_finite.false))
     (elim c.then-is_zero.branch [
-        then-is_zero-via-then-is_zero w ↦ holds 5 _ (sym (hit _ (sym c.is_zero.ensures ∙ w.if-is_zero.true)))
+      | then-is_zero-via-then-is_zero w ↦ holds 5 _ (sym (hit _ (sym c.is_zero.ensures ∙ w.if-is_zero.true)))
       | then-is_zero-via-else-is_zero+then-is_zero-2 w ↦
-            holds 5 _ (sym (miss (sym c.is_zero.ensures ∙ w.if-is_zero.false) (sym (sym w.is_zero-else-is_zero.ensures ∙ w.if-is_zero-2.true))))
+          holds 5 _ (sym (miss (sym c.is_zero.ensures ∙ w.if-is_zero.false) (sym (sym w.is_zero-else-is_zero.ensures ∙ w.if-is_zero-2.true))))
     ])
 
 pub returns : goal.returns
