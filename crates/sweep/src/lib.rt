@@ -113,7 +113,7 @@ fn units(
     ensures { told_stop result ≡ met (turn (swept (by_mark camera short width height strict)) count from) }
 {
     let mut at = from;
-    for _ in 0..count {
+    for _done in 0..count {
         match sweep_one(camera, short, width, height, strict, all, at) {
             Ok(next) => at = next,
             Err(refusal) => {
