@@ -5,7 +5,11 @@ use Rattle.std.specs.declared.result.Result.TheVariants.{Ok, Err}
 use mathlib.Core.Logic.{◌⊎◌, inl, inr, ◌↔◌}
 use Prim.Native.Nat.{ℕ}
 use native.Mathlib.Omega.{arith}
+use denote.Param.Laws.{Laws, IsCopy}
+use denote.RattleType.{RattleType}
 use lib.IntN.{ℤ}
+use mir.Syntax.{Dict}
+use Rattle.core.specs.declared.clone.Clone as clone
 use lib.Ieee.{Float}
 use Rattle.exact.specs.Determined.{Determined}
 use Rattle.thirty_seconds.specs.Multiple.{nearest_multiple}
@@ -20,6 +24,7 @@ use Rattle.region.specs.declared.Increments.{Increments}
 use Rattle.region.specs.declared.Region.{Region}
 use Rattle.plans.specs.Plan.{Content, numbers, none}
 use Rattle.cell.specs.Cell.{unrounded, f32, both_held, i16, cell_by, of_cell, Together, told}
+use Rattle.cell.specs.declared.CellNumber as cell-number
 use Rattle.cell.proofs.Made.{made}
 use Rattle.cell.proofs.Together.{i16_holds, i16_refused, cells_together}
 use Rattle.cell.proofs.cell_at.Reads as cell-at-contract
@@ -32,8 +37,10 @@ told_one_to_one (Err q) (Ok (c, d)) e = let z : ◌≡◌ {A = ℕ} 0 1 = cc in 
 told_one_to_one (Err q) (Err r) e = ap Err (number_one_to_one q r (cc))
 
 -- Any two answers to one call that the contract of `cell_at` permits are equal, at every type of number.
-pub cell_at_determined : (g : _) (l : _) (c : _) (number : _) (d : _) (clone : _) (e : _) → Determined (cell-at-contract.Post g l c number d clone e)
-cell_at_determined g l c number d clone e κ a s s' r r' p q = told_one_to_one r r' (p ∙ sym q)
+pub cell_at_determined :
+    (g : RattleType) (l : Laws g) (c : IsCopy g) (number : cell-number.Ghosts g.Denot) (d : Dict)
+    (copied : clone.Ghosts g.Denot) (e : Dict) → Determined (cell-at-contract.Post g l c number d copied e)
+cell_at_determined g l c number d copied e κ a s s' r r' p q = told_one_to_one r r' (p ∙ sym q)
 
 -- A cell of any kind is made from one that holds the pixel as it is, and is refused with the same number where that one is.
 pub one_pixel :

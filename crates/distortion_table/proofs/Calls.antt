@@ -5,9 +5,11 @@ use mathlib.Core.Bool.{Bool}
 use mathlib.Core.List.{List, [], ◌∷◌}
 use Prim.Native.Nat.{ℕ, ◌*◌, ◌≤◌}
 use native.Mathlib.Omega.{arith}
-use lib.IntN.{ℤ}
-use lib.Ieee.{Float}
+use denote.Param.Laws.{Laws, IsCopy}
+use denote.RattleType.{RattleType}
 use lib.ListN.{length}
+use mir.Syntax.{Dict}
+use Rattle.core.specs.declared.clone.Clone as clone
 use Rattle.lens.specs.Judgement.{decided}
 use Rattle.lens.specs.Refusal.{number}
 use Rattle.lens.specs.Judgement.{Judgement}
@@ -20,8 +22,9 @@ use Rattle.plans.specs.Plan.{Plan, State, nowhere, fresh, next}
 use Rattle.plans.specs.Calls.{judged, Sound, Serves, Build, done, call}
 use Rattle.plans.specs.Calls as plan
 use Rattle.plans.proofs.Laws as plans
-use Rattle.table_plans.specs.Tables.{opens_for, Kind, f32s, i16s, table_of}
-use Rattle.table_plans.proofs.Sound.{Fit, f32_fit, i16_fit, kind_sound}
+use Rattle.cell.specs.declared.CellNumber as cell-number
+use Rattle.table_plans.specs.Tables.{opens_for, Kind, table_of}
+use Rattle.table_plans.proofs.Sound.{Fit, kind_sound}
 use Rattle.job.specs.Job.{fresh_job}
 use Rattle.job.specs.Job as job
 use Rattle.job.specs.declared.Job.{Job}
@@ -29,25 +32,10 @@ use Rattle.distortion_table.specs.Answer.{Answer, enough, plan_of, answer, turn_
 use Rattle.distortion_table.specs.Held.{Held, held_plan, held_state}
 use Rattle.distortion_table.specs.declared.Turned.{Turned}
 use Rattle.distortion_table.proofs.turn.Reads as turn-contract
-use Rattle.distortion_table.proofs.turn16.Reads as turn16-contract
 
 -- no table that is taken has more units than the largest
 pub largest : (width height : ℕ) → Sized width height → all_units width height ≤ enough
 largest width height s = omega (arith, bounded width height s, s.not_wider, s.not_higher)
-
--- ---- a call that the contract permits: with what is held and an allowance, it says so and hands that back
-
--- of `turn`
-pub data Called : Held Float → ℕ → Said → Held Float → Type 0 where
-  called :
-      (κ : _) (a : _) (r : Turned) (s : _) → turn-contract.Post κ a r s
-      → Called record { job = a.0; cells = a.1.0.now } a.1.1.0 (told_status r.status) record { job = r.job; cells = s.1.0.now }
-
--- and of `turn16`
-pub data Called16 : Held ℤ → ℕ → Said → Held ℤ → Type 0 where
-  called16 :
-      (κ : _) (a : _) (r : Turned) (s : _) → turn16-contract.Post κ a r s
-      → Called16 record { job = a.0; cells = a.1.0.now } a.1.1.0 (told_status r.status) record { job = r.job; cells = s.1.0.now }
 
 -- ---- calls that answer the turn of a kind of cell
 
@@ -59,17 +47,25 @@ pub record Turns (X : Type 0) : Type 1 where
       (h : Held X) (a : ℕ) (said : Said) (k : Held X) → Called h a said k
       → record { said = said; job = k.job; cells = k.cells } ≡ turn_of kind h.job h.cells a
 
-pub by_turn : (h : Held Float) (a : ℕ) (said : Said) (k : Held Float) → Called h a said k → record { said = said; job = k.job; cells = k.cells } ≡ turn_of f32s h.job h.cells a
-by_turn h a said k (called κ args r s post) = post
+-- ---- a call of `turn` that its contract permits, at any type of number: with what is held and an allowance, it says so
+-- and hands that back
 
-abbrev pub f32_turns : Turns Float
-f32_turns = record { kind = f32s; fit = f32_fit; Called = Called; answered = by_turn }
+module _
+    (g : RattleType) (l : Laws g) (c : IsCopy g) (number : cell-number.Ghosts g.Denot) (d : Dict)
+    (copied : clone.Ghosts g.Denot) (e : Dict)
+  where
+    pub data Called : Held g.Denot → ℕ → Said → Held g.Denot → Type 0 where
+      called :
+          (κ : _) (a : _) (r : Turned) (s : _) → turn-contract.Post g l c number d copied e κ a r s
+          → Called record { job = a.0; cells = a.1.0.now } a.1.1.0 (told_status r.status) record { job = r.job; cells = s.1.0.now }
 
-pub by_turn16 : (h : Held ℤ) (a : ℕ) (said : Said) (k : Held ℤ) → Called16 h a said k → record { said = said; job = k.job; cells = k.cells } ≡ turn_of i16s h.job h.cells a
-by_turn16 h a said k (called16 κ args r s post) = post
+    by_turn :
+        (h : Held g.Denot) (a : ℕ) (said : Said) (k : Held g.Denot) → Called h a said k
+        → record { said = said; job = k.job; cells = k.cells } ≡ turn_of number.kind h.job h.cells a
+    by_turn h a said k (called κ args r s post) = post
 
-abbrev pub i16_turns : Turns ℤ
-i16_turns = record { kind = i16s; fit = i16_fit; Called = Called16; answered = by_turn16 }
+    pub turns : Fit number.kind → Turns g.Denot
+    turns fit = record { kind = number.kind; fit = fit; Called = Called; answered = by_turn }
 
 module _ {X : Type 0} (t : Turns X) where
   -- whatever is held, it answers the plan's turn, and keeps camera, size and mark

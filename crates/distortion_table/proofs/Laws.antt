@@ -6,7 +6,11 @@ use mathlib.Core.Bool.{Bool, true, false}
 use Prim.Native.Nat.{ℕ, ◌+◌, ◌*◌, ◌≤◌, ◌<◌, min}
 use native.Mathlib.Omega.{arith}
 use lib.Ieee.{Float}
+use denote.Param.Laws.{Laws, IsCopy}
+use denote.RattleType.{RattleType}
 use lib.ListN.{length}
+use mir.Syntax.{Dict}
+use Rattle.core.specs.declared.clone.Clone as clone
 use Rattle.exact.specs.Determined.{DeterminedWith}
 use Rattle.lens.proofs.Laws.{number_one_to_one}
 use Rattle.camera.specs.Camera.{limit}
@@ -26,23 +30,23 @@ use Rattle.plans.proofs.Refusals.{doable_most, refused_told, told_refused}
 use Rattle.plans.proofs.Same.{built_same}
 use Rattle.alike_plans.specs.AlikePlans.{BuiltAlike}
 use Rattle.alike_plans.proofs.Laws.{alike_units, alike_unsettled, alike_first}
-use Rattle.table_plans.specs.Tables.{full_sweep, sweep_of, f32s, full_table, table_of, table_before, f32_table, one_of}
+use Rattle.cell.specs.declared.CellNumber as cell-number
+use Rattle.table_plans.specs.Tables.{full_sweep, sweep_of, Kind, f32s, full_table, table_of, table_before, one_of}
 use Rattle.table_plans.specs.Tables.{unit_numbers}
 use Rattle.table_plans.proofs.Laws as tables
 use Rattle.table_plans.proofs.Numbers.{said_known, turn_known}
-use Rattle.table_plans.proofs.Sound.{opened, f32_fit, kind_sound, before_sound, f32_sound}
+use Rattle.table_plans.proofs.Sound.{opened, Fit, f32_fit, kind_sound, before_sound}
 use Rattle.job.specs.Job.{fresh_job}
 use Rattle.job.specs.Job as job
 use Rattle.job.specs.declared.Job.{Job}
-use Rattle.distortion_table.specs.Answer.{Answer, answer, enough, whole_table, told_status, told_turned}
+use Rattle.distortion_table.specs.Answer.{Answer, answer, turn_of, enough, whole_table, told_status, told_turned}
 use Rattle.distortion_table.specs.Held.{Held, handed_back, held_plan, held_state, BuiltJob}
 use Rattle.distortion_table.specs.declared.Status.{Status}
 use Rattle.distortion_table.specs.declared.Status.TheVariants.{Finished, Refused, Running}
 use Rattle.distortion_table.specs.declared.Turned.{Turned}
-use Rattle.distortion_table.proofs.Calls.{largest, Turns, turn_serves, f32_turns, Called, build_keeps, same_held}
+use Rattle.distortion_table.proofs.Calls.{largest, Turns, turn_serves, build_keeps, same_held}
 use Rattle.distortion_table.proofs.Calls.{same_table_of, taken_turn, fresh_opens, start_admitted, answer_is}
 use Rattle.distortion_table.proofs.turn.Reads as turn-contract
-use Rattle.distortion_table.proofs.turn16.Reads as turn16-contract
 use Rattle.distortion_table.proofs.distort_table.Reads as distort-table-contract
 
 -- ---- demand 3
@@ -56,8 +60,8 @@ pub within_limit : (camera : Camera) (width height : ℕ) (strict : Bool) (n : �
     → (settled_at (full_sweep camera width height strict) n).updates ≤ limit camera
 within_limit camera width height strict n = updates_limit_judged camera (border_at width height n)
 
--- Each law below is of calls that answer the turn of some kind of cell: `f32_turns`, the calls of `turn`, and
--- `i16_turns`, those of `turn16`, are such.
+-- Each law below is of calls that answer the turn of some kind of cell: the calls of `turn` at any type of number are
+-- such (`turns`).
 module _ {X : Type 0} (t : Turns X) (camera : Camera) (width height : ℕ) (strict : Bool) (table : List X) where
   abbrev start : Held X
   start = first camera width height strict table
@@ -309,47 +313,70 @@ module _
 -- ---- the table at once, which isn't strict
 
 module _
+    {X : Type 0} (kind : Kind X) (fit : Fit kind)
     (camera : Camera) (width height : ℕ) (start : Job) (begin : job.fresh camera width height false ≡ Ok start)
-    (table : List Float) (long : length table ≡ 2 * (width * height))
+    (table : List X) (long : length table ≡ 2 * (width * height))
   where
-    at_once_is :
-        whole_table camera width height table
-        ≡ answer (fresh_job camera width height false)
-        (turn (next (f32_table camera width height false)) enough (fresh table))
-    at_once_is = answer_is camera width height false f32s f32_fit
+    -- of f32s this is `whole_table`
+    abbrev pub whole_turn : Answer X
+    whole_turn = turn_of kind (fresh_job camera width height false) table enough
+
+    abbrev plan_at_once : Plan X
+    plan_at_once = table_of kind camera width height false
+
+    at_once_is : whole_turn ≡ answer (fresh_job camera width height false) (turn (next plan_at_once) enough (fresh table))
+    at_once_is = answer_is camera width height false kind fit
         (fresh_opens camera width height false start begin).0 table long enough
 
     enough_units : all_units width height ≤ enough
     enough_units = largest width height (opened camera width height _
         (fresh_opens camera width height false start begin).0).size
 
-    abbrev once : State Float
-    once = (turn (next (f32_table camera width height false)) enough (fresh table)).state
+    abbrev once : State X
+    once = (turn (next plan_at_once) enough (fresh table)).state
+
+    -- It is finished, or refused at a unit: it never says running.
+    pub whole_turn_ends : whole_turn.said ≡ running → ⊥
+    whole_turn_ends e =
+        ends.never_running plan_at_once (fresh table) (omega arith) enough enough_units
+        (sym (ap (λ (x : Answer X). x.said) at_once_is) ∙ e)
+
+module _
+    {X : Type 0} (t : Turns X)
+    (camera : Camera) (width height : ℕ) (start : Job) (begin : job.fresh camera width height false ≡ Ok start)
+    (table : List X) (long : length table ≡ 2 * (width * height))
+  where
+    abbrev the_plan : Plan X
+    the_plan = plan_at_once t.kind t.fit camera width height start begin table long
 
     -- The table at once is that of any build, not strict, that is allowed T units or more: the same record, the same
-    -- cells;
+    -- cells.
     pub at_once :
-        (allowances : List ℕ) (last : Held Float)
-        → Build (Held Float) Called allowances (first camera width height false table) last
-        → all_units width height ≤ total allowances → last ≡ handed_back (whole_table camera width height table)
+        (allowances : List ℕ) (last : Held X)
+        → Build (Held X) t.Called allowances (first camera width height false table) last
+        → all_units width height ≤ total allowances
+        → last ≡ handed_back (whole_turn t.kind t.fit camera width height start begin table long)
     at_once allowances last calls h =
-        let p = f32_table camera width height false in
+        let p = the_plan in
+        let few = enough_units t.kind t.fit camera width height start begin table long in
         let e = ends.enough_for p (fresh table) (omega arith) (total allowances) h in
-        let f = ends.enough_for p (fresh table) (omega arith) enough enough_units in
-        let c = plans.as_defined p (f32_sound camera width height false) table long in
+        let f = ends.enough_for p (fresh table) (omega arith) enough few in
+        let c = plans.as_defined p (kind_sound camera width height t.kind t.fit false) table long in
         let whole = subst (Built p table (total allowances)) (e ∙ sym f) (c (total allowances)) in
-        let b = built_in_turns f32_turns camera width height false table allowances last calls in
+        let b = built_in_turns t camera width height false table allowances last calls in
         same_held last (handed_back (answer (fresh_job camera width height false) (turn (next p) enough (fresh table))))
         b.same_camera b.same_width b.same_height b.same_strict
-        (built_same p table (total allowances) (total allowances) (held_state last) once
-        (mine f32_turns camera width height false start begin table long allowances last calls) whole refl)
-        ∙ sym (ap handed_back at_once_is)
+        (built_same p table (total allowances) (total allowances) (held_state last)
+        (once t.kind t.fit camera width height start begin table long)
+        (mine t camera width height false start begin table long allowances last calls) whole refl)
+        ∙ sym (ap handed_back (at_once_is t.kind t.fit camera width height start begin table long))
 
-    -- and it is finished, or refused at a unit: it never says running.
-    pub at_once_ends : (whole_table camera width height table).said ≡ running → ⊥
-    at_once_ends e =
-        ends.never_running (f32_table camera width height false) (fresh table) (omega arith) enough enough_units
-        (sym (ap (λ (x : Answer Float). x.said) at_once_is) ∙ e)
+-- The table of f32s at once is finished, or refused at a unit: it never says running.
+pub at_once_ends :
+    (camera : Camera) (width height : ℕ) (start : Job) → job.fresh camera width height false ≡ Ok start
+    → (table : List Float) → length table ≡ 2 * (width * height)
+    → (whole_table camera width height table).said ≡ running → ⊥
+at_once_ends = whole_turn_ends f32s f32_fit
 
 -- ---- each contract permits one answer
 
@@ -375,13 +402,13 @@ same_turned {X} r r' c c' e =
 pub same_table : {X : Type 0} (r r' : Turned) (c c' : List X) → told_turned r c ≡ told_turned r' c' → c ≡ c'
 same_table {X} r r' c c' e = ap (λ (t : Answer X). t.cells) e
 
--- Any two answers to one call that the contract of `turn` permits are equal, and so are any two tables at the return;
-pub turn_determined : DeterminedWith turn-contract.Post (λ κ s. s.1.0.now)
-turn_determined κ a s s' r r' p q = (same_turned r r' _ _ (p ∙ sym q), same_table r r' _ _ (p ∙ sym q))
-
--- so for `turn16`,
-pub turn16_determined : DeterminedWith turn16-contract.Post (λ κ s. s.1.0.now)
-turn16_determined κ a s s' r r' p q = (same_turned r r' _ _ (p ∙ sym q), same_table r r' _ _ (p ∙ sym q))
+-- Any two answers to one call that the contract of `turn` permits, at any type of number, are equal, and so are any two
+-- tables at the return;
+pub turn_determined :
+    (g : RattleType) (l : Laws g) (c : IsCopy g) (number : cell-number.Ghosts g.Denot) (d : Dict)
+    (copied : clone.Ghosts g.Denot) (e : Dict)
+    → DeterminedWith (turn-contract.Post g l c number d copied e) (λ κ s. s.1.0.now)
+turn_determined g l c number d copied e κ a s s' r r' p q = (same_turned r r' _ _ (p ∙ sym q), same_table r r' _ _ (p ∙ sym q))
 
 -- and for `distort_table`.
 pub distort_table_determined : DeterminedWith distort-table-contract.Post (λ κ s. s.1.1.1.0.now)

@@ -1,5 +1,5 @@
 -- What the parts of a turn's code ask and give; no caller meets these. Definitions only.
-use Rattle.std.specs.Prelude.{cond, List, ℕ, ◌+◌, ◌-◌, ◌*◌, ◌^◌, ◌≤◌, ◌<◌, min, ltb}
+use Rattle.std.specs.Prelude.{cond, List, ℕ, ◌+◌, ◌-◌, ◌*◌, ◌^◌, ◌≤◌, ◌<◌, min, ltb, Result, Ok, Err}
 use Rattle.lens.specs.Judgement.{decided}
 use Rattle.lens.specs.Refusal.{number}
 use Rattle.border.specs.Border.{samples, all_units}
@@ -10,10 +10,9 @@ use Rattle.sweep.specs.Sweep.{run, told_refusal}
 use Rattle.job.specs.Job.{admitted}
 use Rattle.job.specs.declared.Job.{Job}
 use Rattle.distortion_table.specs.Answer.{told_status}
-use Rattle.distortion_table.specs.declared.Due.{Due}
-use Rattle.distortion_table.specs.declared.Due.TheVariants.{Over, Cells}
 use Rattle.distortion_table.specs.declared.Ended.{Ended}
 use Rattle.distortion_table.specs.declared.Filled.{Filled}
+use Rattle.distortion_table.specs.declared.Run.{Run}
 use Rattle.distortion_table.specs.declared.Turned.{Turned}
 
 -- ---- what the answers of the parts say, with the table as it is then
@@ -40,9 +39,9 @@ pub data ToDo : Type 0 where
   over : Said → Progress → ToDo
   cells : Progress → ℕ → ℕ → ℕ → ToDo
 
-abbrev pub told_due : Due → ToDo
-told_due (Over e) = over (told_status e.status) e.at
-told_due (Cells r) = cells r.at r.all r.first r.count
+abbrev pub told_due : Result Run Ended → ToDo
+told_due (Err e) = over (told_status e.status) e.at
+told_due (Ok r) = cells r.at r.all r.first r.count
 
 -- its border units are done, and so many of its allowance are left
 abbrev pub behind_border : ℕ → ℕ → ℕ → Progress → ToDo

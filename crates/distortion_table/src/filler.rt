@@ -1,17 +1,16 @@
-// The cells of a table of f32s: runs of cells into the part of the table that is lent.
+// The cells of a table, of either kind: runs of cells into the part of the table that is lent.
 ghost use Rattle.std.specs.Prelude.{◌≡◌, ◌+◌, ◌*◌, ◌^◌, ◌≤◌, ◌<◌, length};
 ghost use Rattle.engine.specs.Engine.{distort};
 ghost use Rattle.turns.specs.Turns.{turn, met};
 ghost use Rattle.plans.specs.Loops.{filled, Lent};
-ghost use Rattle.cell.specs.Cell.{f32, cell_by};
-ghost use Rattle.table_plans.specs.Tables.{f32s};
+ghost use Rattle.cell.specs.Cell.{cell_by};
 ghost use Rattle.sweep.specs.Sweep.{told_refusal};
 ghost use Rattle.distortion_table.specs.Answer.{plan_of};
 ghost use Rattle.distortion_table.specs.Parts.{told_filled, InPlace};
 
 use crate::{Filled, Place, Run};
 use camera::Camera;
-use cell::Cell;
+use cell::CellNumber;
 use job::Job;
 use region::{Increments, Region};
 
@@ -31,8 +30,8 @@ pub(crate) fn next_place(place: Place, width: usize) -> Place
 }
 
 // So many cells, or fewer if one refuses, into the part of the table that begins with the first.
-fn fill(
-    rest: &mut [f32],
+fn fill<N: CellNumber>(
+    rest: &mut [N],
     camera: Camera,
     short: bool,
     region: Region,
@@ -43,41 +42,39 @@ fn fill(
 ) -> Filled
     requires { (0 < width) × (first + count < 2 ^ 32) × (2 * count ≤ length rest.old) }
     ensures { told_filled result rest.new
-        ≡ met (turn (filled (cell_by (distort camera short) f32 region by) width first) count
+        ≡ met (turn (filled (cell_by (distort camera short) N.kind.holds region by) width first) count
         record { done = 0; cells = rest.old }) }
 {
     let mut place = Place {
         u: first % width,
         v: first / width,
     };
-    let mut i = 0;
-    while i < count {
-        match cell::cell_at(camera, short, region, by, place.u, place.v) {
-            Cell::Refused(refusal) => {
+    for i in 0..count {
+        // A refusal goes out with the count of the cells before it, which `?` would lose.
+        let (a, b) = match cell::cell_at(camera, short, region, by, place.u, place.v) {
+            Ok(cell) => cell,
+            Err(refusal) => {
                 return Filled {
                     done: i,
                     refusal: Err(refusal),
                 };
             }
-            Cell::Holds(a, b) => {
-                rest[2 * i] = a;
-                rest[2 * i + 1] = b;
-            }
-        }
+        };
+        rest[2 * i] = a;
+        rest[2 * i + 1] = b;
         place = next_place(place, width);
-        i += 1;
     }
     Filled {
-        done: i,
+        done: count,
         refusal: Ok(()),
     }
 }
 
 // A turn's cells: the part of the table that begins with the first is lent to the filler, and what is ahead of it is
 // not.
-pub(crate) fn lend(table: &mut [f32], job: Job, run: Run) -> Filled
+pub(crate) fn lend<N: CellNumber>(table: &mut [N], job: Job, run: Run) -> Filled
     requires { InPlace job.width run.first run.count (length table.old) }
-    ensures { Lent ((plan_of f32s job).cell run.at.region) job.width run.first run.count
+    ensures { Lent ((plan_of N.kind job).cell run.at.region) job.width run.first run.count
         table.old result.done (told_refusal result.refusal) table.new }
 {
     let camera = job.camera;

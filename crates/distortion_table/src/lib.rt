@@ -7,15 +7,14 @@ ghost use Rattle.std.specs.Prelude.{◌≡◌, ◌+◌, ◌≤◌};
 ghost use Rattle.region.specs.Size.{Sized};
 ghost use Rattle.plans.specs.Loops.{reached, after_run};
 ghost use Rattle.plans.specs.Plan.{with_done};
-ghost use Rattle.table_plans.specs.Tables.{f32s, i16s};
 ghost use Rattle.sweep.specs.Sweep.{told_refusal};
 ghost use Rattle.distortion_table.specs.Answer.{turn_of, told_status, told_turned, whole_table};
 ghost use Rattle.distortion_table.specs.Parts.{told_due, behind_border, by_border, to_do, handed};
 
 mod filler;
-mod filler16;
 
 use camera::Camera;
+use cell::CellNumber;
 use job::Job;
 use lens::Refusal;
 use plans::Progress;
@@ -51,13 +50,6 @@ struct Ended {
     pub at: Progress,
 }
 
-// What is left of a turn when its border units are done: nothing, or cells.
-#[derive(Clone, Copy)]
-enum Due {
-    Over(Ended),
-    Cells(Run),
-}
-
 // What a turn says at its end.
 #[derive(Clone, Copy)]
 pub enum Status {
@@ -73,8 +65,8 @@ pub struct Turned {
     pub job: Job,
 }
 
-// What is left of a turn whose border units are done, so many of its allowance being left.
-fn cells_due(width: usize, height: usize, at: Progress, left: usize) -> Due
+// What is left of a turn whose border units are done, so many of its allowance being left: its cells, or it is over.
+fn cells_due(width: usize, height: usize, at: Progress, left: usize) -> Result<Run, Ended>
     requires { Sized width height }
     ensures { told_due result ≡ behind_border width height left at }
 {
@@ -82,13 +74,13 @@ fn cells_due(width: usize, height: usize, at: Progress, left: usize) -> Due
     let all = border + width * height;
     let done = at.done;
     if done < border {
-        return Due::Over(Ended {
+        return Err(Ended {
             status: Status::Running,
             at,
         });
     }
     let count = sweep::due(done, all, left);
-    Due::Cells(Run {
+    Ok(Run {
         at,
         all,
         first: done - border,
@@ -97,7 +89,7 @@ fn cells_due(width: usize, height: usize, at: Progress, left: usize) -> Due
 }
 
 // The border units of a turn whose record is admitted, and what is left of it.
-fn border_due(job: Job, allowance: usize) -> Due
+fn border_due(job: Job, allowance: usize) -> Result<Run, Ended>
     requires { Sized job.width job.height }
     ensures { told_due result ≡ by_border job allowance }
 {
@@ -111,7 +103,7 @@ fn border_due(job: Job, allowance: usize) -> Due
     let refusal = stop.refusal;
     let after = stop.at;
     match refusal {
-        Err(r) => Due::Over(Ended {
+        Err(r) => Err(Ended {
             status: Status::Refused(r),
             at: after,
         }),
@@ -121,12 +113,12 @@ fn border_due(job: Job, allowance: usize) -> Due
 
 // A turn up to its cells, whatever these hold: the record is judged, and its border units are done. `places` is the
 // length of the table.
-fn up_to_cells(job: Job, places: usize, allowance: usize) -> Due
+fn up_to_cells(job: Job, places: usize, allowance: usize) -> Result<Run, Ended>
     ensures { told_due result ≡ to_do job places allowance }
 {
     let at = job.at;
     match job::admitted(job, places) {
-        Err(refusal) => Due::Over(Ended {
+        Err(refusal) => Err(Ended {
             status: Status::Refused(refusal),
             at,
         }),
@@ -138,17 +130,11 @@ fn up_to_cells(job: Job, places: usize, allowance: usize) -> Due
 fn handed(job: Job, ended: Ended) -> Turned
     ensures { result ≡ handed job ended }
 {
-    let camera = job.camera;
-    let status = ended.status;
-    let at = ended.at;
     Turned {
-        status,
+        status: ended.status,
         job: Job {
-            camera,
-            width: job.width,
-            height: job.height,
-            strict: job.strict,
-            at,
+            at: ended.at,
+            ..job
         },
     }
 }
@@ -157,16 +143,7 @@ fn handed(job: Job, ended: Ended) -> Turned
 fn with_done(at: Progress, done: usize) -> Progress
     ensures { result ≡ with_done at done }
 {
-    let edges = at.edges;
-    let region = at.region;
-    Progress {
-        done,
-        edges,
-        region,
-        updates: at.updates,
-        unsettled: at.unsettled,
-        first: at.first,
-    }
+    Progress { done, ..at }
 }
 
 // What a turn says that nothing refused.
@@ -204,22 +181,12 @@ fn end(run: Run, filled: Filled) -> Ended
 }
 
 // One turn: so many units, or fewer if one refuses or none is left.
-pub fn turn(job: Job, table: &mut [f32], allowance: usize) -> Turned
-    ensures { told_turned result table.new ≡ turn_of f32s job table.old allowance }
+pub fn turn<N: CellNumber>(job: Job, table: &mut [N], allowance: usize) -> Turned
+    ensures { told_turned result table.new ≡ turn_of N.kind job table.old allowance }
 {
     match up_to_cells(job, table.len(), allowance) {
-        Due::Over(ended) => handed(job, ended),
-        Due::Cells(run) => handed(job, end(run, filler::lend(table, job, run))),
-    }
-}
-
-// The same of a table of sixteen-bit numbers.
-pub fn turn16(job: Job, table: &mut [i16], allowance: usize) -> Turned
-    ensures { told_turned result table.new ≡ turn_of i16s job table.old allowance }
-{
-    match up_to_cells(job, table.len(), allowance) {
-        Due::Over(ended) => handed(job, ended),
-        Due::Cells(run) => handed(job, end(run, filler16::lend(table, job, run))),
+        Err(ended) => handed(job, ended),
+        Ok(run) => handed(job, end(run, filler::lend(table, job, run))),
     }
 }
 

@@ -1,12 +1,8 @@
 -- `distortion_table::filler::fill` meets its contract. Its loop is the filler's of plans, whatever a cell holds two of. Assumes nothing.
-use Prim.Native.Nat.{◌-◌}
 use Rattle.engine.specs.Engine.{distort}
 use Rattle.plans.proofs.Filler.{Filled}
-use Rattle.cell.specs.Cell.{f32, cell_by}
+use Rattle.cell.specs.Cell.{cell_by}
 use Rattle.distortion_table.proofs.filler.fill.Given as goal
 
 abbrev pub invariant-loop-i : goal.invariant-loop-i
-invariant-loop-i l = Filled (cell_by (distort l.camera l.short) f32 l.region l.by) l.width l.first l.count l.initial.rest l.place.u l.place.v l.i l.rest
-
-abbrev pub decreases-loop-i : goal.decreases-loop-i
-decreases-loop-i l = l.count - l.i
+invariant-loop-i g l = Filled (cell_by (distort l.camera l.short) g.N.CellNumber.kind.holds l.region l.by) l.width l.first l.count l.initial.rest l.place.u l.place.v l.i l.rest
