@@ -3,11 +3,13 @@
 // bytes.
 #![tactic(auto)]
 
+mod cases;
 mod files;
 
 ghost use Rattle.std.specs.Prelude.{cond, ◌≡◌, ltb, length};
 ghost use Rattle.io.specs.Counts.{IsPrefixLen};
 
+pub use cases::{Out, next_part, read_full};
 pub use files::{argument, fail, is_given, open};
 
 const STDIN_FILENO: i32 = 0;

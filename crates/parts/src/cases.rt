@@ -1,0 +1,98 @@
+// What programs that only test share: they read cases from standard input, answer each on standard output, and tell at
+// the end how many there were. A case is a line of fields, all lines of one length, or it is some parts. A part is four
+// bytes that tell its length, the least first, and so many bytes.
+ghost use Rattle.std.specs.Prelude.{◌≤◌, length};
+
+use std::io;
+use std::io::{BufWriter, Printer, Read, StdinLock, Write};
+
+// Where a test writes.
+pub type Out<'a> = BufWriter<Printer<'a, HostRuntime>>;
+
+// Reads until the room is full, the input ends or a read fails, and gives what was read.
+pub fn read_full<'a, R: Read>(input: &mut R, room: &'a mut [u8]) -> &'a [u8]
+    ensures { length result.now ≤ length room.old }
+{
+    let mut n = 0;
+    while n < room.len() {
+        match input.read(&mut room[n..]) {
+            Ok(0) | Err(_) => break,
+            Ok(more) => n += more,
+        }
+    }
+    &room[..n]
+}
+
+// Reads the next part: nothing where it is empty, where the input ends, or where it tells of more than there is room
+// for.
+pub fn next_part<'a, R: Read>(input: &mut R, room: &'a mut [u8]) -> &'a [u8]
+    ensures { length result.now ≤ length room.old }
+{
+    let mut length = [0u8; 4];
+    if read_full(input, &mut length).len() < 4 {
+        return &[];
+    }
+    let n = u32::from_le_bytes(length) as usize;
+    match room.get_mut(..n) {
+        Some(part) => read_full(input, part),
+        None => &[],
+    }
+}
+
+// Answers one case after the other, as long as `answer` says that there was one, and writes how many there were.
+fn count_answered<W: Write, F: FnMut(&mut W) -> io::Result<bool>>(
+    out: &mut W,
+    name: &str,
+    mut answer: F,
+) -> io::Result<()>
+    requires { (state : F) (out : _) → F.pre state out }
+{
+    let mut count = 0;
+    for n in 1..=u64::MAX {
+        if !answer(out)? {
+            break;
+        }
+        count = n;
+    }
+    writeln!(out, "{name}\t{count}")?;
+    out.flush()
+}
+
+// Lends a test standard input and a buffered standard output until no case is left. What can't be written is let go:
+// nobody is left to tell.
+pub fn answer_all<F: FnMut(&mut StdinLock<'_>, &mut Out<'_>) -> io::Result<bool>>(
+    rt: &HostRuntime,
+    name: &str,
+    mut answer: F,
+)
+    requires { (state : F) (x : _) (out : _) → F.pre state x out }
+{
+    let mut input = rt.reader();
+    if let Ok(mut out) = BufWriter::new(rt.alloc(), io::writer(rt)) {
+        let _ = count_answered(&mut out, name, |out| answer(&mut input, out));
+    }
+}
+
+// The same where each case is a line as long as the room. A last line that the input cuts off is bad, however much of
+// it is there.
+pub fn answer_lines<F: FnMut(&[u8], &mut Out<'_>) -> io::Result<()>>(
+    rt: &HostRuntime,
+    room: &mut [u8],
+    mut answer: F,
+)
+    requires { (state : F) (line : _) (out : _) → F.pre state line out }
+{
+    let most = room.len();
+    answer_all(rt, "lines", |input, out| {
+        let line = read_full(input, room);
+        if line.is_empty() {
+            return Ok(false);
+        }
+        if line.len() < most {
+            out.write_all(b"bad\n")?;
+        } else {
+            answer(line, out)?;
+        }
+        Ok(true)
+    });
+}
