@@ -2,7 +2,7 @@
 use mathlib.Core.Path.{◌≡◌, refl, sym, ap, ap₂, ◌∙◌}
 use mathlib.Core.Bool.{true, ◌&&◌}
 use mathlib.Core.List.{List, ◌∷◌, ◌++◌, append_assoc}
-use Prim.Native.Nat.{ℕ, ◌+◌, ◌≤◌, ◌<◌}
+use Prim.Native.Nat.{ℕ, ◌≤◌, ◌<◌}
 use native.Mathlib.Omega.{arith}
 use borrow.Author.Tests.{le-leb, leb-true, lt-ltb, ltb-true}
 use lib.Dec.{leb, ltb}
@@ -51,7 +51,6 @@ module _ (file : CameraFile) (form : Form file) where
 
   -- where each field starts
   to_name : past tab (text_of file) ≡ named
-  unfolding all
   to_name = ap (past tab) flat ∙ past_is tab named camera_word refl
 
   to_width : past tab (past tab (text_of file)) ≡ wide
@@ -68,7 +67,6 @@ module _ (file : CameraFile) (form : Form file) where
 
   -- each field
   the_word : before tab (text_of file) ≡ camera_word
-  unfolding all
   the_word = ap (before tab) flat ∙ before_is tab named camera_word refl
 
   the_name : before tab (past tab (text_of file)) ≡ file.name

@@ -2,4 +2,3 @@ pub mod Text
 pub mod Reading
 pub mod Asked
 pub mod Rows
-pub mod Steps

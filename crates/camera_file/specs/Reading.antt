@@ -1,7 +1,6 @@
 -- How a camera file's text is read: field by field, each up to its tab or newline. Where one of these is missing, the
 -- field after it is empty, and no field may be empty. Definitions only.
-use Rattle.std.specs.Prelude.{Bool, cond, ◌&&◌, List, ℕ, leb, ltb, length}
-use Rattle.std.proofs.Math.Option.{Option, none, some}
+use Rattle.std.specs.Prelude.{Bool, cond, ◌&&◌, Option, Some, None, List, ℕ, leb, ltb, length}
 use Rattle.decimal.specs.Decimal.{worth, is_number}
 use Rattle.decimal.specs.Text.{tab, newline, all, same, before, past}
 use Rattle.params_line.specs.Params.{is_params, params_of}
@@ -42,4 +41,4 @@ file_of text =
     }
 
 unfoldable pub read : List ℕ → Option CameraFile
-read text = cond (is_file text) (some (file_of text)) none
+read text = cond (is_file text) (Some (file_of text)) None

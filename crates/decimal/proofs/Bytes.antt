@@ -4,10 +4,9 @@ use mathlib.Core.Bool.{Bool, true, false, not, ◌&&◌, true≢false, false≢t
 use mathlib.Core.List.{List, [], ◌∷◌, ◌++◌}
 use Prim.Native.Nat.{ℕ, ◌+◌, ◌≤◌, ◌<◌}
 use native.Mathlib.Numerals.{add-one}
-use borrow.Author.Tests.{eq-eqb, eqb-true}
-use lib.Dec.{eqb}
 use lib.ListN.{length, get_or, drop, drop_of_length-le}
 use lib.Seq.{drop-cons}
+use Rattle.std.proofs.lemmas.Slice.Eq.{bytes_eq-Decides}
 use Rattle.decimal.specs.Text.{all, same}
 
 -- ---- two tests
@@ -27,7 +26,6 @@ both {a} {b} e f = ap (λ (t : Bool). t && b) e ∙ f
 
 module _ (test : ℕ → Bool) (l : List ℕ) (i : ℕ) (h : i < length l) where
   judged : (b : Bool) → b ≡ test (get_or l i 0) → all test (drop i l) ≡ (b && all test (drop (i + 1) l))
-  unfolding all
   judged b e = rw (e, add-one, drop-cons l i 0) refl
 
   pub ends : {x : Bool} (b : Bool) → b ≡ test (get_or l i 0) → not b ≡ true → all test (drop i l) ≡ x → false ≡ x
@@ -39,36 +37,16 @@ module _ (test : ℕ → Bool) (l : List ℕ) (i : ℕ) (h : i < length l) where
   goes_on false e n d = absurd (true≢false n)
 
 pub at_end : (test : ℕ → Bool) (l : List ℕ) (i : ℕ) → length l ≤ i → true ≡ all test (drop i l)
-unfolding all
 at_end test l i h = rw (drop_of_length-le l h) refl
 
 pub all_append : (test : ℕ → Bool) (s t : List ℕ) → all test s ≡ true → all test t ≡ true → all test (s ++ t) ≡ true
-unfolding all
 all_append test [] t e f = f
 all_append test (x ∷ s) t e f = both (and_left (test x) (all test s) e) (all_append test s t (and_right (test x) (all test s) e) f)
 
 -- ---- two texts
 
 pub same_self : (s : List ℕ) → same s s ≡ true
-unfolding same
-same_self [] = refl
-same_self (x ∷ s) = simp (eq-eqb x x refl) (same_self s)
+same_self s = (bytes_eq-Decides s s).1 refl
 
 pub same_true : (s t : List ℕ) → same s t ≡ true → s ≡ t
-unfolding same
-same_true [] [] e = refl
-same_true [] (y ∷ t) e = absurd (false≢true e)
-same_true (x ∷ s) [] e = absurd (false≢true e)
-same_true (x ∷ s) (y ∷ t) e =
-    let h : x ≡ y = eqb-true x y (and_left (eqb x y) (same s t) e) in
-    let r : s ≡ t = same_true s t (and_right (eqb x y) (same s t) e) in
-    cc
-
--- as `check::same` tells
-pub matched : (s t : List ℕ) (r : Bool) → (r ≡ true → s ≡ t) × (s ≡ t → r ≡ true) → r ≡ same s t
-matched s t r p = by_value r (same s t) refl refl
-  where
-    by_value : (a b : Bool) → r ≡ a → same s t ≡ b → r ≡ same s t
-    by_value true b e f = e ∙ sym (ap (same s) (sym (p.0 e)) ∙ same_self s)
-    by_value false true e f = absurd (true≢false (sym (p.1 (same_true s t f)) ∙ e))
-    by_value false false e f = e ∙ sym f
+same_true s t e = (bytes_eq-Decides s t).0 e

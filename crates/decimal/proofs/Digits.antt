@@ -125,7 +125,6 @@ digit_glyph : (d : ℕ) → d < 10 → digit (hex_digit_ascii d) ≡ true
 digit_glyph d h = ap digit (glyph_ten d h) ∙ digit_yes (48 + d) (omega arith) (omega arith)
 
 all_digits : (k n : ℕ) → all digit (last_digits 10 k n) ≡ true
-unfolding all
 all_digits zero n = refl
 all_digits (suc k) n =
     all_append digit (last_digits 10 k (n / 10)) (hex_digit_ascii (n % 10) ∷ []) (all_digits k (n / 10)) (both (digit_glyph (n % 10) (mod-lt n (omega arith))) refl)
@@ -169,7 +168,7 @@ one_worth j m b h l =
     ap₂ (λ (a d : ℕ). last_digits 10 j a ++ (d ∷ [])) q (ap hex_digit_ascii r ∙ glyph_ten (b - 48) (omega arith) ∙ g)
 
 pub digits_worth : (field : List ℕ) (j m : ℕ) → all digit field ≡ true → last_digits 10 j m ++ field ≡ last_digits 10 (j + length field) (worth m field)
-unfolding all worth
+unfolding worth
 digits_worth [] j m e =
     let k : j ≡ j + 0 = omega arith in
     append-nil (last_digits 10 j m) ∙ ap (λ (i : ℕ). last_digits 10 i m) k
@@ -189,7 +188,7 @@ pub worth_between :
     (m : ℕ) (field : List ℕ) →
     all digit field ≡ true →
     (m * 10 ^ length field ≤ worth m field) × (worth m field < (m + 1) * 10 ^ length field)
-unfolding all worth
+unfolding worth
 worth_between m [] e = (omega arith, omega arith)
 worth_between m (b ∷ field) e =
     let d = digit_range b (and_left (digit b) (all digit field) e) in

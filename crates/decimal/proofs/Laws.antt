@@ -5,7 +5,7 @@ use mathlib.Core.List.{List}
 use Prim.Native.Nat.{ℕ, ◌≤◌}
 use Rattle.exact.specs.Determined.{Determined}
 use Rattle.decimal.specs.Decimal.{decimal, said, number_in}
-use Rattle.decimal.specs.declared.Number.TheVariants.{Is}
+use Rattle.std.proofs.Common.{Some}
 use Rattle.decimal.proofs.Digits.{decimal_worth}
 use Rattle.decimal.proofs.Numbers.{decimal_number, number_decimal, number_range, number_is}
 use Rattle.decimal.proofs.digit.Reads as digit-contract
@@ -15,11 +15,11 @@ use Rattle.decimal.proofs.place.Reads as place-contract
 -- ---- reading and writing
 
 -- A number of 1 to 9999 that is written is read as that number.
-pub written_number : (n : ℕ) → 1 ≤ n → n ≤ 9999 → number_in (decimal n) ≡ Is n
-written_number n some few = ap (λ (t : Bool). said t (decimal n)) (decimal_number n some few) ∙ ap Is (decimal_worth n)
+pub written_number : (n : ℕ) → 1 ≤ n → n ≤ 9999 → number_in (decimal n) ≡ Some n
+written_number n some few = ap (λ (t : Bool). said t (decimal n)) (decimal_number n some few) ∙ ap Some (decimal_worth n)
 
 -- A field that is read as a number is what is written of it, and the number is one of these.
-pub number_written : (field : List ℕ) (n : ℕ) → number_in field ≡ Is n → (field ≡ decimal n) × (1 ≤ n) × (n ≤ 9999)
+pub number_written : (field : List ℕ) (n : ℕ) → number_in field ≡ Some n → (field ≡ decimal n) × (1 ≤ n) × (n ≤ 9999)
 number_written field n e =
     let p = number_is field n e in
     let r = number_range field p.0 in

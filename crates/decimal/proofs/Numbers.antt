@@ -13,7 +13,7 @@ use lib.Seq.{drop-cons}
 use Rattle.io.specs.Digits.{last_digits as digits}
 use Rattle.decimal.specs.Text.{all}
 use Rattle.decimal.specs.Decimal.{decimal, digit, worth, is_number, said, number_in}
-use Rattle.decimal.specs.declared.Number.TheVariants.{Is, NotANumber}
+use Rattle.std.proofs.Common.{Some, None}
 use Rattle.decimal.proofs.Bytes.{and_left, and_right, both, ends, goes_on, at_end}
 use Rattle.decimal.proofs.Digits.{digit_range, digits_worth, worth_between, decimal_is, decimal_digits, decimal_some, decimal_short, decimal_lead}
 
@@ -53,7 +53,7 @@ module _ (field : List ℕ) (e : is_number field ≡ true) where
 -- a first digit that is not 0 makes the field worth its length
 between : (field : List ℕ) → 0 < length field → (get_or field 0 0 ≡ 48 → ⊥) → all digit field ≡ true →
     (10 ^ (length field - 1) ≤ worth 0 field) × (worth 0 field < 10 ^ length field)
-unfolding all worth
+unfolding worth
 between [] h n e = absurd (omega arith)
 between (a ∷ rest) h n e =
     let d = digit_range a (and_left (digit a) (all digit rest) e) in
@@ -96,33 +96,33 @@ module _ (field : List ℕ) where
   unfolding is_number
   number_read full short lead = simp (lt-ltb 0 (length field) full, le-leb (length field) 4 short, ne_eqb (get_or field 0 0) 48 lead)
 
-  pub number_zero : 0 < length field → length field ≤ 4 → get_or field 0 0 ≡ 48 → NotANumber ≡ number_in field
+  pub number_zero : 0 < length field → length field ≤ 4 → get_or field 0 0 ≡ 48 → None ≡ number_in field
   unfolding is_number
   number_zero full short lead = simp (lt-ltb 0 (length field) full, le-leb (length field) 4 short, eq-eqb (get_or field 0 0) 48 lead)
 
-  pub number_long : 0 < length field → 4 < length field → NotANumber ≡ number_in field
+  pub number_long : 0 < length field → 4 < length field → None ≡ number_in field
   unfolding is_number
   number_long full long = simp (lt-ltb 0 (length field) full, lt-leb (length field) 4 long)
 
-  pub number_empty : length field ≤ 0 → NotANumber ≡ number_in field
+  pub number_empty : length field ≤ 0 → None ≡ number_in field
   unfolding is_number
   number_empty h = simp (le-ltb 0 (length field) h)
 
 -- ---- what an answer tells of the field
 
 module _ (field : List ℕ) where
-  by_test : (n : ℕ) (t : Bool) → is_number field ≡ t → said t field ≡ Is n → (is_number field ≡ true) × (worth 0 field ≡ n)
+  by_test : (n : ℕ) (t : Bool) → is_number field ≡ t → said t field ≡ Some n → (is_number field ≡ true) × (worth 0 field ≡ n)
   by_test n true e f = (e, (cc))
   by_test n false e f = let z : ◌≡◌ {A = ℕ} 0 1 = cc in absurd (omega arith)
 
-  pub number_is : (n : ℕ) → number_in field ≡ Is n → (is_number field ≡ true) × (worth 0 field ≡ n)
+  pub number_is : (n : ℕ) → number_in field ≡ Some n → (is_number field ≡ true) × (worth 0 field ≡ n)
   number_is n e = by_test n (is_number field) refl e
 
-  by_none : (t : Bool) → is_number field ≡ t → said t field ≡ NotANumber → is_number field ≡ false
+  by_none : (t : Bool) → is_number field ≡ t → said t field ≡ None → is_number field ≡ false
   by_none true e f = let z : ◌≡◌ {A = ℕ} 0 1 = cc in absurd (omega arith)
   by_none false e f = e
 
-  pub number_isnt : number_in field ≡ NotANumber → is_number field ≡ false
+  pub number_isnt : number_in field ≡ None → is_number field ≡ false
   number_isnt e = by_none (is_number field) refl e
 
 -- ---- the bytes passed
@@ -142,7 +142,7 @@ module _ (l : List ℕ) (n i : ℕ) (p : Passed l n i) where
   small few h = lt_of_lt_of_le p.below (pow-le-pow_right {n = 10} (omega arith) {i = i} {j = 4} (omega arith))
 
   module _ (h : i < length l) (b : Bool) (f : b ≡ digit (get_or l i 0)) where
-    pub no_digit : not b ≡ true → NotANumber ≡ said (all digit l) l
+    pub no_digit : not b ≡ true → None ≡ said (all digit l) l
     no_digit t = ap (λ (a : Bool). said a l) (ends digit l i h b f t p.digits)
 
     pub a_digit : not b ≡ false → (48 ≤ get_or l i 0) × (get_or l i 0 ≤ 57)
@@ -163,8 +163,8 @@ module _ (l : List ℕ) (n i : ℕ) (p : Passed l n i) where
           rest = rw add-one (sym (ap (worth n) (drop-cons l i 0 h)) ∙ p.rest);
         }
 
-  pub all_passed : length l ≤ i → Is n ≡ said (all digit l) l
+  pub all_passed : length l ≤ i → Some n ≡ said (all digit l) l
   unfolding worth
   all_passed h =
       let w : n ≡ worth 0 l = sym (ap (worth n) (drop_of_length-le l h)) ∙ p.rest in
-      ap Is w ∙ ap (λ (a : Bool). said a l) (at_end digit l i h ∙ p.digits)
+      ap Some w ∙ ap (λ (a : Bool). said a l) (at_end digit l i h ∙ p.digits)

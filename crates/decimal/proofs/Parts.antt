@@ -48,7 +48,6 @@ abbrev pub lacks : ℕ → ℕ → Bool
 lacks b x = not (eqb x b)
 
 pub each : (test other : ℕ → Bool) → ((x : ℕ) → test x ≡ true → other x ≡ true) → (s : List ℕ) → all test s ≡ true → all other s ≡ true
-unfolding all
 each test other f [] e = refl
 each test other f (x ∷ s) e = both (f x (and_left (test x) (all test s) e)) (each test other f s (and_right (test x) (all test s) e))
 
@@ -58,7 +57,7 @@ free test b f = each test (lacks b) (λ x h. ap not (ne_eqb x b (λ e. true≢fa
 
 module _ (b : ℕ) (t : List ℕ) where
   pub place_after : (s : List ℕ) → all (lacks b) s ≡ true → place b (s ++ b ∷ t) ≡ length s
-  unfolding place all
+  unfolding place
   place_after [] e = simp (eq-eqb b b refl)
   place_after (x ∷ s) e =
       simp (not-true (eqb x b) (and_left (lacks b x) (all (lacks b) s) e)) (ap suc (place_after s (and_right (lacks b x) (all (lacks b) s) e)))

@@ -1,9 +1,7 @@
 -- A number in decimal, as it is written and as it is read. Definitions only.
-use Rattle.std.specs.Prelude.{Bool, not, cond, ◌&&◌, List, [], ◌∷◌, ℕ, zero, suc, ◌+◌, ◌*◌, ◌-◌, ◌/◌, eqb, leb, ltb, length, get_or}
+use Rattle.std.specs.Prelude.{Bool, not, cond, ◌&&◌, Option, Some, None, List, [], ◌∷◌, ℕ, zero, suc, ◌+◌, ◌*◌, ◌-◌, ◌/◌, eqb, leb, ltb, length, get_or}
 use Rattle.io.specs.Digits.{last_digits}
 use Rattle.decimal.specs.Text.{all}
-use Rattle.decimal.specs.declared.Number.{Number}
-use Rattle.decimal.specs.declared.Number.TheVariants.{Is, NotANumber}
 
 -- ---- written
 
@@ -32,8 +30,8 @@ unfoldable pub is_number : List ℕ → Bool
 is_number field = ltb 0 (length field) && (leb (length field) 4 && (not (eqb (get_or field 0 0) 48) && all digit field))
 
 -- what a field says that passes a test
-abbrev pub said : Bool → List ℕ → Number
-said t field = cond t (Is (worth 0 field)) NotANumber
+abbrev pub said : Bool → List ℕ → Option ℕ
+said t field = cond t (Some (worth 0 field)) None
 
-abbrev pub number_in : List ℕ → Number
+abbrev pub number_in : List ℕ → Option ℕ
 number_in field = said (is_number field) field

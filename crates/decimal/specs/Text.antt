@@ -1,6 +1,8 @@
 -- What all texts share: the bytes that part them, a test of every byte, two texts compared, what stands before and
 -- after a byte. Definitions only.
-use Rattle.std.specs.Prelude.{Bool, true, false, cond, ◌&&◌, List, [], ◌∷◌, ℕ, suc, eqb, take, drop}
+use Rattle.std.specs.Prelude.{Bool, cond, List, [], ◌∷◌, ℕ, suc, eqb, take, drop}
+use Rattle.std.specs.List.{list_all}
+use Rattle.std.specs.Str.{bytes_eq}
 
 -- before each field but the first
 abbrev pub tab : ℕ
@@ -11,16 +13,12 @@ abbrev pub newline : ℕ
 newline = 10
 
 -- whether a test holds of every number of a list
-unfoldable pub all : (ℕ → Bool) → List ℕ → Bool
-all test [] = true
-all test (n ∷ rest) = test n && all test rest
+abbrev pub all : (ℕ → Bool) → List ℕ → Bool
+all = list_all
 
 -- whether two texts are the same
-unfoldable pub same : List ℕ → List ℕ → Bool
-same [] [] = true
-same [] (y ∷ t) = false
-same (x ∷ s) [] = false
-same (x ∷ s) (y ∷ t) = eqb x y && same s t
+abbrev pub same : List ℕ → List ℕ → Bool
+same = bytes_eq
 
 -- where the first byte b stands, and the text's length if there is none
 unfoldable pub place : ℕ → List ℕ → ℕ

@@ -1,14 +1,15 @@
 -- One field after the other into its place. Assumes nothing.
 use mathlib.Core.Path.{◌≡◌, refl, ap, ◌∙◌}
-use mathlib.Core.Bool.{Bool, true, false, cond}
+use mathlib.Core.Bool.{Bool, true, false, ◌&&◌}
 use mathlib.Core.List.{List, ◌++◌, append-nil}
+use Rattle.std.proofs.Math.Bool.{and_assoc}
 use Prim.Native.Nat.{ℕ, zero, suc, ◌+◌, ◌-◌, ◌≤◌, ◌<◌}
 use native.Mathlib.Nat.{sub-zero}
 use native.Mathlib.Omega.{arith}
 use lib.ListN.{length, set, length-set, drop_of_length-le}
 use lib.Seq.{sets, sets-eq}
-use Rattle.hexadecimal.specs.Hex.{field, is_bits, bits_of, fields, every_field}
-use Rattle.hexadecimal.specs.declared.Bits.{Bits}
+use Rattle.std.proofs.Common.{Option, is_some, unwrap_or}
+use Rattle.hexadecimal.specs.Hex.{field, fields, every_field}
 
 length_fields : (line : List ℕ) (k n : ℕ) → length (fields line k n) ≡ n
 unfolding fields
@@ -28,7 +29,7 @@ pub record Filled (line numbers₀ numbers : List ℕ) (all : Bool) (i : ℕ) : 
   pub within : i ≤ length numbers₀
   pub long : length numbers ≡ length numbers₀
   pub left : sets numbers i (fields line i (length numbers₀ - i)) ≡ fields line 0 (length numbers₀)
-  pub judged : cond all (every_field line i (length numbers₀ - i)) false ≡ every_field line 0 (length numbers₀)
+  pub judged : (all && every_field line i (length numbers₀ - i)) ≡ every_field line 0 (length numbers₀)
 
 pub none_filled : (line numbers : List ℕ) → Filled line numbers numbers true 0
 none_filled line numbers =
@@ -40,26 +41,20 @@ none_filled line numbers =
       judged = ap (every_field line 0) (sub-zero n);
     }
 
-both : (all one rest : Bool) → cond (cond one all false) rest false ≡ cond all (cond one rest false) false
-both true true rest = refl
-both true false rest = refl
-both false true rest = refl
-both false false rest = refl
-
 pub one_filled :
-    (line numbers₀ numbers : List ℕ) (all : Bool) (i : ℕ) (bits : Bits) (n : ℕ) (r : Bool) →
+    (line numbers₀ numbers : List ℕ) (all : Bool) (i : ℕ) (read : Option ℕ) (n : ℕ) (t : Bool) →
     Filled line numbers₀ numbers all i →
-    i < length numbers →
-    bits ≡ field line i →
-    n ≡ bits_of bits →
-    r ≡ cond (is_bits bits) all false →
-    Filled line numbers₀ (set numbers i n) r (i + 1)
+    i < length numbers₀ →
+    read ≡ field line i →
+    n ≡ unwrap_or read 0 →
+    t ≡ is_some read →
+    Filled line numbers₀ (set numbers i n) (all && t) (i + 1)
 unfolding fields every_field
-one_filled line numbers₀ numbers all i bits n r p h e f g =
+one_filled line numbers₀ numbers all i read n t p h e f g =
     let next : i + 1 ≡ suc i = omega arith in
     let one : suc (length numbers₀ - (i + 1)) ≡ length numbers₀ - i = omega arith in
     let m : ℕ = length numbers₀ - (i + 1) in
-    let put : n ≡ bits_of (field line i) = f ∙ ap bits_of e in
+    let put : n ≡ unwrap_or (field line i) 0 = f ∙ ap (λ (o : Option ℕ). unwrap_or o 0) e in
     record {
       within = omega arith;
       long = length-set numbers i n ∙ p.long;
@@ -69,18 +64,18 @@ one_filled line numbers₀ numbers all i bits n r p h e f g =
           ∙ ap (λ (k : ℕ). sets numbers i (fields line i k)) one
           ∙ p.left;
       judged =
-          ap (λ (k : ℕ). cond r (every_field line k m) false) next
-          ∙ ap (λ (t : Bool). cond t (every_field line (suc i) m) false) (g ∙ ap (λ (b : Bits). cond (is_bits b) all false) e)
-          ∙ both all (is_bits (field line i)) (every_field line (suc i) m)
-          ∙ ap (λ (k : ℕ). cond all (every_field line i k) false) one
+          ap (λ (k : ℕ). (all && t) && every_field line k m) next
+          ∙ ap (λ (b : Bool). (all && b) && every_field line (suc i) m) (g ∙ ap (λ (o : Option ℕ). is_some o) e)
+          ∙ and_assoc all (is_some (field line i)) (every_field line (suc i) m)
+          ∙ ap (λ (k : ℕ). all && every_field line i k) one
           ∙ p.judged;
     }
 
-same : (all : Bool) → all ≡ cond all true false
+same : (all : Bool) → all ≡ (all && true)
 same true = refl
 same false = refl
 
-module _ (line numbers₀ numbers : List ℕ) (all : Bool) (i : ℕ) (p : Filled line numbers₀ numbers all i) (h : length numbers ≤ i) where
+module _ (line numbers₀ numbers : List ℕ) (all : Bool) (i : ℕ) (p : Filled line numbers₀ numbers all i) (h : length numbers₀ ≤ i) where
   none : 0 ≡ length numbers₀ - i
   none = omega arith
 
@@ -90,4 +85,4 @@ module _ (line numbers₀ numbers : List ℕ) (all : Bool) (i : ℕ) (p : Filled
 
   pub all_judged : all ≡ every_field line 0 (length numbers₀)
   unfolding every_field
-  all_judged = same all ∙ ap (λ (k : ℕ). cond all (every_field line i k) false) none ∙ p.judged
+  all_judged = same all ∙ ap (λ (k : ℕ). all && every_field line i k) none ∙ p.judged

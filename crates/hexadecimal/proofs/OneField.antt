@@ -2,38 +2,37 @@
 use mathlib.Core.Path.{◌≡◌, refl, sym, ap, ◌∙◌}
 use mathlib.Core.Bool.{Bool, true, false, cond}
 use mathlib.Core.List.{List, [], ◌∷◌}
-use Prim.Native.Nat.{ℕ, ◌+◌, ◌*◌, ◌-◌, ◌/◌, ◌≤◌}
+use Prim.Native.Nat.{ℕ, ◌+◌, ◌*◌, ◌-◌, ◌/◌, ◌≤◌, ◌<◌}
 use native.Mathlib.Omega.{arith}
 use lib.Dec.{eqb}
 use lib.ListN.{length, get_or, take, drop, length-drop, drop_of_length-le}
 use lib.Seq.{take_all}
+use Rattle.std.proofs.Common.{Option, None}
 use Rattle.hexadecimal.specs.Hex.{spelled, ends, field}
-use Rattle.hexadecimal.specs.declared.Bits.{Bits}
-use Rattle.hexadecimal.specs.declared.Bits.TheVariants.{None}
 
 -- ---- what follows the digits, by how much there is
 
-pub ends_none : (rest : List ℕ) → length rest ≡ 0 → false ≡ ends rest
+pub ends_none : (rest : List ℕ) → length rest < 1 → false ≡ ends rest
 unfolding ends
 ends_none [] h = refl
 ends_none (b ∷ rest) h = absurd (omega arith)
 
-pub ends_last : (rest : List ℕ) → length rest ≡ 1 → eqb (get_or rest 0 0) 10 ≡ ends rest
+pub ends_last : (rest : List ℕ) → 1 ≤ length rest → length rest < 2 → eqb (get_or rest 0 0) 10 ≡ ends rest
 unfolding ends
-ends_last [] h = absurd (omega arith)
-ends_last (b ∷ []) h = refl
-ends_last (b ∷ c ∷ rest) h = absurd (omega arith)
+ends_last [] h l = absurd (omega arith)
+ends_last (b ∷ []) h l = refl
+ends_last (b ∷ c ∷ rest) h l = absurd (omega arith)
 
-pub ends_more : (rest : List ℕ) → (length rest ≡ 0 → ⊥) → (length rest ≡ 1 → ⊥) → eqb (get_or rest 0 0) 9 ≡ ends rest
+pub ends_more : (rest : List ℕ) → 2 ≤ length rest → eqb (get_or rest 0 0) 9 ≡ ends rest
 unfolding ends
-ends_more [] z o = absurd (z refl)
-ends_more (b ∷ []) z o = absurd (o refl)
-ends_more (b ∷ c ∷ rest) z o = refl
+ends_more [] h = absurd (omega arith)
+ends_more (b ∷ []) h = absurd (omega arith)
+ends_more (b ∷ c ∷ rest) h = refl
 
 -- ---- a field
 
 module _ (line : List ℕ) (k : ℕ) where
-  so : Bool → Bits
+  so : Bool → Option ℕ
   so t = cond t (spelled (take 16 (drop (k * 17) line))) None
 
   -- what follows, as the code takes it, with its length

@@ -9,7 +9,10 @@ use lib.Dec.{ltb}
 use Rattle.decimal.specs.Decimal.{decimal}
 use Rattle.put_text.specs.Placed.{joined}
 use Rattle.listing_lines.specs.Line.{hex, line, word_table, word_region, word_cell, table_line, region_text, cell_text}
-use Rattle.listing_lines.specs.Read.{onto, Header, header_text, Edges, edges_text, Cell, text_of_cell}
+use Rattle.listing_lines.specs.declared.TableLine.{TableLine}
+use Rattle.listing_lines.specs.declared.RegionLine.{RegionLine}
+use Rattle.listing_lines.specs.declared.CellLine.{CellLine}
+use Rattle.listing_lines.specs.Read.{onto, header_text, edges_text, text_of_cell}
 use Rattle.listing_lines.proofs.Back.{Plain, Plains, table_plain, region_plain, cell_plain, plains_of_table, plains_of_region, plains_of_cell}
 use Rattle.listing.specs.Listing.{across, down, cell_texts}
 use Rattle.listing.specs.Read.{lines, Listed, listed_lines, listed_text}
@@ -62,18 +65,18 @@ joined_append (x ∷ s) t = ap (λ (r : List ℕ). x ++ r) (joined_append s t) �
 
 -- ---- the three kinds of lines
 
-pub table_cut : (h : Header) → Cut (header_text h)
+pub table_cut : (h : TableLine) → Cut (header_text h)
 unfolding table_line
 table_cut h rest =
     lines_line word_table (decimal h.width ∷ decimal h.height ∷ decimal h.updates ∷ []) rest table_plain
     (plains_of_table h.width h.height h.updates)
 
-pub region_cut : (e : Edges) → Cut (edges_text e)
+pub region_cut : (e : RegionLine) → Cut (edges_text e)
 unfolding region_text
 region_cut e rest =
     lines_line word_region (hex 16 e.left ∷ hex 16 e.top ∷ hex 16 e.right ∷ hex 16 e.bottom ∷ []) rest region_plain (plains_of_region e)
 
-pub cell_cut : (c : Cell) → Cut (text_of_cell c)
+pub cell_cut : (c : CellLine) → Cut (text_of_cell c)
 unfolding cell_text
 cell_cut c rest = lines_line word_cell (decimal c.u ∷ decimal c.v ∷ hex 8 c.a ∷ hex 8 c.b ∷ []) rest cell_plain (plains_of_cell c)
 

@@ -12,7 +12,8 @@ use lib.Dec.{eqb, ltb}
 use lib.Ieee.{Float, nan}
 use lib.ListN.{length, get_or}
 use Rattle.listing_lines.specs.Line.{cell_line}
-use Rattle.listing_lines.specs.Read.{single, Cell}
+use Rattle.listing_lines.specs.declared.CellLine.{CellLine}
+use Rattle.listing_lines.specs.Read.{single}
 use Rattle.listing_lines.proofs.Reading.{both_true}
 use Rattle.listing_lines.proofs.Back.{cell_back}
 use Rattle.listing.specs.Listing.{across, down, cell_texts, cell_lines}
@@ -73,7 +74,7 @@ patterns_back width height u v (a ∷ b ∷ rest) h e f =
     let y = both_true (single b) (all_single rest) x.1 in
     let s : (single a && single b) ≡ true = ap₂ (λ (p q : Bool). p && q) x.0 y.0 in
     simp (lt-ltb v height l)
-    (ap₂ (λ (c : Cell) (l : List ℕ). c.a ∷ c.b ∷ l)
+    (ap₂ (λ (c : CellLine) (l : List ℕ). c.a ∷ c.b ∷ l)
     (cell_back (record { u = u; v = v; a = a; b = b }) s)
     (patterns_back width height (across width u) (down width u v) rest n.0 g y.1))
 

@@ -2,7 +2,7 @@
 use mathlib.Core.Path.{◌≡◌, refl, sym, ap, ◌∙◌}
 use mathlib.Core.Bool.{true}
 use mathlib.Core.List.{List, [], map}
-use mathlib.Core.Option.{some}
+use Rattle.std.proofs.Common.{Some}
 use Prim.Native.Nat.{ℕ, ◌+◌, ◌*◌, ◌≤◌, ◌<◌}
 use native.Mathlib.Omega.{arith}
 use lib.Ieee.{Float, nan, binary32, to_bits}
@@ -90,13 +90,13 @@ listed_back l f =
 
 -- From the bytes that are written of what a listing may tell, that comes back: w·h cells row by row, sides of 2 to
 -- 4,096, any bit pattern.
-pub listing_read : (l : Listed) → fair l ≡ true → read_listing (listed_text l) ≡ some l
+pub listing_read : (l : Listed) → fair l ≡ true → read_listing (listed_text l) ≡ Some l
 unfolding read_listing
 listing_read l f =
     read_again fair listed_text (listed_of (lines (listed_text l))) (listed_text l) l (listed_back l f) refl f
 
 -- And no other bytes are read: what is read of a text may be told, and the text is what is written of it.
-pub only_listing : (text : List ℕ) (l : Listed) → read_listing text ≡ some l → (text ≡ listed_text l) × (fair l ≡ true)
+pub only_listing : (text : List ℕ) (l : Listed) → read_listing text ≡ Some l → (text ≡ listed_text l) × (fair l ≡ true)
 unfolding read_listing
 only_listing text l e = only_read fair listed_text (listed_of (lines text)) text l e
 
@@ -104,7 +104,7 @@ only_listing text l e = only_read fair listed_text (listed_of (lines text)) text
 -- read.
 pub read_counted :
     (text : List ℕ) (l : Listed) →
-    read_listing text ≡ some l →
+    read_listing text ≡ Some l →
     length (lines text) ≡ 2 + l.header.width * l.header.height
 unfolding listed_lines
 read_counted text l e =

@@ -1,20 +1,19 @@
 -- The cells one after the other: what the code does in a turn is what the definition says of the rest of the table. Assumes nothing.
 use mathlib.Core.Path.{◌≡◌, refl, sym, ap, ap₂, ◌∙◌}
 use mathlib.Core.Bool.{Bool, true, false, cond}
-use mathlib.Core.List.{List, [], ◌∷◌}
+use mathlib.Core.List.{List, [], ◌∷◌, ◌++◌}
 use Prim.Native.Nat.{ℕ, ◌+◌, ◌≤◌, ◌<◌}
 use native.Mathlib.Omega.{arith}
 use borrow.Author.Tests.{lt-ltb, le-ltb}
 use lib.Dec.{eqb}
 use lib.Ieee.{Float, nan}
-use lib.ListN.{length, get_or, drop, length-drop}
+use lib.ListN.{length, get_or, length-append}
 use Rattle.region.specs.declared.Region.{Region}
 use Rattle.listing_lines.specs.Line.{table_line, region_line, cell_line}
 use Rattle.listing.specs.Listing.{across, down, cell_texts, cell_lines, listing_lines}
 use Rattle.put_text.specs.Placed.{Written, written, placed, placed_all}
 use Rattle.put_text.proofs.Putting.{stopped, went_on}
 use Rattle.listing_lines.proofs.Lines.{table_some, region_some, cell_some}
-use Rattle.listing.proofs.Each.{pair}
 
 -- ---- the next place
 
@@ -30,79 +29,91 @@ down_most : (width u v : ℕ) → down width u v ≤ v + 1
 unfolding down
 down_most width u v = by_end (eqb (u + 1) width) (v + 1) v (v + 1) (omega arith) (omega arith)
 
--- ---- the table from place i on
+-- ---- the rest of the table
 
-pub two : (table : List Float) (i : ℕ) → i + 1 < length table → drop i table ≡ get_or table i nan ∷ get_or table (i + 1) nan ∷ drop (i + 2) table
-two = pair nan
-
-at_most_one : (width height u v : ℕ) (rest : List Float) → length rest ≤ 1 → cell_lines width height u v rest ≡ []
+at_most_one : (width height u v : ℕ) (rest : List Float) → length rest < 2 → cell_lines width height u v rest ≡ []
 unfolding cell_texts
 at_most_one width height u v [] h = refl
 at_most_one width height u v (a ∷ []) h = refl
 at_most_one width height u v (a ∷ b ∷ rest) h = absurd (omega arith)
 
-module _ (width height u v : ℕ) (table : List Float) (i : ℕ) (h : i + 1 < length table) where
-  past_rows : height ≤ v → cell_lines width height u v (drop i table) ≡ []
-  unfolding cell_texts
-  past_rows l = ap (cell_lines width height u v) (two table i h) ∙ simp (le-ltb v height l)
+past_rows : (width height u v : ℕ) (rest : List Float) → height ≤ v → cell_lines width height u v rest ≡ []
+unfolding cell_texts
+past_rows width height u v [] l = refl
+past_rows width height u v (a ∷ []) l = refl
+past_rows width height u v (a ∷ b ∷ rest) l = simp (le-ltb v height l)
 
-  in_rows :
-      v < height →
-      cell_lines width height u v (drop i table)
-      ≡ cell_line u v (get_or table i nan) (get_or table (i + 1) nan) ∷ cell_lines width height (across width u) (down width u v) (drop (i + 2) table)
-  unfolding cell_texts
-  in_rows l = ap (cell_lines width height u v) (two table i h) ∙ simp (lt-ltb v height l)
+in_rows : (width height u v : ℕ) (pair rest : List Float) → length pair ≡ 2 → v < height →
+    cell_lines width height u v (pair ++ rest)
+    ≡ cell_line u v (get_or pair 0 nan) (get_or pair 1 nan) ∷ cell_lines width height (across width u) (down width u v) rest
+unfolding cell_texts
+in_rows width height u v [] rest h l = absurd (omega arith)
+in_rows width height u v (a ∷ []) rest h l = absurd (omega arith)
+in_rows width height u v (a ∷ b ∷ []) rest h l = simp (lt-ltb v height l)
+in_rows width height u v (a ∷ b ∷ c ∷ pair) rest h l = absurd (omega arith)
 
 -- ---- what holds at each turn
 
 -- what is put of the rest of the table from here is what is put of the whole table from the start
-pub record Passed (w₀ : Written) (table : List Float) (width height : ℕ) (w : Written) (u v i : ℕ) : Type 0 where
-  pub within : i ≤ length table
-  pub left : u ≤ i
-  pub above : v ≤ i
-  pub long : length w.out ≡ length w₀.out
-  pub rest : placed_all w (cell_lines width height u v (drop i table)) ≡ placed_all w₀ (cell_lines width height 0 0 table)
+pub record Passed (w₀ : Written) (table : List Float) (width height : ℕ) (w : Written) (u v : ℕ) (rest : List Float) : Type 0 where
+  pub left : u + length rest ≤ length table
+  pub above : v + length rest ≤ length table
+  pub makes : placed_all w (cell_lines width height u v rest) ≡ placed_all w₀ (cell_lines width height 0 0 table)
 
-pub none_passed : (w : Written) (table : List Float) (width height : ℕ) → Passed w table width height w 0 0 0
-none_passed w table width height = record { within = omega arith; left = omega arith; above = omega arith; long = refl; rest = refl }
+pub none_passed : (w : Written) (table rest : List Float) (width height : ℕ) → rest ≡ table → Passed w table width height w 0 0 rest
+none_passed w table rest width height e = record {
+  left = omega (arith, ap length e);
+  above = omega (arith, ap length e);
+  makes = ap (λ (l : List Float). placed_all w (cell_lines width height 0 0 l)) e;
+}
 
-module _ (w₀ : Written) (table : List Float) (width height : ℕ) (w : Written) (u v i : ℕ) (p : Passed w₀ table width height w u v i) where
-  nothing_left : cell_lines width height u v (drop i table) ≡ [] → w ≡ placed_all w₀ (cell_lines width height 0 0 table)
+module _ (w₀ : Written) (table : List Float) (width height : ℕ) (w : Written) (u v : ℕ) (rest : List Float) (p : Passed w₀ table width height w u v rest) where
+  nothing_left : cell_lines width height u v rest ≡ [] → w ≡ placed_all w₀ (cell_lines width height 0 0 table)
   unfolding placed_all
-  nothing_left e = ap (placed_all w) (sym e) ∙ p.rest
+  nothing_left e = ap (placed_all w) (sym e) ∙ p.makes
 
-  pub all_passed : length table ≤ i + 1 → w ≡ placed_all w₀ (cell_lines width height 0 0 table)
-  all_passed h = nothing_left (at_most_one width height u v (drop i table) (omega (arith, length-drop i table)))
+  pub all_passed : length rest < 2 → w ≡ placed_all w₀ (cell_lines width height 0 0 table)
+  all_passed h = nothing_left (at_most_one width height u v rest h)
 
-  pub rows_passed : i + 1 < length table → height ≤ v → w ≡ placed_all w₀ (cell_lines width height 0 0 table)
-  rows_passed h l = nothing_left (past_rows width height u v table i h l)
+  pub rows_passed : height ≤ v → w ≡ placed_all w₀ (cell_lines width height 0 0 table)
+  rows_passed l = nothing_left (past_rows width height u v rest l)
 
-  module _ (h : i + 1 < length table) (l : v < height) (out : List ℕ) (r : ℕ) (e : written out r ≡ placed w (cell_line u v (get_or table i nan) (get_or table (i + 1) nan))) where
-    pub no_room : r ≡ w.at → written out w.at ≡ placed_all w₀ (cell_lines width height 0 0 table)
-    no_room s =
-        ap (written out) (sym s)
-        ∙ stopped w (cell_line u v (get_or table i nan) (get_or table (i + 1) nan)) (cell_lines width height (across width u) (down width u v) (drop (i + 2) table)) out r (cell_some u v (get_or table i nan) (get_or table (i + 1) nan)) e s
-        ∙ ap (placed_all w) (sym (in_rows width height u v table i h l))
-        ∙ p.rest
+  module _ (pair more : List Float) (two : length pair ≡ 2) (d : rest ≡ pair ++ more) (l : v < height) where
+    abbrev here : List ℕ
+    here = cell_line u v (get_or pair 0 nan) (get_or pair 1 nan)
 
-    pub one_passed :
-        (u' v' : ℕ) →
-        length out ≡ length w.out →
-        (r ≡ w.at → ⊥) →
-        u' ≡ across width u →
-        v' ≡ down width u v →
-        Passed w₀ table width height (written out r) u' v' (i + 2)
-    one_passed u' v' same ne eu ev = record {
-      within = omega arith;
-      left = omega (arith, across_most width u, p.left);
-      above = omega (arith, down_most width u v, p.above);
-      long = same ∙ p.long;
-      rest =
-          ap₂ (λ (x y : ℕ). placed_all (written out r) (cell_lines width height x y (drop (i + 2) table))) eu ev
-          ∙ went_on w (cell_line u v (get_or table i nan) (get_or table (i + 1) nan)) (cell_lines width height (across width u) (down width u v) (drop (i + 2) table)) out r (cell_some u v (get_or table i nan) (get_or table (i + 1) nan)) e ne
-          ∙ ap (placed_all w) (sym (in_rows width height u v table i h l))
-          ∙ p.rest;
-    }
+    abbrev behind : List (List ℕ)
+    behind = cell_lines width height (across width u) (down width u v) more
+
+    whole : placed_all w (here ∷ behind) ≡ placed_all w₀ (cell_lines width height 0 0 table)
+    whole =
+        ap (placed_all w) (sym (in_rows width height u v pair more two l))
+        ∙ ap (λ (r : List Float). placed_all w (cell_lines width height u v r)) (sym d)
+        ∙ p.makes
+
+    module _ (out : List ℕ) (r : ℕ) (e : written out r ≡ placed w here) where
+      pub no_room : r ≡ w.at → written out w.at ≡ placed_all w₀ (cell_lines width height 0 0 table)
+      no_room s =
+          ap (written out) (sym s)
+          ∙ stopped w here behind out r (cell_some u v (get_or pair 0 nan) (get_or pair 1 nan)) e s
+          ∙ whole
+
+      pub one_passed :
+          (u' v' : ℕ) →
+          (r ≡ w.at → ⊥) →
+          u' ≡ across width u →
+          v' ≡ down width u v →
+          Passed w₀ table width height (written out r) u' v' more
+      one_passed u' v' ne eu ev =
+          let n : length rest ≡ 2 + length more = omega (arith, ap length d, length-append pair more) in
+          record {
+            left = omega (arith, across_most width u, p.left);
+            above = omega (arith, down_most width u v, p.above);
+            makes =
+                ap₂ (λ (x y : ℕ). placed_all (written out r) (cell_lines width height x y more)) eu ev
+                ∙ went_on w here behind out r (cell_some u v (get_or pair 0 nan) (get_or pair 1 nan)) e ne
+                ∙ whole;
+          }
 
 -- ---- the listing
 

@@ -1,14 +1,16 @@
 -- Reading a listing: what it tells, for the bytes that are the listing of a table with sides of 2 to 4,096, and none
 -- for any other bytes: not for one with a cell too few, too many or out of its place. Definitions only.
 use Rattle.std.specs.Prelude.{Bool, true, cond, ◌&&◌, List, [], ◌∷◌, map, ℕ, ◌*◌, eqb, Float, length, get_or, drop}
-use Rattle.std.proofs.Math.Option.{Option}
+use Rattle.std.specs.Prelude.{Option}
 use Rattle.std.specs.Float.{binary32, binary64}
 use Rattle.std.specs.Float.Ieee.{to_bits}
 use Rattle.decimal.specs.Text.{newline}
 use Rattle.region.specs.Size.{sized}
 use Rattle.region.specs.declared.Region.{Region}
 use Rattle.put_text.specs.Placed.{joined}
-use Rattle.listing_lines.specs.Read.{onto, read_as, fields, single, Header, header_text, header_of, Edges, edges_text}
+use Rattle.listing_lines.specs.declared.TableLine.{TableLine}
+use Rattle.listing_lines.specs.declared.RegionLine.{RegionLine}
+use Rattle.listing_lines.specs.Read.{onto, read_as, fields, single, header_text, header_of, edges_text}
 use Rattle.listing_lines.specs.Read.{fair_edges, edges_of, cell_of}
 use Rattle.listing.specs.Listing.{cell_texts}
 
@@ -16,8 +18,8 @@ use Rattle.listing.specs.Listing.{cell_texts}
 
 -- the table's size and the updates that it took, its region, and its cells: bit patterns, so that each NaN is itself
 pub record Listed : Type 0 where
-  pub header : Header
-  pub edges : Edges
+  pub header : TableLine
+  pub edges : RegionLine
   pub cells : List ℕ
 
 -- of a table of f32 and its region, their patterns
@@ -46,7 +48,7 @@ listed_text l = joined (listed_lines l)
 -- ---- what it may tell
 
 -- sides of 2 to 4,096, and updates that are a u32
-abbrev pub fair_header : Header → Bool
+abbrev pub fair_header : TableLine → Bool
 fair_header h = sized h.width h.height && single h.updates
 
 abbrev pub all_single : List ℕ → Bool

@@ -31,19 +31,17 @@ pub fn cells(out: &mut [u8], at: usize, table: &[f32], width: usize, height: usi
     let mut next = at;
     let mut u = 0;
     let mut v = 0;
-    let mut i = 0;
-    while i + 1 < table.len() {
+    for pair in table.chunks_exact(2) {
         if v >= height {
             return next;
         }
-        let behind = listing_lines::cell_line(out, next, u, v, table[i], table[i + 1]);
+        let behind = listing_lines::cell_line(out, next, u, v, pair[0], pair[1]);
         if behind == next {
             return next;
         }
         next = behind;
         v = down(width, u, v);
         u = across(width, u);
-        i += 2;
     }
     next
 }

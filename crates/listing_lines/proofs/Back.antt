@@ -6,21 +6,23 @@ use Prim.Native.Nat.{ℕ, zero, suc, ◌+◌, ◌/◌, ◌%◌, ◌^◌, ◌<◌
 use native.Mathlib.Omega.{arith}
 use borrow.Author.Tests.{ne_eqb, ltb-true}
 use lib.Dec.{ltb}
+use Rattle.std.proofs.Common.{Option, Some, unwrap_or}
 use Rattle.io.specs.Digits.{hex_digit_ascii, last_digits}
 use Rattle.decimal.specs.Decimal.{places, decimal}
 use Rattle.decimal.proofs.Digits.{decimal_worth}
-use Rattle.hexadecimal.specs.Hex.{read, bits_of}
-use Rattle.hexadecimal.specs.declared.Bits.TheVariants.{Of}
+use Rattle.hexadecimal.specs.Hex.{read}
 use Rattle.hexadecimal.proofs.Written.{read_digits}
 use Rattle.listing_lines.specs.Line.{hex, line, word_table, word_region, word_cell, table_line, region_text, cell_text}
-use Rattle.listing_lines.specs.Read.{onto, fields, single, double, header_of, Edges, edges_text, fair_edges, edges_of, Cell, text_of_cell, cell_of}
+use Rattle.listing_lines.specs.declared.RegionLine.{RegionLine}
+use Rattle.listing_lines.specs.declared.CellLine.{CellLine}
+use Rattle.listing_lines.specs.Read.{onto, fields, single, double, header_of, edges_text, fair_edges, edges_of, text_of_cell, cell_of}
 use Rattle.listing_lines.proofs.Reading.{both_true}
 
 -- ---- a bit pattern
 
-pub pattern_back : (k n : ℕ) → n < 16 ^ k → bits_of (read (Of 0) (hex k n)) ≡ n
+pub pattern_back : (k n : ℕ) → n < 16 ^ k → unwrap_or (read (Some 0) (hex k n)) 0 ≡ n
 unfolding hex
-pattern_back k n h = ap bits_of (read_digits k n h)
+pattern_back k n h = ap (λ (o : Option ℕ). unwrap_or o 0) (read_digits k n h)
 
 -- ---- words and fields hold no tab and no line end
 
@@ -94,7 +96,7 @@ module _ (width height updates : ℕ) where
       ap header_of (fields_line word_table (decimal width ∷ decimal height ∷ decimal updates ∷ []) table_plain plains_of_table)
       ∙ simp (decimal_worth width, decimal_worth height, decimal_worth updates)
 
-module _ (e : Edges) where
+module _ (e : RegionLine) where
   pub plains_of_region : Plains (hex 16 e.left ∷ hex 16 e.top ∷ hex 16 e.right ∷ hex 16 e.bottom ∷ [])
   plains_of_region = (hex_plain 16 _, (hex_plain 16 _, (hex_plain 16 _, (hex_plain 16 _, tt))))
 
@@ -112,7 +114,7 @@ module _ (e : Edges) where
         pattern_back 16 e.bottom (omega (arith, ltb-true e.bottom (2 ^ 64) z.1)),
       )
 
-module _ (c : Cell) where
+module _ (c : CellLine) where
   pub plains_of_cell : Plains (decimal c.u ∷ decimal c.v ∷ hex 8 c.a ∷ hex 8 c.b ∷ [])
   plains_of_cell = (decimal_plain c.u, (decimal_plain c.v, (hex_plain 8 _, (hex_plain 8 _, tt))))
 

@@ -6,8 +6,9 @@ use Prim.Native.Nat.{ℕ, zero, suc, ◌+◌, ◌*◌, ◌/◌, ◌%◌, ◌^◌
 use native.Mathlib.Nat.{pow-zero, pow-suc, mod-lt, div-lt_iff_lt-mul, div-add-mod', div-le_self, lt_of_lt_of_le}
 use native.Mathlib.Omega.{arith}
 use borrow.Author.Tests.{ne_eqb, lt-ltb}
-use lib.Dec.{eqb, ltb}
+use lib.Dec.{eqb}
 use lib.ListN.{length, get_or}
+use Rattle.std.proofs.Common.{Some, None}
 use Rattle.io.specs.Digits.{hex_digit_ascii, last_digits}
 use Rattle.decimal.specs.Decimal.{places, decimal}
 use Rattle.decimal.proofs.Digits.{length_digits, worth_between, decimal_worth, decimal_digits}
@@ -29,9 +30,9 @@ unfolding pushes
 pushes_append base n [] t = refl
 pushes_append base n (b ∷ s) t = pushes_append base (pushed base n b) s t
 
-one_pushed : (base n b d : ℕ) → digit b ≡ d → d < 16 → n < 2 ^ 60 → pushed base n b ≡ n * base + d
+one_pushed : (base n b d : ℕ) → digit b ≡ Some d → n < 2 ^ 60 → pushed base n b ≡ n * base + d
 unfolding pushed
-one_pushed base n b d e h k = simp (e, lt-ltb d 16 h, lt-ltb n (2 ^ 60) k)
+one_pushed base n b d e k = simp (e, lt-ltb n (2 ^ 60) k)
 
 module _ (base : ℕ) (some : 0 < base) (most : base ≤ 16) where
   pub pushes_digits : (k n : ℕ) → n < base ^ k → n / base < 2 ^ 60 → pushes base 0 (last_digits base k n) ≡ n
@@ -43,7 +44,7 @@ module _ (base : ℕ) (some : 0 < base) (most : base ≤ 16) where
       let room : n / base / base < 2 ^ 60 = omega (arith, div-le_self (n / base) base) in
       pushes_append base 0 (last_digits base k (n / base)) (hex_digit_ascii (n % base) ∷ [])
       ∙ ap (λ (m : ℕ). pushed base m (hex_digit_ascii (n % base))) (pushes_digits k (n / base) less room)
-      ∙ one_pushed base (n / base) (hex_digit_ascii (n % base)) (n % base) (digit_glyph (n % base) d) d r
+      ∙ one_pushed base (n / base) (hex_digit_ascii (n % base)) (n % base) (digit_glyph (n % base) d) r
       ∙ div-add-mod' n base
 
 -- ---- the two kinds of fields
@@ -99,7 +100,7 @@ over base n (b ∷ t) = simp (either 0 (eqb b 9)) (over base n t)
 
 -- ---- a tab and a line end
 
-no_digit : (base n b : ℕ) → digit b ≡ 16 → pushed base n b ≡ n
+no_digit : (base n b : ℕ) → digit b ≡ None → pushed base n b ≡ n
 unfolding pushed
 no_digit base n b e = simp e
 

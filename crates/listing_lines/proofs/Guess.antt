@@ -1,23 +1,22 @@
 -- What the code guesses of a line is right where the line is one that was written: so it reads what the definition
 -- reads. Assumes nothing.
-use mathlib.Core.Path.{◌≡◌, refl, sym, ap, ap₂, ◌∙◌}
-use mathlib.Core.Bool.{Bool, true, false, cond, ◌&&◌}
+use mathlib.Core.Path.{◌≡◌, refl, ap, ap₂, ◌∙◌}
+use mathlib.Core.Bool.{Bool, true, ◌&&◌}
 use mathlib.Core.List.{List, [], ◌∷◌}
-use mathlib.Core.Option.{Option, none, some}
 use Prim.Native.Nat.{ℕ, suc, ◌%◌, ◌^◌, ◌<◌}
 use native.Mathlib.Nat.{mod-lt, mod-eq_of_lt}
 use native.Mathlib.Omega.{arith}
 use borrow.Author.Tests.{lt-ltb, ltb-true}
 use lib.ListN.{get_or}
+use Rattle.std.specs.Bool.{then_some}
 use Rattle.decimal.specs.Decimal.{decimal}
 use Rattle.decimal.specs.Text.{same}
 use Rattle.listing_lines.specs.Line.{hex, line, word_table, word_region, word_cell, table_line, region_text, cell_text}
 use Rattle.listing_lines.specs.Numeral.{numeral}
-use Rattle.listing_lines.specs.Read.{single, double, Header, header_text, fair_numbers, read_table, table_told, Edges, edges_text, fair_edges, read_region, region_told, Cell, text_of_cell, fair_cell, read_cell, cell_told}
-use Rattle.listing_lines.specs.declared.TableLine.TheVariants.{Table, NoTable}
-use Rattle.listing_lines.specs.declared.RegionLine.TheVariants.{Region, NoRegion}
-use Rattle.listing_lines.specs.declared.CellLine.TheVariants.{NoCell}
-use Rattle.listing_lines.specs.declared.CellLine.TheVariants as told
+use Rattle.listing_lines.specs.declared.TableLine.{TableLine}
+use Rattle.listing_lines.specs.declared.RegionLine.{RegionLine}
+use Rattle.listing_lines.specs.declared.CellLine.{CellLine}
+use Rattle.listing_lines.specs.Read.{single, double, header_text, fair_numbers, read_table, edges_text, fair_edges, read_region, text_of_cell, fair_cell, read_cell}
 use Rattle.listing_lines.proofs.Reading.{both_true, guessed}
 use Rattle.listing_lines.proofs.Back.{Plain, Plains, table_plain, region_plain, cell_plain, plains_of_table, plains_of_region, plains_of_cell}
 use Rattle.listing_lines.proofs.Fields.{pushes, pushes_hex, pushes_decimal, field_number}
@@ -48,10 +47,10 @@ module _ (k : ℕ) (word : List ℕ) (fields : List (List ℕ)) (p : Plain word)
 module _ (text : List ℕ) (u v a b : ℕ)
     (eu : u ≡ numeral 10 2 0 text % 2 ^ 32) (ev : v ≡ numeral 10 3 0 text % 2 ^ 32)
     (ea : a ≡ numeral 16 4 0 text % 2 ^ 32) (eb : b ≡ numeral 16 5 0 text % 2 ^ 32) where
-  abbrev guess : Cell
+  abbrev guess : CellLine
   guess = record { u = u; v = v; a = a; b = b }
 
-  cell_right : (c : Cell) → text ≡ text_of_cell c → fair_cell c ≡ true → guess ≡ c
+  cell_right : (c : CellLine) → text ≡ text_of_cell c → fair_cell c ≡ true → guess ≡ c
   unfolding cell_text
   cell_right c e f =
       let x = both_true (single c.u && single c.v) _ f in
@@ -68,19 +67,19 @@ module _ (text : List ℕ) (u v a b : ℕ)
   cell_fair : fair_cell guess ≡ true
   cell_fair = and (and (low u _ eu) (low v _ ev)) (and (low a _ ea) (low b _ eb))
 
-  pub cell_guessed : (t : Bool) → t ≡ same text (cell_text u v a b) → cell_told (cond t (some guess) none) ≡ cell_told (read_cell text)
+  pub cell_guessed : (t : Bool) → t ≡ same text (cell_text u v a b) → then_some t guess ≡ read_cell text
   cell_guessed t e =
-      ap (λ (s : Bool). cell_told (cond s (some guess) none)) e
-      ∙ ap cell_told (guessed fair_cell text_of_cell read_cell cell_read only_cell text guess cell_fair cell_right)
+      ap (λ (s : Bool). then_some s guess) e
+      ∙ guessed fair_cell text_of_cell read_cell cell_read only_cell text guess cell_fair cell_right
 
 -- ---- a table's
 
 module _ (text : List ℕ) (w h n : ℕ)
     (ew : w ≡ numeral 10 2 0 text % 2 ^ 32) (eh : h ≡ numeral 10 3 0 text % 2 ^ 32) (en : n ≡ numeral 10 4 0 text % 2 ^ 32) where
-  abbrev header : Header
+  abbrev header : TableLine
   header = record { width = w; height = h; updates = n }
 
-  table_right : (x : Header) → text ≡ header_text x → fair_numbers x ≡ true → header ≡ x
+  table_right : (x : TableLine) → text ≡ header_text x → fair_numbers x ≡ true → header ≡ x
   unfolding table_line
   table_right x e f =
       let y = both_true (single x.width) _ f in
@@ -92,19 +91,19 @@ module _ (text : List ℕ) (w h n : ℕ)
       let gn : n ≡ x.updates = en ∙ ap (λ (t : List ℕ). numeral 10 4 0 t % 2 ^ 32) e ∙ in_decimal 3 word_table fs table_plain q x.updates (below x.updates z.1) refl in
       rw (gw, gh, gn) refl
 
-  pub table_guessed : (t : Bool) → t ≡ same text (table_line w h n) → table_told (cond t (some header) none) ≡ table_told (read_table text)
+  pub table_guessed : (t : Bool) → t ≡ same text (table_line w h n) → then_some t header ≡ read_table text
   table_guessed t e =
-      ap (λ (s : Bool). table_told (cond s (some header) none)) e
-      ∙ ap table_told (guessed fair_numbers header_text read_table table_read only_table text header (and (low w _ ew) (and (low h _ eh) (low n _ en))) table_right)
+      ap (λ (s : Bool). then_some s header) e
+      ∙ guessed fair_numbers header_text read_table table_read only_table text header (and (low w _ ew) (and (low h _ eh) (low n _ en))) table_right
 
 -- ---- a region's
 
 module _ (text : List ℕ) (l t r b : ℕ) (hl : l < 2 ^ 64) (ht : t < 2 ^ 64) (hr : r < 2 ^ 64) (hb : b < 2 ^ 64)
     (el : l ≡ numeral 16 2 0 text) (et : t ≡ numeral 16 3 0 text) (er : r ≡ numeral 16 4 0 text) (eb : b ≡ numeral 16 5 0 text) where
-  abbrev edges : Edges
+  abbrev edges : RegionLine
   edges = record { left = l; top = t; right = r; bottom = b }
 
-  region_right : (x : Edges) → text ≡ edges_text x → fair_edges x ≡ true → edges ≡ x
+  region_right : (x : RegionLine) → text ≡ edges_text x → fair_edges x ≡ true → edges ≡ x
   unfolding region_text
   region_right x e f =
       let y = both_true (double x.left && double x.top) _ f in
@@ -121,7 +120,7 @@ module _ (text : List ℕ) (l t r b : ℕ) (hl : l < 2 ^ 64) (ht : t < 2 ^ 64) (
   edges_fair : fair_edges edges ≡ true
   edges_fair = and (and (lt-ltb l (2 ^ 64) hl) (lt-ltb t (2 ^ 64) ht)) (and (lt-ltb r (2 ^ 64) hr) (lt-ltb b (2 ^ 64) hb))
 
-  pub region_guessed : (s : Bool) → s ≡ same text (region_text l t r b) → region_told (cond s (some edges) none) ≡ region_told (read_region text)
+  pub region_guessed : (s : Bool) → s ≡ same text (region_text l t r b) → then_some s edges ≡ read_region text
   region_guessed s e =
-      ap (λ (s : Bool). region_told (cond s (some edges) none)) e
-      ∙ ap region_told (guessed fair_edges edges_text read_region region_read only_region text edges edges_fair region_right)
+      ap (λ (s : Bool). then_some s edges) e
+      ∙ guessed fair_edges edges_text read_region region_read only_region text edges edges_fair region_right

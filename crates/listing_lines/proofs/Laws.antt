@@ -2,14 +2,17 @@
 use mathlib.Core.Path.{◌≡◌, refl, sym, ◌∙◌}
 use mathlib.Core.Bool.{true, ◌&&◌}
 use mathlib.Core.List.{List, [], ◌∷◌}
-use mathlib.Core.Option.{some}
+use Rattle.std.proofs.Common.{Some}
 use Prim.Native.Nat.{ℕ}
 use Rattle.exact.specs.Determined.{Determined, DeterminedWith}
 use Rattle.decimal.specs.Decimal.{places, decimal}
 use Rattle.put_text.proofs.Laws.{both}
 use Rattle.listing_lines.specs.Line.{hex, line, table_line, refused_line}
-use Rattle.listing_lines.specs.Read.{single, fields, Header, header_text, fair_numbers, header_of, read_table}
-use Rattle.listing_lines.specs.Read.{Edges, edges_text, fair_edges, edges_of, read_region, Cell, text_of_cell}
+use Rattle.listing_lines.specs.declared.TableLine.{TableLine}
+use Rattle.listing_lines.specs.declared.RegionLine.{RegionLine}
+use Rattle.listing_lines.specs.declared.CellLine.{CellLine}
+use Rattle.listing_lines.specs.Read.{single, fields, header_text, fair_numbers, header_of, read_table}
+use Rattle.listing_lines.specs.Read.{edges_text, fair_edges, edges_of, read_region, text_of_cell}
 use Rattle.listing_lines.specs.Read.{fair_cell, cell_of, read_cell}
 use Rattle.listing_lines.proofs.Reading.{both_true, read_again, only_read}
 use Rattle.listing_lines.proofs.Back.{header_back, edges_back, cell_back}
@@ -84,18 +87,18 @@ read_cell_determined κ a s s' r r' p q = p ∙ sym q
 -- ---- reading back
 
 -- From a table's line its width, height and updates come back, whichever they are of the 2^32,
-pub table_read : (h : Header) → fair_numbers h ≡ true → read_table (header_text h) ≡ some h
+pub table_read : (h : TableLine) → fair_numbers h ≡ true → read_table (header_text h) ≡ Some h
 unfolding read_table
 table_read h f =
     read_again fair_numbers header_text _ (header_text h) h (header_back h.width h.height h.updates) refl f
 
 -- from a region's line the bit patterns of its edges come back, whichever they are of the 2^64,
-pub region_read : (e : Edges) → fair_edges e ≡ true → read_region (edges_text e) ≡ some e
+pub region_read : (e : RegionLine) → fair_edges e ≡ true → read_region (edges_text e) ≡ Some e
 unfolding read_region
 region_read e f = read_again fair_edges edges_text _ (edges_text e) e (edges_back e f) refl f
 
 -- and from a cell's line its place and its two bit patterns, whichever they are of the 2^32.
-pub cell_read : (c : Cell) → fair_cell c ≡ true → read_cell (text_of_cell c) ≡ some c
+pub cell_read : (c : CellLine) → fair_cell c ≡ true → read_cell (text_of_cell c) ≡ Some c
 unfolding read_cell
 cell_read c f =
     read_again fair_cell text_of_cell _ (text_of_cell c) c
@@ -103,18 +106,18 @@ cell_read c f =
 
 -- Bytes that are read as a table's line are the line that is written of those numbers; no other bytes are read,
 pub only_table :
-    (text : List ℕ) (h : Header) → read_table text ≡ some h → (text ≡ header_text h) × (fair_numbers h ≡ true)
+    (text : List ℕ) (h : TableLine) → read_table text ≡ Some h → (text ≡ header_text h) × (fair_numbers h ≡ true)
 unfolding read_table
 only_table text h e = only_read fair_numbers header_text (header_of (fields text)) text h e
 
 -- nor as a region's,
 pub only_region :
-    (text : List ℕ) (r : Edges) → read_region text ≡ some r → (text ≡ edges_text r) × (fair_edges r ≡ true)
+    (text : List ℕ) (r : RegionLine) → read_region text ≡ Some r → (text ≡ edges_text r) × (fair_edges r ≡ true)
 unfolding read_region
 only_region text r e = only_read fair_edges edges_text (edges_of (fields text)) text r e
 
 -- or a cell's.
-pub only_cell : (text : List ℕ) (c : Cell) → read_cell text ≡ some c → (text ≡ text_of_cell c) × (fair_cell c ≡ true)
+pub only_cell : (text : List ℕ) (c : CellLine) → read_cell text ≡ Some c → (text ≡ text_of_cell c) × (fair_cell c ≡ true)
 unfolding read_cell
 only_cell text c e = only_read fair_cell text_of_cell (cell_of (fields text)) text c e
 

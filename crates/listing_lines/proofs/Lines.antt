@@ -1,15 +1,12 @@
 -- A line that has grown by a word, fields and a line end is the definition's line. Assumes nothing.
 use mathlib.Core.Path.{◌≡◌, ap, ap₂, subst, ◌∙◌}
-use mathlib.Core.Bool.{Bool, true}
 use mathlib.Core.List.{List, [], ◌∷◌, ◌++◌, append_assoc}
 use Prim.Native.Nat.{ℕ, ◌+◌, ◌^◌, ◌≤◌, ◌<◌}
 use native.Mathlib.Omega.{arith}
 use lib.Ieee.{Float}
 use lib.ListN.{length, take}
 use Rattle.decimal.specs.Decimal.{decimal}
-use Rattle.decimal.specs.Text.{same}
 use Rattle.decimal.proofs.Digits.{decimal_short}
-use Rattle.decimal.proofs.Bytes.{matched}
 use Rattle.put_text.specs.Placed.{Written, written, with_text, placed}
 use Rattle.put_text.proofs.Putting.{is_placed}
 use Rattle.put_text.proofs.Whole.{front_is}
@@ -158,41 +155,38 @@ grown_as {l} {l'} {s} {t} {n} {n'} e g = subst (λ (x : List ℕ). Grown l n x l
 pub nine : {l l' : List ℕ} {at r : ℕ} (n : ℕ) → Grown l at (9 ∷ hex 8 n) l' r → r ≤ at + 9
 nine n g = omega (arith, g.next, hex_length 8 n)
 
--- what `check::same` tells of a text and of the line that was written
-pub record Told (after text : List ℕ) (n : ℕ) : Type 0 where
+-- the line that was written ends in the buffer, and is the text
+pub record Whole (after text : List ℕ) (n : ℕ) : Type 0 where
   pub end : n ≤ 96
-  pub told :
-      (given : List ℕ) (r : Bool) →
-      (r ≡ true → given ≡ take n after) × (given ≡ take n after → r ≡ true) →
-      r ≡ same given text
+  pub is : take n after ≡ text
 
-written_whole : (out after text : List ℕ) (n : ℕ) → length out ≡ 96 → length text ≤ 96 → written after n ≡ placed (written out 0) text → Told after text n
+written_whole : (out after text : List ℕ) (n : ℕ) → length out ≡ 96 → length text ≤ 96 → written after n ≡ placed (written out 0) text → Whole after text n
 written_whole out after text n long short e =
     let room : 0 + length text ≤ length out = omega arith in
     let p : written after n ≡ with_text (written out 0) text = e ∙ is_placed out 0 text room in
     let m : n ≡ 0 + length text = ap (λ (w : Written). w.at) p in
     let whole : take n after ≡ text = ap₂ take m (ap (λ (w : Written). w.out) p) ∙ front_is out 0 text room in
-    record { end = omega arith; told = λ given r f. matched given (take n after) r f ∙ ap (same given) whole }
+    record { end = omega arith; is = whole }
 
 module _ (out after : List ℕ) (n : ℕ) where
   pub table_whole :
       (w h k : ℕ) →
       written after n ≡ placed (written out 0) (table_line w h k) →
       length out ≡ 96 → w < 2 ^ 32 → h < 2 ^ 32 → k < 2 ^ 32 →
-      Told after (table_line w h k) n
+      Whole after (table_line w h k) n
   table_whole w h k e long hw hh hk =
       written_whole out after (table_line w h k) n long
       (omega (arith, table_length w h k, decimal_short w 9 (omega arith), decimal_short h 9 (omega arith), decimal_short k 9 (omega arith))) e
 
   pub region_whole :
-      (l t r b : ℕ) → written after n ≡ placed (written out 0) (region_text l t r b) → length out ≡ 96 → Told after (region_text l t r b) n
+      (l t r b : ℕ) → written after n ≡ placed (written out 0) (region_text l t r b) → length out ≡ 96 → Whole after (region_text l t r b) n
   region_whole l t r b e long = written_whole out after (region_text l t r b) n long (omega (arith, region_length l t r b)) e
 
   pub cell_whole :
       (u v a b : ℕ) →
       written after n ≡ placed (written out 0) (cell_text u v a b) →
       length out ≡ 96 → u < 2 ^ 32 → v < 2 ^ 32 →
-      Told after (cell_text u v a b) n
+      Whole after (cell_text u v a b) n
   cell_whole u v a b e long hu hv =
       written_whole out after (cell_text u v a b) n long
       (omega (arith, cell_length u v a b, decimal_short u 9 (omega arith), decimal_short v 9 (omega arith))) e

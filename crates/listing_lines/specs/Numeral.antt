@@ -1,12 +1,13 @@
 -- What the code guesses of a field: right where the line is one that was written, and some number for any other bytes.
 -- Definitions only.
-use Rattle.std.specs.Prelude.{cond, ◌&&◌, List, [], ◌∷◌, ℕ, ◌+◌, ◌*◌, ◌-◌, ◌^◌, eqb, ltb}
+use Rattle.std.specs.Prelude.{cond, List, [], ◌∷◌, ℕ, ◌+◌, ◌*◌, ◌-◌, ◌^◌, eqb, ltb}
+use Rattle.std.specs.Option.{option_map_or}
 use Rattle.decimal.specs.Text.{tab}
 use Rattle.hexadecimal.specs.Hex.{digit}
 
 -- a number with a digit after it; a byte that is none leaves it, and so does a number with no room for one more
 unfoldable pub pushed : ℕ → ℕ → ℕ → ℕ
-pushed base n b = cond (ltb (digit b) 16) (cond (ltb n (2 ^ 60)) (n * base + digit b) n) n
+pushed base n b = option_map_or (λ d. cond (ltb n (2 ^ 60)) (n * base + d) n) (digit b) n
 
 -- how many fields are left to the end of the one asked for, of which 1 is itself and 0 says it is past; with a byte
 -- passed

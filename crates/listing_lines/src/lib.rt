@@ -9,41 +9,36 @@ ghost use Rattle.put_text.specs.Placed.{written, placed};
 ghost use Rattle.listing_lines.specs.Line.{hex, line, table_line, region_text, region_line, cell_text, cell_line};
 ghost use Rattle.listing_lines.specs.Line.{refused_line, difference_line, count_line, filled_line, differs_line};
 ghost use Rattle.listing_lines.specs.Numeral.{pushed, left_after, number_after, numeral};
-ghost use Rattle.listing_lines.specs.Read.{read_table, table_told, read_region, region_told, read_cell};
-ghost use Rattle.listing_lines.specs.Read.{cell_told};
+ghost use Rattle.listing_lines.specs.Read.{header_text, read_table, edges_text, read_region, text_of_cell, read_cell};
 ghost use Rattle.listing_lines.specs.Grown.{Grown};
 
 use lens::Refusal;
 use region::Region;
 
 // What a line tells of a cell: its place, across and down, and the bit patterns of its two numbers.
-#[derive(Clone, Copy)]
-pub enum CellLine {
-    Cell { u: u32, v: u32, a: u32, b: u32 },
-    NoCell,
+#[derive(Clone, Copy, Debug, PartialEq, Eq)]
+pub struct CellLine {
+    pub u: u32,
+    pub v: u32,
+    pub a: u32,
+    pub b: u32,
 }
 
 // What it tells of a table: its size, and the updates that it took.
-#[derive(Clone, Copy)]
-pub enum TableLine {
-    Table {
-        width: u32,
-        height: u32,
-        updates: u32,
-    },
-    NoTable,
+#[derive(Clone, Copy, Debug, PartialEq, Eq)]
+pub struct TableLine {
+    pub width: u32,
+    pub height: u32,
+    pub updates: u32,
 }
 
 // What it tells of a region: the bit patterns of lower x and y, upper x and y.
-#[derive(Clone, Copy)]
-pub enum RegionLine {
-    Region {
-        left: u64,
-        top: u64,
-        right: u64,
-        bottom: u64,
-    },
-    NoRegion,
+#[derive(Clone, Copy, Debug, PartialEq, Eq)]
+pub struct RegionLine {
+    pub left: u64,
+    pub top: u64,
+    pub right: u64,
+    pub bottom: u64,
 }
 
 // A line is made here before it is put, so that one that does not fit leaves no trace. The longest is a region's, of 75
@@ -245,13 +240,10 @@ fn pushed(base: u64, n: u64, b: u8) -> u64
     requires { base ≤ 16 }
     ensures { result ≡ pushed base n b }
 {
-    let d = hexadecimal::digit(b);
-    if d < 16 {
-        if n < FULL {
-            return n * base + d as u64;
-        }
+    match hexadecimal::digit(b) {
+        Some(d) if n < FULL => n * base + u64::from(d),
+        _ => n,
     }
-    n
 }
 
 // How many fields are left once byte b is passed.
@@ -259,7 +251,7 @@ fn left_after(left: usize, b: u8) -> usize
     ensures { result ≡ left_after left b }
 {
     if b == b'\t' {
-        if 0 < left { left - 1 } else { 0 }
+        left.saturating_sub(1)
     } else {
         left
     }
@@ -280,11 +272,9 @@ fn numeral(base: u64, field: usize, text: &[u8]) -> u64
 {
     let mut left = field;
     let mut n = 0;
-    let mut i = 0;
-    while i < text.len() {
-        n = number_after(base, left, n, text[i]);
-        left = left_after(left, text[i]);
-        i += 1;
+    for b in text {
+        n = number_after(base, left, n, *b);
+        left = left_after(left, *b);
     }
     n
 }
@@ -297,82 +287,87 @@ fn single(base: u64, field: usize, text: &[u8]) -> u32
     (numeral(base, field, text) % WORD) as u32
 }
 
-// Whether text is the line of these numbers: of a cell,
-fn is_cell(text: &[u8], u: u32, v: u32, a: u32, b: u32) -> bool
-    ensures { result ≡ same text.now (cell_text u v a b) }
+// Whether text is the line of a cell,
+fn is_cell(text: &[u8], cell: CellLine) -> bool
+    ensures { result ≡ same text.now (text_of_cell cell) }
 {
     let mut line = [0u8; LINE];
-    let end = cell_text(&mut line, 0, u as usize, v as usize, a, b);
-    check::same(text, &line[..end])
+    let end = cell_text(
+        &mut line,
+        0,
+        cell.u as usize,
+        cell.v as usize,
+        cell.a,
+        cell.b,
+    );
+    text == &line[..end]
 }
 
 // a table,
-fn is_table(text: &[u8], width: u32, height: u32, updates: u32) -> bool
-    ensures { result ≡ same text.now (table_line width height updates) }
+fn is_table(text: &[u8], table: TableLine) -> bool
+    ensures { result ≡ same text.now (header_text table) }
 {
     let mut line = [0u8; LINE];
-    let end = table_line(&mut line, 0, width as usize, height as usize, updates);
-    check::same(text, &line[..end])
+    let end = table_line(
+        &mut line,
+        0,
+        table.width as usize,
+        table.height as usize,
+        table.updates,
+    );
+    text == &line[..end]
 }
 
 // a region.
-fn is_region(text: &[u8], left: u64, top: u64, right: u64, bottom: u64) -> bool
-    ensures { result ≡ same text.now (region_text left top right bottom) }
+fn is_region(text: &[u8], region: RegionLine) -> bool
+    ensures { result ≡ same text.now (edges_text region) }
 {
     let mut line = [0u8; LINE];
-    let end = region_text(&mut line, 0, left, top, right, bottom);
-    check::same(text, &line[..end])
+    let end = region_text(
+        &mut line,
+        0,
+        region.left,
+        region.top,
+        region.right,
+        region.bottom,
+    );
+    text == &line[..end]
 }
 
 // What a line tells of a cell. Its numbers are guessed and written again: a line is read if it is what is written.
-pub fn read_cell(text: &[u8]) -> CellLine
-    ensures { result ≡ cell_told (read_cell text.now) }
+pub fn read_cell(text: &[u8]) -> Option<CellLine>
+    ensures { result ≡ read_cell text.now }
 {
-    let u = single(10, 2, text);
-    let v = single(10, 3, text);
-    let a = single(16, 4, text);
-    let b = single(16, 5, text);
-    if is_cell(text, u, v, a, b) {
-        CellLine::Cell { u, v, a, b }
-    } else {
-        CellLine::NoCell
-    }
+    let cell = CellLine {
+        u: single(10, 2, text),
+        v: single(10, 3, text),
+        a: single(16, 4, text),
+        b: single(16, 5, text),
+    };
+    is_cell(text, cell).then_some(cell)
 }
 
 // What it tells of a table,
-pub fn read_table(text: &[u8]) -> TableLine
-    ensures { result ≡ table_told (read_table text.now) }
+pub fn read_table(text: &[u8]) -> Option<TableLine>
+    ensures { result ≡ read_table text.now }
 {
-    let width = single(10, 2, text);
-    let height = single(10, 3, text);
-    let updates = single(10, 4, text);
-    if is_table(text, width, height, updates) {
-        TableLine::Table {
-            width,
-            height,
-            updates,
-        }
-    } else {
-        TableLine::NoTable
-    }
+    let table = TableLine {
+        width: single(10, 2, text),
+        height: single(10, 3, text),
+        updates: single(10, 4, text),
+    };
+    is_table(text, table).then_some(table)
 }
 
 // and of a region.
-pub fn read_region(text: &[u8]) -> RegionLine
-    ensures { result ≡ region_told (read_region text.now) }
+pub fn read_region(text: &[u8]) -> Option<RegionLine>
+    ensures { result ≡ read_region text.now }
 {
-    let left = numeral(16, 2, text);
-    let top = numeral(16, 3, text);
-    let right = numeral(16, 4, text);
-    let bottom = numeral(16, 5, text);
-    if is_region(text, left, top, right, bottom) {
-        RegionLine::Region {
-            left,
-            top,
-            right,
-            bottom,
-        }
-    } else {
-        RegionLine::NoRegion
-    }
+    let region = RegionLine {
+        left: numeral(16, 2, text),
+        top: numeral(16, 3, text),
+        right: numeral(16, 4, text),
+        bottom: numeral(16, 5, text),
+    };
+    is_region(text, region).then_some(region)
 }

@@ -9,8 +9,8 @@ use borrow.Author.Tests.{lt-ltb, le-ltb}
 use lib.ListN.{length, get_or, take, drop, length-drop, get_or-eq_default}
 use lib.Seq.{take_all, take-take, drop-drop}
 use Rattle.decimal.specs.Text.{tab, newline, same}
-use Rattle.hexadecimal.specs.Hex.{after, is_bits, bits_of}
-use Rattle.hexadecimal.specs.declared.Bits.{Bits}
+use Rattle.std.proofs.Common.{Option, is_some, unwrap_or}
+use Rattle.hexadecimal.specs.Hex.{after}
 use Rattle.params_line.specs.Params.{field, fielded, patterns, many, is_line, params_of}
 
 -- what `hexadecimal::after` finds in a part of at most 17 bytes
@@ -24,16 +24,16 @@ cut line m e = ap (λ (k : ℕ). field (take k line)) e ∙ ap (after (tab ∷ [
 -- ---- the loop over n fields, of which i are passed
 
 module _ (line : List ℕ) (n i : ℕ) (h : i < n) where
-  next : fielded (n - i) (drop (i * 17) line) ≡ (is_bits (field (drop (i * 17) line)) && fielded (n - (i + 1)) (drop ((i + 1) * 17) line))
+  next : fielded (n - i) (drop (i * 17) line) ≡ (is_some (field (drop (i * 17) line)) && fielded (n - (i + 1)) (drop ((i + 1) * 17) line))
   unfolding fielded
   next =
       let m : n - i ≡ suc (n - (i + 1)) = omega arith in
       let k : i * 17 + 17 ≡ (i + 1) * 17 = omega arith in
       let d : drop 17 (drop (i * 17) line) ≡ drop ((i + 1) * 17) line = drop-drop 17 (i * 17) line ∙ ap (λ (j : ℕ). drop j line) k in
       ap (λ (j : ℕ). fielded j (drop (i * 17) line)) m
-      ∙ ap (λ (s : List ℕ). is_bits (field (drop (i * 17) line)) && fielded (n - (i + 1)) s) d
+      ∙ ap (λ (s : List ℕ). is_some (field (drop (i * 17) line)) && fielded (n - (i + 1)) s) d
 
-  module _ (b : Bool) (e : b ≡ is_bits (field (drop (i * 17) line))) (d : fielded (n - i) (drop (i * 17) line) ≡ fielded n line) where
+  module _ (b : Bool) (e : b ≡ is_some (field (drop (i * 17) line))) (d : fielded (n - i) (drop (i * 17) line) ≡ fielded n line) where
     joined : (b && fielded (n - (i + 1)) (drop ((i + 1) * 17) line)) ≡ fielded n line
     joined = ap (λ (t : Bool). t && fielded (n - (i + 1)) (drop ((i + 1) * 17) line)) e ∙ sym next ∙ d
 
@@ -65,13 +65,13 @@ all_fielded line n i h l d =
 
 -- ---- the k-th pattern
 
-pub pattern_at : (n k : ℕ) (rest : List ℕ) → k < n → get_or (patterns n rest) k 0 ≡ bits_of (field (drop (k * 17) rest))
+pub pattern_at : (n k : ℕ) (rest : List ℕ) → k < n → get_or (patterns n rest) k 0 ≡ unwrap_or (field (drop (k * 17) rest)) 0
 unfolding patterns
 pattern_at zero k rest h = absurd (not-suc-le-zero h)
 pattern_at (suc n) zero rest h = refl
 pattern_at (suc n) (suc k) rest h =
     let j : 17 + k * 17 ≡ suc k * 17 = omega arith in
-    pattern_at n k (drop 17 rest) (le_of_suc-le-suc h) ∙ ap (λ (s : List ℕ). bits_of (field s)) (drop-drop (k * 17) 17 rest ∙ ap (λ (i : ℕ). drop i rest) j)
+    pattern_at n k (drop 17 rest) (le_of_suc-le-suc h) ∙ ap (λ (s : List ℕ). unwrap_or (field s) 0) (drop-drop (k * 17) 17 rest ∙ ap (λ (i : ℕ). drop i rest) j)
 
 pub patterns_length : (n : ℕ) (rest : List ℕ) → length (patterns n rest) ≡ n
 unfolding patterns
@@ -83,14 +83,14 @@ unfolding params_of
 params_length line = patterns_length (many line) (drop 6 line)
 
 -- as the code finds it
-pub param_at : (line : List ℕ) (k s e : ℕ) → k < many line → s ≡ k * 17 + 6 → e ≡ s + 17 → (bits : Bits) → bits ≡ after (tab ∷ []) (take (e - s) (drop s line)) → bits_of bits ≡ get_or (params_of line) k 0
+pub param_at : (line : List ℕ) (k s e : ℕ) → k < many line → s ≡ k * 17 + 6 → e ≡ s + 17 → (bits : Option ℕ) → bits ≡ after (tab ∷ []) (take (e - s) (drop s line)) → unwrap_or bits 0 ≡ get_or (params_of line) k 0
 unfolding params_of
 param_at line k s e h a b bits f =
     let m : e - s ≡ 17 = omega arith in
     let j : s ≡ 6 + k * 17 = omega arith in
-    ap bits_of (f ∙ ap (λ (n : ℕ). after (tab ∷ []) (take n (drop s line))) m)
-    ∙ ap (λ (n : ℕ). bits_of (field (drop n line))) j
-    ∙ sym (ap (λ (l : List ℕ). bits_of (field l)) (drop-drop (k * 17) 6 line))
+    ap (λ (o : Option ℕ). unwrap_or o 0) (f ∙ ap (λ (n : ℕ). after (tab ∷ []) (take n (drop s line))) m)
+    ∙ ap (λ (n : ℕ). unwrap_or (field (drop n line)) 0) j
+    ∙ sym (ap (λ (l : List ℕ). unwrap_or (field l) 0) (drop-drop (k * 17) 6 line))
     ∙ sym (pattern_at (many line) k (drop 6 line) h)
 
 -- past the last there is none
@@ -107,13 +107,9 @@ pub no_fields : (word line : List ℕ) → many line ≡ 0 → false ≡ is_line
 unfolding is_line
 no_fields word line e = simp (le-ltb 0 (many line) (omega arith))
 
-pub pos : (m : ℕ) → (m ≡ 0 → ⊥) → 0 < m
-pos zero h = absurd (h refl)
-pos (suc m) h = omega arith
-
-module _ (word line : List ℕ) (n : ℕ) (e : n ≡ many line) (some : n ≡ 0 → ⊥) where
+module _ (word line : List ℕ) (n : ℕ) (e : n ≡ many line) (some : 0 < n) where
   above : 0 < many line
-  above = pos (many line) (λ z. some (e ∙ z))
+  above = omega arith
 
   pub that_word : same (take 6 line) word ≡ true → (r : Bool) → r ≡ fielded n (take (length line - 6) (drop 6 line)) → r ≡ is_line word line
   unfolding is_line

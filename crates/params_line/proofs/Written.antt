@@ -12,46 +12,44 @@ use Rattle.io.specs.Digits.{last_digits}
 use Rattle.decimal.specs.Text.{tab, newline, all, same}
 use Rattle.decimal.proofs.Bytes.{and_left, and_right, both, same_self, same_true}
 use Rattle.decimal.proofs.Digits.{length_digits}
-use Rattle.hexadecimal.specs.Hex.{spelled, after, is_bits, bits_of}
-use Rattle.hexadecimal.specs.declared.Bits.{Bits}
-use Rattle.hexadecimal.specs.declared.Bits.TheVariants.{Of, None}
+use Rattle.std.proofs.Common.{Option, Some, None, is_some, unwrap_or}
+use Rattle.hexadecimal.specs.Hex.{spelled, after}
 use Rattle.hexadecimal.proofs.Laws.{written_spelled, spelled_written, spelled_short, after_rest}
-use Rattle.hexadecimal.proofs.Written.{none_of}
 use Rattle.params_line.specs.Params.{pattern, fields, word_line, field, fielded, patterns, many, is_line, params_of}
 use Rattle.params_line.proofs.Params.{params_length}
 
 -- ---- a field
 
-at_tab : (b : ℕ) (line : List ℕ) (p : ℕ) (t : Bool) → eqb tab b ≡ t → cond t (spelled line) None ≡ Of p → (b ∷ line ≡ tab ∷ last_digits 16 16 p) × (p < 2 ^ 64)
+at_tab : (b : ℕ) (line : List ℕ) (p : ℕ) (t : Bool) → eqb tab b ≡ t → cond t (spelled line) None ≡ Some p → (b ∷ line ≡ tab ∷ last_digits 16 16 p) × (p < 2 ^ 64)
 at_tab b line p true e f = (ap₂ (λ (x : ℕ) (s : List ℕ). x ∷ s) (sym (eqb-true tab b e)) (spelled_written line p f), spelled_short line p f)
-at_tab b line p false e f = absurd (none_of f)
+at_tab b line p false e f = cc
 
-after_written : (chunk : List ℕ) (p : ℕ) → after (tab ∷ []) chunk ≡ Of p → (chunk ≡ tab ∷ last_digits 16 16 p) × (p < 2 ^ 64)
+after_written : (chunk : List ℕ) (p : ℕ) → after (tab ∷ []) chunk ≡ Some p → (chunk ≡ tab ∷ last_digits 16 16 p) × (p < 2 ^ 64)
 unfolding after
-after_written [] p e = absurd (none_of e)
+after_written [] p e = cc
 after_written (b ∷ line) p e = at_tab b line p (eqb tab b) refl e
 
-bits_are : (bits : Bits) → is_bits bits ≡ true → bits ≡ Of (bits_of bits)
-bits_are (Of n) e = refl
+bits_are : (bits : Option ℕ) → is_some bits ≡ true → bits ≡ Some (unwrap_or bits 0)
+bits_are (Some n) e = refl
 bits_are None e = absurd (false≢true e)
 
 -- ---- all fields
 
 -- what is read as fields is what is written of the patterns
 fields_back : (n : ℕ) (rest : List ℕ) → fielded n rest ≡ true → (rest ≡ fields (patterns n rest)) × (all pattern (patterns n rest) ≡ true)
-unfolding fielded patterns fields all
+unfolding fielded patterns fields
 fields_back zero rest e = (same_true rest (newline ∷ []) e, refl)
 fields_back (suc n) rest e =
-    let b = bits_are (field rest) (and_left (is_bits (field rest)) (fielded n (drop 17 rest)) e) in
-    let w = after_written (take 17 rest) (bits_of (field rest)) b in
-    let more = fields_back n (drop 17 rest) (and_right (is_bits (field rest)) (fielded n (drop 17 rest)) e) in
-    (sym (take-append-drop 17 rest) ∙ ap₂ (λ (s t : List ℕ). s ++ t) w.0 more.0, both (lt-ltb (bits_of (field rest)) (2 ^ 64) w.1) more.1)
+    let b = bits_are (field rest) (and_left (is_some (field rest)) (fielded n (drop 17 rest)) e) in
+    let w = after_written (take 17 rest) (unwrap_or (field rest) 0) b in
+    let more = fields_back n (drop 17 rest) (and_right (is_some (field rest)) (fielded n (drop 17 rest)) e) in
+    (sym (take-append-drop 17 rest) ∙ ap₂ (λ (s t : List ℕ). s ++ t) w.0 more.0, both (lt-ltb (unwrap_or (field rest) 0) (2 ^ 64) w.1) more.1)
 
 module _ (p : ℕ) (rest : List ℕ) (h : p < 2 ^ 64) where
   seventeen : length (tab ∷ last_digits 16 16 p) ≡ 17
   seventeen = ap suc (length_digits 16 16 p)
 
-  field_there : field ((tab ∷ last_digits 16 16 p) ++ rest) ≡ Of p
+  field_there : field ((tab ∷ last_digits 16 16 p) ++ rest) ≡ Some p
   field_there =
       ap (after (tab ∷ [])) (take_at (tab ∷ last_digits 16 16 p) rest 17 seventeen) ∙ after_rest (tab ∷ []) (last_digits 16 16 p) ∙ written_spelled p h
 
@@ -60,15 +58,15 @@ module _ (p : ℕ) (rest : List ℕ) (h : p < 2 ^ 64) where
 
 -- what is written of patterns is read as these
 fields_there : (params : List ℕ) → all pattern params ≡ true → (fielded (length params) (fields params) ≡ true) × (patterns (length params) (fields params) ≡ params)
-unfolding fielded patterns fields all
+unfolding fielded patterns fields
 fields_there [] e = (same_self (newline ∷ []), refl)
 fields_there (p ∷ params) e =
     let h = ltb-true p (2 ^ 64) (and_left (pattern p) (all pattern params) e) in
     let more = fields_there params (and_right (pattern p) (all pattern params) e) in
     let there = field_there p (fields params) h in
     let rest = rest_there p (fields params) h in (
-      both (ap is_bits there) (ap (fielded (length params)) rest ∙ more.0),
-      ap₂ (λ (x : ℕ) (s : List ℕ). x ∷ s) (ap bits_of there) (ap (patterns (length params)) rest ∙ more.1),
+      both (ap is_some there) (ap (fielded (length params)) rest ∙ more.0),
+      ap₂ (λ (x : ℕ) (s : List ℕ). x ∷ s) (ap (λ (o : Option ℕ). unwrap_or o 0) there) (ap (patterns (length params)) rest ∙ more.1),
     )
 
 pub length_fields : (params : List ℕ) → length (fields params) ≡ length params * 17 + 1

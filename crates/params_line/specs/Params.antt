@@ -1,11 +1,10 @@
 -- A line of bit patterns, as it is written and as it is read (docs/RULES.md, 16.1): a word of six letters, then a tab
 -- and 16 digits for each pattern, then a newline and no more. A params line is one. Definitions only.
-use Rattle.std.specs.Prelude.{Bool, ◌&&◌, List, [], ◌∷◌, ◌++◌, ℕ, zero, suc, ◌-◌, ◌/◌, ◌^◌, ltb, Float, length, get_or, take, drop}
+use Rattle.std.specs.Prelude.{Bool, ◌&&◌, Option, List, [], ◌∷◌, ◌++◌, ℕ, zero, suc, ◌-◌, ◌/◌, ◌^◌, ltb, Float, length, get_or, take, drop, is_some, unwrap_or}
 use Rattle.io.specs.Digits.{last_digits}
 use Rattle.exact.specs.F64.{f64}
 use Rattle.decimal.specs.Text.{tab, newline, same}
-use Rattle.hexadecimal.specs.Hex.{after, is_bits, bits_of}
-use Rattle.hexadecimal.specs.declared.Bits.{Bits}
+use Rattle.hexadecimal.specs.Hex.{after}
 
 -- `params`
 abbrev pub params_word : List ℕ
@@ -31,17 +30,17 @@ params_line params = word_line params_word params
 -- ---- read
 
 -- the number after the tab
-abbrev pub field : List ℕ → Bits
+abbrev pub field : List ℕ → Option ℕ
 field chunk = after (tab ∷ []) (take 17 chunk)
 
 -- n fields and the line's end
 unfoldable pub fielded : ℕ → List ℕ → Bool
 fielded zero rest = same rest (newline ∷ [])
-fielded (suc n) rest = is_bits (field rest) && fielded n (drop 17 rest)
+fielded (suc n) rest = is_some (field rest) && fielded n (drop 17 rest)
 
 unfoldable pub patterns : ℕ → List ℕ → List ℕ
 patterns zero rest = []
-patterns (suc n) rest = bits_of (field rest) ∷ patterns n (drop 17 rest)
+patterns (suc n) rest = unwrap_or (field rest) 0 ∷ patterns n (drop 17 rest)
 
 -- how many fields a line has room for
 abbrev pub many : List ℕ → ℕ

@@ -2,14 +2,11 @@
 // read, and written. Reading makes no list of patterns: the k-th one stands at a fixed place.
 #![tactic(auto)]
 
-ghost use Rattle.std.specs.Prelude.{◌≡◌, ◌+◌, ◌*◌, ◌/◌, ◌≤◌, ◌<◌, ◌∷◌, leb, length, get_or};
+ghost use Rattle.std.specs.Prelude.{◌≡◌, ◌+◌, ◌*◌, ◌/◌, ◌≤◌, ◌<◌, ◌∷◌, leb, length, get_or, is_some};
 ghost use Rattle.io.specs.Digits.{last_digits};
 ghost use Rattle.put_text.specs.Placed.{written, with_text, placed};
 ghost use Rattle.decimal.specs.Text.{tab};
-ghost use Rattle.hexadecimal.specs.Hex.{is_bits};
 ghost use Rattle.params_line.specs.Params.{fields, word_line, field, fielded, many, is_line, params_of, at};
-
-use hexadecimal::Bits;
 
 // The line's word has six letters, whichever it is; a field after it is a tab and 16 digits.
 const WORD: usize = 6;
@@ -19,13 +16,9 @@ const FIELD: usize = 17;
 // Whether a part of a line starts with a field.
 fn is_field(chunk: &[u8]) -> bool
     requires { length chunk.now ≤ 17 }
-    ensures { result ≡ is_bits (field chunk.now) }
+    ensures { result ≡ is_some (field chunk.now) }
 {
-    let bits = hexadecimal::after(b"\t", chunk);
-    match bits {
-        Bits::Of(_) => true,
-        Bits::None => false,
-    }
+    hexadecimal::after(b"\t", chunk).is_some()
 }
 
 // Whether n fields stand there, and then a newline and no more.
@@ -33,28 +26,22 @@ fn fielded(line: &[u8], n: usize) -> bool
     requires { n ≡ length line.now / 17 }
     ensures { result ≡ fielded n line.now }
 {
-    let mut i = 0;
-    while i < n {
+    for i in 0..n {
         let start = i * FIELD;
         let end = start + FIELD;
         if !is_field(&line[start..end]) {
             return false;
         }
-        i += 1;
     }
     let last = n * FIELD;
-    check::same(&line[last..], b"\n")
+    &line[last..] == b"\n".as_slice()
 }
 
 // How many fields a line has room for.
 pub fn many(line: &[u8]) -> usize
     ensures { result ≡ many line.now }
 {
-    if line.len() < WORD {
-        0
-    } else {
-        (line.len() - WORD) / FIELD
-    }
+    line.len().saturating_sub(WORD) / FIELD
 }
 
 // Whether a text is a line of that word, with one field or more.
@@ -62,14 +49,7 @@ pub fn is_line(word: &[u8], line: &[u8]) -> bool
     ensures { result ≡ is_line word.now line.now }
 {
     let n = many(line);
-    if n == 0 {
-        return false;
-    }
-    if check::same(&line[..WORD], word) {
-        fielded(&line[WORD..], n)
-    } else {
-        false
-    }
+    0 < n && &line[..WORD] == word && fielded(&line[WORD..], n)
 }
 
 // The k-th pattern of a line that has one.
@@ -79,11 +59,7 @@ fn field_at(line: &[u8], k: usize) -> u64
 {
     let start = k * FIELD + WORD;
     let end = start + FIELD;
-    let bits = hexadecimal::after(b"\t", &line[start..end]);
-    match bits {
-        Bits::Of(pattern) => pattern,
-        Bits::None => 0,
-    }
+    hexadecimal::after(b"\t", &line[start..end]).unwrap_or(0)
 }
 
 // The k-th pattern of a line, and 0 if it has none.
@@ -119,10 +95,8 @@ fn put_fields(out: &mut [u8], at: usize, numbers: &[u64]) -> usize
         with_text (written out.old at) (fields numbers.now) }
 {
     let mut next = at;
-    let mut i = 0;
-    while i < numbers.len() {
-        next = put_field(out, next, numbers[i]);
-        i += 1;
+    for bits in numbers {
+        next = put_field(out, next, *bits);
     }
     put_text::put(out, next, b"\n")
 }
@@ -131,13 +105,7 @@ fn put_fields(out: &mut [u8], at: usize, numbers: &[u64]) -> usize
 fn has_room(long: usize, at: usize, word: usize, many: usize) -> bool
     ensures { result ≡ leb (at + (word + (many * 17 + 1))) long }
 {
-    if long <= at {
-        return false;
-    }
-    if long - at <= word {
-        return false;
-    }
-    many <= (long - at - word - 1) / FIELD
+    at < long && word < long - at && many <= (long - at - word - 1) / FIELD
 }
 
 // Puts the line of a word and its numbers at place at of out, if it fits between there and the end, and answers the

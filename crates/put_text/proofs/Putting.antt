@@ -1,51 +1,16 @@
--- A text copied into a buffer byte by byte, and put where it fits. Assumes nothing.
+-- A text put into a buffer where it fits. Assumes nothing.
 use mathlib.Core.Path.{◌≡◌, refl, sym, ap, ◌∙◌}
 use mathlib.Core.Bool.{Bool, true, false, cond}
 use mathlib.Core.List.{List, ◌∷◌, ◌++◌}
 use Prim.Native.Nat.{ℕ, ◌+◌, ◌≤◌, ◌<◌}
-use native.Mathlib.Numerals.{add-one}
 use native.Mathlib.Omega.{arith}
 use borrow.Author.Tests.{le-leb, lt-leb}
 use lib.Dec.{leb}
-use lib.ListN.{length, take, drop, get_or, set, length-set}
-use lib.Seq.{paste, paste-zero, paste-suc, take-length}
+use lib.ListN.{length, take, drop}
+use lib.Seq.{take-length}
+use borrow.Rule.Slice.PartMut.{put_mid}
+use Rattle.std.proofs.lemmas.Slice.{put_mid-paste}
 use Rattle.put_text.specs.Placed.{Written, written, with_text, placed, placed_all}
-
--- ---- copying
-
--- the first i bytes of the text are in place
-pub record Copied (out₀ : List ℕ) (at : ℕ) (text out : List ℕ) (i : ℕ) : Type 0 where
-  pub within : i ≤ length text
-  pub fits : at + length text ≤ length out₀
-  pub long : length out ≡ length out₀
-  pub is : out ≡ paste out₀ at text i
-
-pub none_copied : (out : List ℕ) (at : ℕ) (text : List ℕ) → at + length text ≤ length out → Copied out at text out 0
-none_copied out at text h = record { within = omega arith; fits = h; long = refl; is = paste-zero out at text }
-
-pub one_copied :
-    (out₀ : List ℕ) (at : ℕ) (text out : List ℕ) (i : ℕ) →
-    Copied out₀ at text out i →
-    i < length text →
-    Copied out₀ at text (set out (at + i) (get_or text i 0)) (i + 1)
-one_copied out₀ at text out i p h = record {
-  within = omega arith;
-  fits = p.fits;
-  long = length-set out (at + i) (get_or text i 0) ∙ p.long;
-  is =
-      ap (λ (l : List ℕ). set l (at + i) (get_or text i 0)) p.is
-      ∙ paste-suc out₀ at text i 0 (omega (arith, p.fits)) h
-      ∙ ap (paste out₀ at text) (sym (add-one i));
-}
-
-pub all_copied :
-    (out₀ : List ℕ) (at : ℕ) (text out : List ℕ) (i : ℕ) →
-    Copied out₀ at text out i →
-    length text ≤ i →
-    out ≡ (with_text (written out₀ at) text).out
-all_copied out₀ at text out i p h =
-    let e : i ≡ length text = omega (arith, p.within) in
-    p.is ∙ ap (paste out₀ at text) e ∙ ap (λ (l : List ℕ). take at out₀ ++ l ++ drop (at + length text) out₀) (take-length text)
 
 -- ---- putting
 
@@ -58,12 +23,18 @@ module _ (out : List ℕ) (at : ℕ) (text : List ℕ) where
   unfolding placed
   is_placed h = simp (le-leb (at + length text) (length out) h)
 
+  -- a text copied over the part from at on
   pub copy_placed :
-      (after : List ℕ) →
+      (part : List ℕ) (k : ℕ) →
       at + length text ≤ length out →
-      after ≡ (with_text (written out at) text).out →
-      written after (at + length text) ≡ placed (written out at) text
-  copy_placed after h e = ap (λ (l : List ℕ). written l (at + length text)) e ∙ sym (is_placed h)
+      part ≡ text →
+      k ≡ length text →
+      written (put_mid at k out part) (at + length text) ≡ placed (written out at) text
+  copy_placed part k h e f =
+      ap (λ (l : List ℕ). written l (at + length text))
+      (put_mid-paste at k out part text (length text) e (sym f) refl
+      ∙ ap (λ (l : List ℕ). take at out ++ l ++ drop (at + length text) out) (take-length text))
+      ∙ sym (is_placed h)
 
 pub put_same : (w w' : Written) (s t : List ℕ) → w ≡ placed w' s → s ≡ t → w ≡ placed w' t
 put_same w w' s t e f = e ∙ ap (placed w') f

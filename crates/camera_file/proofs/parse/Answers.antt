@@ -1,32 +1,95 @@
--- `camera_file::parse` meets its contract: what the first field and the rest give is what the text asks for. Assumes nothing.
-use mathlib.Core.Path.{ap, ◌∙◌}
-use native.Mathlib.Omega.{arith}
-use lib.ListN.{length-take}
-use Rattle.decimal.specs.Text.{tab}
-use Rattle.camera_file.specs.Asked.{told_file}
-use Rattle.decimal.proofs.Bytes.{matched}
-use Rattle.decimal.proofs.Parts.{place_within}
-use Rattle.camera_file.proofs.Stages.{not_file, too_long, other_word, whole}
+-- `camera_file::parse` meets its contract: what the fields of a text decide is what the text asks for. Assumes nothing.
+use mathlib.Core.Path.{◌≡◌, sym, ap, ◌∙◌}
+use Prim.Native.Nat.{ℕ}
+use Rattle.std.proofs.lemmas.Result.{err_from_is_err_and}
+use Rattle.std.proofs.Common.{Option, None, Result, Err}
+use Rattle.std.specs.Option.{ok_or}
+use Rattle.lens.specs.declared.Refusal.{Refusal}
+use Rattle.params_line.specs.Params.{params_of}
+use Rattle.camera_file.specs.Asked.{asked_of}
+use Rattle.camera_file.proofs.Models.{alike, unlike}
+use Rattle.camera_file.proofs.Stages.{Fields, not_short, other_word, no_name, no_params, no_width, no_height, of_form}
 use Rattle.camera_file.proofs.parse.Goals as goal
+use Rattle.camera_file.proofs.parse.Goals.{then-text-gt-LONGEST-via-then-text-gt-LONGEST, then-text-gt-LONGEST-via-else-text-gt-LONGEST+then-ne, then-text-gt-LONGEST-via-else-text-gt-LONGEST+else-ne+then-not-is_name, then-text-gt-LONGEST-via-else-text-gt-LONGEST+else-ne+else-not-is_name+then-not-is_line}
 
-pub slice_bounds-same-end : goal.slice_bounds-same-end
-slice_bounds-same-end c = omega (arith, length-take c.place-end.result c.args.text.now, place_within tab c.args.text.now, c.place-end.ensures)
+-- the refusal that `ok_or` gives
+given : {o : Option ℕ} {r s : Refusal} → ◌≡◌ {A = Result ℕ Refusal} (Err r) (ok_or o s) → o ≡ None → r ≡ s
+given {o} {r} {s} e f = let g : ◌≡◌ {A = Result ℕ Refusal} (Err r) (Err s) = e ∙ ap (λ (o : Option ℕ). ok_or o s) f in cc
 
-pub returns-then-same : goal.returns-then-same
-returns-then-same c =
-    let text = c.args.text.now in
-    ap told_file
-    (c.from_name.ensures
-    ∙ whole text c.if-text-le-LONGEST.true c.place-end.result c.place-end.ensures c.same.result (matched _ _ _ c.same.ensures) c.rest-next.result c.if-same.true c.rest-next.ensures)
+pub returns-then-text-gt-LONGEST : goal.returns-then-text-gt-LONGEST
+returns-then-text-gt-LONGEST c =
+    let f : Fields c.args.text.now _ _ _ _ _ _ _ _ = record {
+      word_is = c.cut.ensures.first;
+      named_is = c.cut.ensures.rest;
+      name_is = c.cut-2.ensures.first;
+      sized_is = c.cut-2.ensures.rest;
+      width_is = c.cut-3.ensures.first;
+      high_is = c.cut-3.ensures.rest;
+      height_is = c.cut-4.ensures.first;
+      line_is = c.cut-4.ensures.rest;
+    } in
+    elim c.then-text-gt-LONGEST.branch [
+      | then-text-gt-LONGEST-via-then-text-gt-LONGEST w ↦ not_short f w.if-text-gt-LONGEST.true
+      | then-text-gt-LONGEST-via-else-text-gt-LONGEST+then-ne w ↦ other_word f w.if-text-gt-LONGEST.false (unlike _ w.as_slice.ensures w.ne.ensures w.if-ne.true)
+      | then-text-gt-LONGEST-via-else-text-gt-LONGEST+else-ne+then-not-is_name w ↦ no_name f w.if-text-gt-LONGEST.false (alike _ w.as_slice.ensures w.ne.ensures w.if-ne.false) (sym w.is_name.ensures ∙ w.if-not-is_name.true)
+      | then-text-gt-LONGEST-via-else-text-gt-LONGEST+else-ne+else-not-is_name+then-not-is_line w ↦ no_params f w.if-text-gt-LONGEST.false (alike _ w.as_slice.ensures w.ne.ensures w.if-ne.false) (sym w.is_name.ensures ∙ w.if-not-is_name.false) (sym w.is_line.ensures ∙ w.if-not-is_line.true)
+    ]
 
-pub returns-else-same : goal.returns-else-same
-returns-else-same c =
-    let text = c.args.text.now in
-    ap told_file
-    (not_file text
-    (other_word text c.if-text-le-LONGEST.true c.place-end.result c.place-end.ensures c.same.result (matched _ _ _ c.same.ensures) c.if-same.false))
+pub returns-in_err-width : goal.returns-in_err-width
+returns-in_err-width c =
+    let f : Fields c.args.text.now _ _ _ _ _ _ _ _ = record {
+      word_is = c.cut.ensures.first;
+      named_is = c.cut.ensures.rest;
+      name_is = c.cut-2.ensures.first;
+      sized_is = c.cut-2.ensures.rest;
+      width_is = c.cut-3.ensures.first;
+      high_is = c.cut-3.ensures.rest;
+      height_is = c.cut-4.ensures.first;
+      line_is = c.cut-4.ensures.rest;
+    } in
+    let p = err_from_is_err_and c.from_residual.result c.from_residual.ensures.1 in
+    let e = c.in_err-width.ensures in
+    rw (p.1, p.2, given e.value e.ok_part)
+    (no_width f c.if-text-gt-LONGEST.false
+    (alike _ c.as_slice.ensures c.ne.ensures c.if-ne.false)
+    (sym c.is_name.ensures ∙ c.if-not-is_name.false)
+    (sym c.number_in.ensures ∙ e.ok_part))
 
-pub returns-else-text-le-LONGEST : goal.returns-else-text-le-LONGEST
-returns-else-text-le-LONGEST c =
-    let text = c.args.text.now in
-    ap told_file (not_file text (too_long text c.if-text-le-LONGEST.false))
+pub returns-in_err-height : goal.returns-in_err-height
+returns-in_err-height c =
+    let f : Fields c.args.text.now _ _ _ _ _ _ _ _ = record {
+      word_is = c.cut.ensures.first;
+      named_is = c.cut.ensures.rest;
+      name_is = c.cut-2.ensures.first;
+      sized_is = c.cut-2.ensures.rest;
+      width_is = c.cut-3.ensures.first;
+      high_is = c.cut-3.ensures.rest;
+      height_is = c.cut-4.ensures.first;
+      line_is = c.cut-4.ensures.rest;
+    } in
+    let p = err_from_is_err_and c.from_residual-in_err-height.result c.from_residual-in_err-height.ensures.1 in
+    let e = c.in_err-height.ensures in
+    rw (p.1, p.2, given e.value e.ok_part)
+    (no_height f c.if-text-gt-LONGEST.false
+    (alike _ c.as_slice.ensures c.ne.ensures c.if-ne.false)
+    (sym c.is_name.ensures ∙ c.if-not-is_name.false)
+    (sym c.number_in-2.ensures ∙ e.ok_part))
+
+pub returns : goal.returns
+returns c =
+    let f : Fields c.args.text.now _ _ _ _ _ _ _ _ = record {
+      word_is = c.cut.ensures.first;
+      named_is = c.cut.ensures.rest;
+      name_is = c.cut-2.ensures.first;
+      sized_is = c.cut-2.ensures.rest;
+      width_is = c.cut-3.ensures.first;
+      high_is = c.cut-3.ensures.rest;
+      height_is = c.cut-4.ensures.first;
+      line_is = c.cut-4.ensures.rest;
+    } in
+    c.asked_of.ensures
+    ∙ ap (λ (m : Option ℕ). asked_of m c.in_ok-width.width c.in_ok-height.height (params_of c.cut-4.result.1.now)) c.model_of.ensures
+    ∙ of_form f c.if-text-gt-LONGEST.false (alike _ c.as_slice.ensures c.ne.ensures c.if-ne.false) (sym c.is_name.ensures ∙ c.if-not-is_name.false) _ _
+    (sym c.number_in.ensures ∙ c.in_ok-width.ensures.ok_part)
+    (sym c.number_in-2.ensures ∙ c.in_ok-height.ensures.ok_part)
+    (sym c.is_line.ensures ∙ c.if-not-is_line.false)

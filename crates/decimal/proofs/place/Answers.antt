@@ -1,17 +1,29 @@
--- `decimal::place` meets its contract. The loop's invariant: the first b stands i bytes after the first of what is left. Assumes nothing.
-use native.Mathlib.Omega.{arith}
-use Rattle.decimal.proofs.Parts.{place_here, place_on, place_none}
+-- `decimal::place` meets its contract. Assumes nothing.
+use mathlib.Core.Path.{◌≡◌, refl, sym, ◌∙◌}
+use mathlib.Core.List.{List, [], ◌∷◌}
+use Prim.Native.Nat.{ℕ, ◌+◌}
+use native.Mathlib.Numerals.{add-one}
 use borrow.Author.Rules.{rules}
+use borrow.Author.Tests.{tests, eq-eqb, ne_eqb}
+use Rattle.std.proofs.lemmas.Iterator.{IsFirst-from_position, YieldsList-from_slice, index_from_first}
+use Rattle.decimal.specs.Text.{place}
 use Rattle.decimal.proofs.place.Goals as goal
 
-pub loop-i-init : goal.loop-i-init
-loop-i-init c = (search rules, omega arith)
+hit : (b x : ℕ) (text : List ℕ) → x ≡ b → place b (x ∷ text) ≡ 0
+unfolding place
+hit b x text e = simp (eq-eqb x b e)
 
-pub returns-then-text-i : goal.returns-then-text-i
-returns-then-text-i c = place_here _ _ _ c.loop-i-test.true c.if-text-i.true c.loop-i.invariant.1
+miss : (b x : ℕ) (text : List ℕ) → (x ≡ b → ⊥) → place b (x ∷ text) ≡ place b text + 1
+unfolding place
+miss b x text ne = simp (ne_eqb x b ne) (sym (add-one (place b text)))
 
-pub loop-i-preserved : goal.loop-i-preserved
-loop-i-preserved c = (omega arith, place_on _ _ _ c.loop-i-test.true c.if-text-i.false c.loop-i.invariant.1)
+none : (b : ℕ) → place b [] ≡ 0
+unfolding place
+none b = refl
 
 pub returns : goal.returns
-returns c = place_none _ _ _ c.loop-i-test.false c.loop-i.invariant.0 c.loop-i.invariant.1
+returns c =
+    let b = c.args.b in
+    let text = c.args.text.now in
+    let first = IsFirst-from_position _ _ _ (λ x. x ≡ b) (λ x. x ≡ b → ⊥) c.position.ensures.ran (YieldsList-from_slice text cc) (λ x q k. search (rules, tests)) (λ x q k. search (rules, tests)) in
+    c.unwrap_or.ensures ∙ sym (index_from_first (place b) (λ x. x ≡ b) (λ x. x ≡ b → ⊥) (none b) (hit b) (miss b) text _ first)

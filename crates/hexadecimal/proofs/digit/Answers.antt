@@ -1,6 +1,9 @@
 -- `hexadecimal::digit` meets its contract: the code's four tests are the definition's. Assumes nothing.
 use borrow.Author.Tests.{lt-ltb, le-ltb}
+use mathlib.Core.Path.{◌≡◌, ap}
+use Prim.Native.Nat.{◌+◌, ◌-◌}
 use native.Mathlib.Omega.{arith}
+use Rattle.std.proofs.Common.{Some}
 use Rattle.hexadecimal.specs.Hex.{digit}
 use Rattle.hexadecimal.proofs.digit.Goals as goal
 
@@ -17,7 +20,7 @@ returns-in-97-to-102 c =
       le-ltb c.args.b 97 (omega arith),
       lt-ltb c.args.b 103 (omega arith),
     )
-    (omega arith)
+    (ap Some (let e : c.args.b - 97 + 10 ≡ c.args.b - 87 = omega arith in e))
 
 pub returns-in_default : goal.returns-in_default
 unfolding digit

@@ -2,11 +2,11 @@
 use Rattle.hexadecimal.proofs.OneField.{ends_none, ends_last, ends_more}
 use Rattle.hexadecimal.proofs.ends.Goals as goal
 
-pub returns-then-rest-eq0 : goal.returns-then-rest-eq0
-returns-then-rest-eq0 c = ends_none _ c.if-rest-eq0.true
+pub returns-in-empty : goal.returns-in-empty
+returns-in-empty c = ends_none _ c.in-empty.len_below
 
-pub returns-then-rest-eq1 : goal.returns-then-rest-eq1
-returns-then-rest-eq1 c = ends_last _ c.if-rest-eq1.true
+pub returns-in-len1 : goal.returns-in-len1
+returns-in-len1 c = ends_last _ c.in-len1.len_at_least c.in-len1.len_below
 
-pub returns-else-rest-eq1 : goal.returns-else-rest-eq1
-returns-else-rest-eq1 c = ends_more _ c.if-rest-eq0.false c.if-rest-eq1.false
+pub returns-in-len1-up : goal.returns-in-len1-up
+returns-in-len1-up c = ends_more _ c.in-len1-up.len_at_least

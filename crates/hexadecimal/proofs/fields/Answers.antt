@@ -1,5 +1,4 @@
--- `hexadecimal::fields` meets its contract. The loop's invariant says what the places hold once the fields that are left are read too; the measure is how many are left.
--- Assumes nothing.
+-- `hexadecimal::fields` meets its contract. Assumes nothing.
 use Rattle.hexadecimal.proofs.Filling.{none_filled, one_filled, all_filled, all_judged}
 use Rattle.hexadecimal.proofs.fields.Goals as goal
 
@@ -8,13 +7,10 @@ loop-i-init c = none_filled _ _
 
 pub loop-i-preserved : goal.loop-i-preserved
 loop-i-preserved c =
-    let f = c in
-    one_filled _ _ _ _ _ _ _ _ f.loop-i.invariant f.loop-i-test.true f.field-bits.ensures c.bits_of.ensures c.still-all.ensures
+    one_filled _ _ _ _ _ _ _ _ c.loop-i.invariant c.loop-i-test.true c.field-read.ensures c.unwrap_or.ensures c.is_some-all.ensures
 
-pub shape_of-numbers : goal.shape_of-numbers
-shape_of-numbers c = c.loop-i.invariant.long
+pub returns-clause-is : goal.returns-clause-is
+returns-clause-is c = all_judged _ _ _ _ _ c.loop-i.invariant c.loop-i-test.false
 
-pub returns : goal.returns
-returns c =
-    let p = c.loop-i.invariant in
-    record { is = all_judged _ _ _ _ _ p c.loop-i-test.false; puts = all_filled _ _ _ _ _ p c.loop-i-test.false }
+pub returns-clause-puts : goal.returns-clause-puts
+returns-clause-puts c = all_filled _ _ _ _ _ c.loop-i.invariant c.loop-i-test.false

@@ -1,12 +1,7 @@
--- `hexadecimal::fields` meets its contract. The loop's invariant says what the places hold once the fields that are left are read too; the measure is how many are left.
+-- `hexadecimal::fields` meets its contract. The loop's invariant says what the places hold once the fields that are left are read too.
 -- Assumes nothing.
-use Prim.Native.Nat.{◌-◌}
-use lib.ListN.{length}
 use Rattle.hexadecimal.proofs.Filling.{Filled}
 use Rattle.hexadecimal.proofs.fields.Given as goal
 
 abbrev pub invariant-loop-i : goal.invariant-loop-i
 invariant-loop-i l = Filled l.line l.initial.numbers l.numbers l.all l.i
-
-abbrev pub decreases-loop-i : goal.decreases-loop-i
-decreases-loop-i l = length l.initial.numbers - l.i

@@ -1,13 +1,13 @@
--- `listing::cells` meets its contract. The loop's invariant: what is put of the rest is what is put of all. The measure is what is left of the table.
--- Assumes nothing.
-use Prim.Native.Nat.{◌-◌}
-use lib.ListN.{length}
+-- `listing::cells` meets its contract. The loop's invariant: what is put of the rest is what is put of all. Assumes nothing.
+use mathlib.Core.Path.{◌≡◌}
+use Rattle.std.specs.Slice.Iter.{chunks_exact_rest, chunks_exact_size}
 use Rattle.put_text.specs.Placed.{written}
 use Rattle.listing.proofs.Rows.{Passed}
 use Rattle.listing.proofs.cells.Given as goal
 
-abbrev pub invariant-loop-i : goal.invariant-loop-i
-invariant-loop-i l = Passed (written l.initial.out l.at) l.table l.width l.height (written l.out l.next) l.u l.v l.i
-
-abbrev pub decreases-loop-i : goal.decreases-loop-i
-decreases-loop-i l = length l.table - l.i
+abbrev pub invariant-loop-pair : goal.invariant-loop-pair
+invariant-loop-pair l =
+    (goal.iterator-loop-pair).can_next l.pair-iterator
+    × (goal.iterator-loop-pair).is_finite l.pair-iterator
+    × (chunks_exact_size l.pair-iterator ≡ 2)
+    × Passed (written l.initial.out l.at) l.table l.width l.height (written l.out l.next) l.u l.v (chunks_exact_rest l.pair-iterator)

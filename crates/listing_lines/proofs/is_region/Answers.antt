@@ -1,7 +1,8 @@
 -- `listing_lines::is_region` meets its contract. Assumes nothing.
-use mathlib.Core.Path.{sym}
+use mathlib.Core.Path.{sym, ap, ◌∙◌}
 use borrow.Author.Rules.{rules}
 use lib.Seq.{length-take-le}
+use Rattle.decimal.specs.Text.{same}
 use Rattle.listing_lines.proofs.Lines.{region_whole}
 use Rattle.listing_lines.proofs.is_region.Goals as goal
 
@@ -10,12 +11,12 @@ slice_bounds-line-end c =
     let w = region_whole _ _ _ _ _ _ _ c.region_text-end.ensures (search rules) in
     search rules
 
-pub slice_bounds-same-end : goal.slice_bounds-same-end
-slice_bounds-same-end c =
+pub slice_bounds-eq-end : goal.slice_bounds-eq-end
+slice_bounds-eq-end c =
     let w = region_whole _ _ _ _ _ _ _ c.region_text-end.ensures (search rules) in
     sym (length-take-le _ _ (search rules))
 
 pub returns : goal.returns
 returns c =
     let w = region_whole _ _ _ _ _ _ _ c.region_text-end.ensures (search rules) in
-    w.told _ _ c.same.ensures
+    c.eq.ensures ∙ ap (same _) w.is
