@@ -9,7 +9,7 @@ mod files;
 ghost use Rattle.std.specs.Prelude.{cond, ◌≡◌, ltb, length};
 ghost use Rattle.io.specs.Counts.{IsPrefixLen};
 
-pub use cases::{Out, next_part, read_full};
+pub use cases::{Out, answer_all, answer_cases, answer_lines, answer_text, numbers, read_full};
 pub use files::{argument, fail, is_given, open};
 
 const STDIN_FILENO: i32 = 0;
