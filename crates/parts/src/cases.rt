@@ -142,3 +142,11 @@ pub fn answer_text<F: FnMut(&[u8], &mut Out<'_>) -> io::Result<()>>(rt: &HostRun
         Ok(true)
     });
 }
+
+// Writes a tab and the bit pattern of each number.
+pub fn say_floats<W: Write>(out: &mut W, numbers: &[f64]) -> io::Result<()> {
+    for x in numbers {
+        write!(out, "\t{:016x}", exact::to_bits(*x))?;
+    }
+    Ok(())
+}
