@@ -13,7 +13,7 @@ use Rattle.exact.proofs.Alike.{its, over_kept, ≐-finite, ≐-lt, ≐-le, ≐-o
 use Rattle.exact.proofs.Zeros.{zero_elim, zero_plus_zero, zero_less_zero, zero_over_other}
 use Rattle.lens.specs.Constants.{zeros}
 use Rattle.lens.specs.declared.Point.{Point}
-use Rattle.lens.specs.Judgement.{Judgement}
+use Rattle.lens.specs.Judgement.{Judgement, accepted}
 use Rattle.lens.specs.declared.Refusal.TheVariants.{IncrementNotPositive, AnswerNotFinite}
 use Rattle.lens.specs.Alike.{AlikePoints}
 use Rattle.region.specs.Region.{range, increments, flat, wrong}
@@ -143,7 +143,7 @@ module _ (width height : ℕ) (a b : Region) (h : AlikeRegions a b) where
       let y = over_kept (float (height - 1)) (d.bottom ⟨⊖⟩ d.top) in
       rw (flat_kept x, flat_kept y, ≐-finite x, ≐-finite y) refl
 
-  pub region_is_one : wrong (increments (doubled a) width height) ≡ Ok tt → doubled a ≡ doubled b
+  pub region_is_one : wrong (increments (doubled a) width height) ≡ accepted → doubled a ≡ doubled b
   unfolding wrong increments doubled
   region_is_one e =
       let by = increments (doubled a) width height in
@@ -152,7 +152,7 @@ module _ (width height : ℕ) (a b : Region) (h : AlikeRegions a b) where
       let y = not_both a.top a.bottom (float (height - 1)) n.1 n.3 in
       region_same (lower_same x h.left h.right) (lower_same y h.top h.bottom) (upper_same x h.left h.right) (upper_same y h.top h.bottom)
     where
-      go : (p q f g : Bool) → cond (p || q) (Err IncrementNotPositive) (cond (f && g) (Ok tt) (Err AnswerNotFinite)) ≡ Ok tt → (p ≡ false) × (q ≡ false) × (f ≡ true) × (g ≡ true)
+      go : (p q f g : Bool) → cond (p || q) (Err IncrementNotPositive) (cond (f && g) accepted (Err AnswerNotFinite)) ≡ accepted → (p ≡ false) × (q ≡ false) × (f ≡ true) × (g ≡ true)
       go true q f g e = absurd (subst Refuses e tt)
       go false true f g e = absurd (subst Refuses e tt)
       go false false true true e = (refl, refl, refl, refl)

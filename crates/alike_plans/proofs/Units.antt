@@ -7,7 +7,7 @@ use native.Mathlib.Omega.{arith}
 use borrow.Author.Tests.{eqb-true, ltb-true, ltb-false, lt-ltb, le-ltb}
 use lib.Dec.{eqb, ltb, eqb-suc-zero}
 use Rattle.exact.proofs.Alike.{≐-refl}
-use Rattle.lens.specs.Judgement.{verdict}
+use Rattle.lens.specs.Judgement.{verdict, accepted}
 use Rattle.lens.specs.Refusal.{number}
 use Rattle.lens.specs.Undistorted.{told}
 use Rattle.lens.specs.Judgement.{Judgement}
@@ -116,10 +116,10 @@ module _ (sweep : Sweep) (sample : Pixel → Undistorted) (h : (pixel : Pixel) �
       judged : Judgement
       judged = wrong (increments (region_of other) sweep.width sweep.height)
 
-      taken : verdict judged ≡ 0 → judged ≡ Ok tt
-      taken e = verdict_one_to_one judged (Ok tt) e
+      taken : verdict judged ≡ 0 → judged ≡ accepted
+      taken e = verdict_one_to_one judged accepted e
 
-      at_last : (n : ℕ) (l : Bool) → l ≡ false → cond (eqb n 0) (cond l 0 (verdict judged)) n ≡ 0 → judged ≡ Ok tt
+      at_last : (n : ℕ) (l : Bool) → l ≡ false → cond (eqb n 0) (cond l 0 (verdict judged)) n ≡ 0 → judged ≡ accepted
       at_last zero true q e = absurd (true≢false q)
       at_last zero false q e = taken e
       at_last (suc n) l q e = let z : suc n ≡ 0 = rw (eqb-suc-zero n) at e in absurd (omega (arith, z))

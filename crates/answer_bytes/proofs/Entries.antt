@@ -1,4 +1,8 @@
 -- Finite numbers put one behind the other, as they are. Assumes nothing.
+use Rattle.camera.specs.Camera.{told_jacobian}
+use Rattle.std.specs.Result.{IfOk}
+use Rattle.lens.specs.declared.Jacobian.{Jacobian}
+use Rattle.camera.specs.Camera.{dx_distort_x, dx_distort_params}
 use Rattle.camera.specs.Camera.{Differentiated}
 use mathlib.Core.Path.{◌≡◌, refl, sym, ap, ◌∙◌, subst}
 use Rattle.std.specs.declared.result.Result.{Result}
@@ -26,23 +30,27 @@ use Rattle.answer_bytes.specs.Answer.{columns_place, slopes, parameter_slopes}
 
 -- ---- what is given is finite
 
-none : (r : Refusal) → number r ≡ 0 → ⊥
+pub none : (r : Refusal) → number r ≡ 0 → ⊥
 none r e = omega (arith, number_within r)
 
 abbrev Sound : Differentiated → Type 0
-Sound d = d.number ≡ 0 → all_finite d.jacobian.entries ≡ true
+Sound d = IfOk d (λ (j : Jacobian). all_finite j.entries ≡ true)
 
--- of an operation whose answers are sound where there is a camera, and whose refusals are told by their number
-module _ (operation : Result Camera Refusal → Differentiated) (of : (camera : Camera) → Sound (operation (Ok camera))) (told : (r : Refusal) → (operation (Err r)).number ≡ number r) where
+sound_told : (d : Differentiated) → ((told_jacobian d).number ≡ 0 → all_finite (told_jacobian d).jacobian.entries ≡ true) → Sound d
+sound_told (Ok j) f = f refl
+sound_told (Err r) f = tt
+
+-- of an operation whose answers are sound where there is a camera, and that hands refusals on
+module _ (operation : Result Camera Refusal → Differentiated) (of : (camera : Camera) → Sound (operation (Ok camera))) (err : (r : Refusal) → operation (Err r) ≡ Err r) where
   finite_of : (asked : Result Camera Refusal) {d : Differentiated} → d ≡ operation asked → Sound d
   finite_of (Ok camera) e = subst Sound (sym e) (of camera)
-  finite_of (Err r) e = subst Sound (sym e) (λ z. absurd (none r (sym (told r) ∙ z)))
+  finite_of (Err r) e = subst Sound (sym (e ∙ err r)) tt
 
 pub slopes_finite : (asked : Result Camera Refusal) (point : Point) {d : Differentiated} → d ≡ slopes asked point → Sound d
-slopes_finite asked point = finite_of (λ a. slopes a point) (λ camera. (jacobians_finite camera point).0) (λ r. refl) asked
+slopes_finite asked point = finite_of (λ a. slopes a point) (λ camera. sound_told (dx_distort_x camera point) (jacobians_finite camera point).0) (λ r. refl) asked
 
 pub parameter_slopes_finite : (asked : Result Camera Refusal) (point : Point) {d : Differentiated} → d ≡ parameter_slopes asked point → Sound d
-parameter_slopes_finite asked point = finite_of (λ a. parameter_slopes a point) (λ camera. (jacobians_finite camera point).1) (λ r. refl) asked
+parameter_slopes_finite asked point = finite_of (λ a. parameter_slopes a point) (λ camera. sound_told (dx_distort_params camera point) (jacobians_finite camera point).1) (λ r. refl) asked
 
 -- ---- a finite number is no NaN
 

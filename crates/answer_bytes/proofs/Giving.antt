@@ -14,7 +14,7 @@ use Rattle.little_endian.proofs.Laws.{length_bytes, length_floats, put_whole, pu
 use Rattle.lens.specs.Jacobian.{entries}
 use Rattle.lens.specs.declared.Jacobian.{Jacobian}
 use Rattle.lens.specs.declared.Settled.{Settled}
-use Rattle.camera.specs.declared.Differentiated.{Differentiated}
+use Rattle.camera.specs.Camera.{Differentiated}
 use Rattle.given.specs.Given.{Given, flag_number}
 use Rattle.answer_bytes.specs.Answer.{point_bytes, jacobian_bytes, columns_place, jacobian_length, give_jacobian}
 

@@ -1,5 +1,6 @@
 -- The four operations over bytes, each as what is handed in and the buffer lent, and the number and the buffer that
 -- come back. Definitions only.
+use Rattle.camera.specs.Camera.{told_jacobian}
 use Rattle.camera.specs.Camera.{Differentiated}
 use Rattle.std.specs.Prelude.{List, [], ◌∷◌, ◌++◌, ℕ, ◌+◌, ◌*◌, Float, Result, Ok, Err}
 use Rattle.camera.specs.declared.Camera.{Camera}

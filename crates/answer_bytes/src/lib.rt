@@ -2,7 +2,7 @@
 // answer's bytes in a buffer that the caller lends. What is refused writes nothing.
 #![tactic(auto)]
 
-ghost use Rattle.std.specs.Prelude.{true, ◌≡◌, ◌≤◌, length};
+ghost use Rattle.std.specs.Prelude.{true, ◌≡◌, ◌≤◌, length, IfOk};
 ghost use Rattle.little_endian.specs.Bytes.{floats, put};
 ghost use Rattle.lens.specs.Distorted.{told_pixel};
 ghost use Rattle.lens.specs.Undistorted.{told};
@@ -15,8 +15,7 @@ ghost use Rattle.answer_bytes.specs.Answer.{columns_place, give_pixel, give_poin
 ghost use Rattle.answer_bytes.specs.Answer.{distorted, undistorted, slopes, parameter_slopes, distort_bytes};
 ghost use Rattle.answer_bytes.specs.Answer.{undistort_bytes, dx_distort_x_bytes, dx_distort_params_bytes};
 
-use camera::{Camera, Differentiated};
-use lens::{Pixel, Point, Refusal, Settled};
+use lens::{Jacobian, Pixel, Point, Refusal, Settled};
 
 // Where a Jacobian's bytes have the count of columns, and how many they are.
 const COLUMNS: usize = 8 * lens::ENTRIES;
@@ -42,25 +41,13 @@ pub fn told_pixel(distorted: Result<Pixel, Refusal>) -> ToldPixel
     }
 }
 
-// The pixel that a camera gives whose parameters are finite.
-fn distorted_by(camera: Camera, point: Point) -> Result<Pixel, Refusal>
-    requires { all_finite (parameters camera) ≡ true }
-    ensures { result ≡ distort camera point }
-{
-    match camera::placed(camera, point.0, point.1) {
-        Err(refusal) => Err(refusal),
-        Ok(()) => camera::distort_judged(camera, point),
-    }
-}
-
 // The pixel that a camera gives, or why there is no camera.
 fn distorted(model: u8, params: &[u8], point: Point) -> Result<Pixel, Refusal>
     ensures { result ≡ distorted (read model params.now) point }
 {
-    match camera_bytes::read_finite(model, params) {
-        Err(refusal) => Err(refusal),
-        Ok(camera) => distorted_by(camera, point),
-    }
+    let camera = camera_bytes::read_finite(model, params)?;
+    camera::placed(camera, point.0, point.1)?;
+    camera::distort_judged(camera, point)
 }
 
 // Hands a pixel over, if it has the number 0 and the buffer is of its length.
@@ -111,23 +98,12 @@ fn told_point(undistorted: Result<Settled, Refusal>) -> ToldPoint
     }
 }
 
-fn undistorted_by(camera: Camera, pixel: Pixel) -> Result<Settled, Refusal>
-    requires { all_finite (parameters camera) ≡ true }
-    ensures { result ≡ undistort camera pixel }
-{
-    match camera::placed(camera, pixel.0, pixel.1) {
-        Err(refusal) => Err(refusal),
-        Ok(()) => camera::undistort_judged(camera, pixel),
-    }
-}
-
 fn undistorted(model: u8, params: &[u8], pixel: Pixel) -> Result<Settled, Refusal>
     ensures { result ≡ undistorted (read model params.now) pixel }
 {
-    match camera_bytes::read_finite(model, params) {
-        Err(refusal) => Err(refusal),
-        Ok(camera) => undistorted_by(camera, pixel),
-    }
+    let camera = camera_bytes::read_finite(model, params)?;
+    camera::placed(camera, pixel.0, pixel.1)?;
+    camera::undistort_judged(camera, pixel)
 }
 
 // The flag's four bytes hold it and three zeros, since it is 0 or 1.
@@ -154,44 +130,20 @@ pub fn undistort(model: u8, params: &[u8], u: f64, v: f64, answer: &mut [u8]) ->
     give_point(told, answer)
 }
 
-// The derivatives that such a camera gives, by the point,
-fn slopes_by(camera: Camera, point: Point) -> Differentiated
-    requires { all_finite (parameters camera) ≡ true }
-    ensures { result ≡ dx_distort_x camera point }
-{
-    match camera::placed(camera, point.0, point.1) {
-        Err(refusal) => camera::refused(refusal),
-        Ok(()) => camera::dx_distort_x_judged(camera, point),
-    }
-}
-
-fn slopes(model: u8, params: &[u8], point: Point) -> Differentiated
+fn slopes(model: u8, params: &[u8], point: Point) -> Result<Jacobian, Refusal>
     ensures { result ≡ slopes (read model params.now) point }
 {
-    match camera_bytes::read_finite(model, params) {
-        Err(refusal) => camera::refused(refusal),
-        Ok(camera) => slopes_by(camera, point),
-    }
+    let camera = camera_bytes::read_finite(model, params)?;
+    camera::placed(camera, point.0, point.1)?;
+    camera::dx_distort_x_judged(camera, point)
 }
 
-// and by its parameters.
-fn parameter_slopes_by(camera: Camera, point: Point) -> Differentiated
-    requires { all_finite (parameters camera) ≡ true }
-    ensures { result ≡ dx_distort_params camera point }
-{
-    match camera::placed(camera, point.0, point.1) {
-        Err(refusal) => camera::refused(refusal),
-        Ok(()) => camera::dx_distort_params_judged(camera, point),
-    }
-}
-
-fn parameter_slopes(model: u8, params: &[u8], point: Point) -> Differentiated
+fn parameter_slopes(model: u8, params: &[u8], point: Point) -> Result<Jacobian, Refusal>
     ensures { result ≡ parameter_slopes (read model params.now) point }
 {
-    match camera_bytes::read_finite(model, params) {
-        Err(refusal) => camera::refused(refusal),
-        Ok(camera) => parameter_slopes_by(camera, point),
-    }
+    let camera = camera_bytes::read_finite(model, params)?;
+    camera::placed(camera, point.0, point.1)?;
+    camera::dx_distort_params_judged(camera, point)
 }
 
 // Puts the bit patterns of finite numbers at the start: none is a NaN, so that the compiler copies them as they are.
@@ -200,25 +152,27 @@ fn put_entries(answer: &mut [u8], numbers: &[f64; lens::ENTRIES])
         ((length numbers.now ≡ entries) × (all_finite numbers.now ≡ true)) }
     ensures { answer.new ≡ put 0 (floats numbers.now) answer.old }
 {
-    let mut i = 0;
-    while i < lens::ENTRIES {
+    for i in 0..lens::ENTRIES {
         little_endian::put(answer, 8 * i, 8, f64::to_bits(numbers[i]));
-        i += 1;
     }
 }
 
-fn give_jacobian(told: Differentiated, answer: &mut [u8]) -> u8
-    requires { told.number ≡ 0 → all_finite told.jacobian.entries ≡ true }
+fn give_jacobian(told: Result<Jacobian, Refusal>, answer: &mut [u8]) -> u8
+    requires { IfOk told (λ j. all_finite j.entries ≡ true) }
     ensures { given result answer.new ≡ give_jacobian told answer.old }
 {
-    let code = given::code(told.number, answer.len() == JACOBIAN);
-    if code == 0 {
-        let jacobian = told.jacobian;
-        let entries = jacobian.entries;
-        put_entries(answer, &entries);
-        little_endian::put(answer, COLUMNS, 8, jacobian.columns as u64);
+    let right = answer.len() == JACOBIAN;
+    match told {
+        Ok(jacobian) => {
+            let code = given::code(0, right);
+            if code == 0 {
+                put_entries(answer, &jacobian.entries);
+                little_endian::put(answer, COLUMNS, 8, jacobian.columns as u64);
+            }
+            code
+        }
+        Err(refusal) => given::code(lens::number(refusal), right),
     }
-    code
 }
 
 // The derivative of distort by the point: its entries row by row, then how many columns.

@@ -73,7 +73,7 @@ fn low(a: u64, b: u64) -> u64
     let b1 = b >> 32;
     let b0 = b % 0x1_0000_0000;
     let middle = (a1 * b0 + a0 * b1) % 0x1_0000_0000;
-    std::num::wrapping_add_u64(middle * 0x1_0000_0000, a0 * b0)
+    (middle * 0x1_0000_0000).wrapping_add(a0 * b0)
 }
 
 // a * b, counted in 2^-60, where what the two low halves of 30 bits give is left out: it is below one. That corner is
@@ -91,17 +91,13 @@ fn product(a: u64, b: u64) -> u64
 }
 
 // c0 - y * (c1 - y * (c2 - ..)) over the reciprocals from the one at `to` on; h is the same from the one at `from` on.
-// The table is named once: named in the loop it would be laid out anew in each turn.
 fn levels(y: u64, from: usize, to: usize, h: u64) -> u64
     requires { (y ≤ 2 ^ 59) × (to ≤ from) × (from ≤ 24) × (h ≡ nested y (drop from reciprocals)) }
     ensures { result ≡ nested y (drop to reciprocals) }
 {
-    let table = RECIPROCALS;
     let mut h = h;
-    let mut k = from;
-    while to < k {
-        k -= 1;
-        h = table[k] - product(y, h);
+    for c in RECIPROCALS[to..from].iter().rev() {
+        h = *c - product(y, h);
     }
     h
 }
@@ -248,10 +244,8 @@ fn refined(n: u64) -> u64
     ensures { result ≡ refined rounds n n }
 {
     let mut w = n;
-    let mut k: u64 = 0;
-    while k < ROUNDS {
+    for _ in 0..ROUNDS {
         w = nearer(n, w);
-        k += 1;
     }
     w
 }

@@ -1,6 +1,7 @@
 -- Which numbers are finite when others are. Assumes nothing.
+use Rattle.lens.specs.Judgement.{accepted}
 use mathlib.Core.Path.{◌≡◌, refl}
-use Rattle.std.specs.declared.result.Result.TheVariants.{Ok, Err}
+use Rattle.std.specs.declared.result.Result.TheVariants.{Err}
 use mathlib.Core.Bool.{Bool, true, false, cond, ◌&&◌, ◌||◌, false≢true}
 use Prim.Native.Nat.{ℕ, ◌-◌}
 use native.Mathlib.Omega.{arith}
@@ -113,12 +114,12 @@ region_finite region width height p q =
       bottom = minuend region.bottom region.top y;
     }
 
-passed : (f p q : Bool) → cond f (Err IncrementNotPositive) (cond (p && q) (Ok tt) (Err AnswerNotFinite)) ≡ Ok tt → (p ≡ true) × (q ≡ true)
+passed : (f p q : Bool) → cond f (Err IncrementNotPositive) (cond (p && q) accepted (Err AnswerNotFinite)) ≡ accepted → (p ≡ true) × (q ≡ true)
 passed true p q h = let z : ◌≡◌ {A = ℕ} 0 1 = cc in absurd (omega arith)
 passed false true true h = (refl, refl)
 passed false true false h = let z : ◌≡◌ {A = ℕ} 0 1 = cc in absurd (omega arith)
 passed false false q h = let z : ◌≡◌ {A = ℕ} 0 1 = cc in absurd (omega arith)
 
-pub taken_finite : (by : Increments) → wrong by ≡ Ok tt → (finite by.0 ≡ true) × (finite by.1 ≡ true)
+pub taken_finite : (by : Increments) → wrong by ≡ accepted → (finite by.0 ≡ true) × (finite by.1 ≡ true)
 unfolding wrong
 taken_finite by h = passed (flat by.0 || flat by.1) (finite by.0) (finite by.1) h

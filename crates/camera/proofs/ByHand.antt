@@ -18,7 +18,7 @@ use Rattle.lens.specs.Constants.{int}
 use Rattle.lens.specs.Distorted.{finite_pixel}
 use Rattle.lens.specs.Finite.{all_finite}
 use Rattle.lens.specs.Jacobian.{two_rows}
-use Rattle.lens.specs.Judgement.{decided}
+use Rattle.lens.specs.Judgement.{decided, accepted}
 use Rattle.lens.specs.Undistorted.{direct}
 use Rattle.lens.specs.declared.Jacobian.{Jacobian}
 use Rattle.lens.specs.Judgement.{Judgement}
@@ -43,20 +43,20 @@ use Rattle.camera.specs.declared.Camera.TheVariants.{Affine, EnhancedUnified, Ka
 use Rattle.camera.specs.declared.Camera.TheVariants.{ThinPrism}
 
 sends :
-    (camera : Camera) (point : Point) (pixel : Pixel) → judged camera point.0 point.1 ≡ Ok tt → pixel_of camera point ≡ pixel → finite_pixel pixel ≡ Ok pixel
+    (camera : Camera) (point : Point) (pixel : Pixel) → judged camera point.0 point.1 ≡ accepted → pixel_of camera point ≡ pixel → finite_pixel pixel ≡ Ok pixel
     → distort camera point ≡ Ok pixel
 sends camera point pixel j e f =
     ap (λ (v : Judgement). decided v Err (finite_pixel (pixel_of camera point))) j ∙ ap finite_pixel e ∙ f
 
 finds :
-    (camera : Camera) (pixel : Pixel) (u w : Undistorted) → judged camera pixel.0 pixel.1 ≡ Ok tt → point_of camera pixel ≡ u → finite_point u ≡ w
+    (camera : Camera) (pixel : Pixel) (u w : Undistorted) → judged camera pixel.0 pixel.1 ≡ accepted → point_of camera pixel ≡ u → finite_point u ≡ w
     → undistort camera pixel ≡ w
 finds camera pixel u w j e f =
     ap (λ (v : Judgement). decided v Err (finite_point (point_of camera pixel))) j ∙ ap finite_point e ∙ f
 
 -- of the slopes, by the point or by the parameters
 derives :
-    (camera : Camera) (point : Point) (slopes j : Jacobian) (d : Differentiated) → judged camera point.0 point.1 ≡ Ok tt → slopes ≡ j → finite_jacobian j ≡ d
+    (camera : Camera) (point : Point) (slopes j : Jacobian) (d : Differentiated) → judged camera point.0 point.1 ≡ accepted → slopes ≡ j → finite_jacobian j ≡ d
     → decided (judged camera point.0 point.1) Err (finite_jacobian slopes) ≡ d
 derives camera point slopes j d t e f =
     ap (λ (v : Judgement). decided v Err (finite_jacobian slopes)) t ∙ ap finite_jacobian e ∙ f

@@ -13,7 +13,7 @@ use Rattle.exact.proofs.Marks.{mark_itself}
 use Rattle.exact.proofs.Operations.{sum_finite, product_finite}
 use Rattle.lens.specs.Distorted.{finite_pixel}
 use Rattle.lens.specs.Finite.{all_finite}
-use Rattle.lens.specs.Judgement.{decided}
+use Rattle.lens.specs.Judgement.{decided, accepted}
 use Rattle.lens.specs.Distorted.{Distorted}
 use Rattle.lens.specs.declared.Pixel.{Pixel}
 use Rattle.lens.specs.declared.Point.{Point}
@@ -51,7 +51,7 @@ module _ (camera : Camera) (x y : Float) where
   unfolding judged
   judged_zero g z = rw (g, z) refl
 
-  pub judged_taken : (all_finite (parameters camera) && (finite x && finite y)) ≡ true → zero_focal camera ≡ false → judged camera x y ≡ Ok tt
+  pub judged_taken : (all_finite (parameters camera) && (finite x && finite y)) ≡ true → zero_focal camera ≡ false → judged camera x y ≡ accepted
   unfolding judged
   judged_taken g z = rw (g, z) refl
 
@@ -75,7 +75,7 @@ refused_told z pixel p = rw p refl
 
 -- a model's pixel, told by the tests
 module _ (camera : Camera) (point : Point) where
-  tests : (g z : Bool) → by_tests g z (pixel_of camera point) ≡ decided (cond g (cond z (Err ZeroFocalLength) (Ok tt)) (Err NotFinite)) Err (finite_pixel (pixel_of camera point))
+  tests : (g z : Bool) → by_tests g z (pixel_of camera point) ≡ decided (cond g (cond z (Err ZeroFocalLength) accepted) (Err NotFinite)) Err (finite_pixel (pixel_of camera point))
   tests true true = refl
   tests true false = refl
   tests false z = refl

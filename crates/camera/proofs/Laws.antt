@@ -1,5 +1,6 @@
 -- What a caller may rely on, of the definitions of specs/ and of the contracts of src/; ByHand and Reached have more.
 -- Assumes nothing.
+use Rattle.lens.specs.Judgement.{accepted}
 use mathlib.Core.Path.{◌≡◌, refl, sym, ap, ◌∙◌}
 use Rattle.std.specs.declared.result.Result.TheVariants.{Ok, Err}
 use mathlib.Core.Bool.{true, false, ◌&&◌}
@@ -362,7 +363,7 @@ updates_limit camera pixel = kept (judged camera pixel.0 pixel.1) (point_of came
 -- The same of a judged camera and pixel.
 pub updates_limit_judged :
     (camera : Camera) (pixel : Pixel) → (told (undistort_judged camera pixel)).settled.updates ≤ limit camera
-updates_limit_judged camera pixel = kept (Ok tt) (point_of camera pixel) (most camera pixel)
+updates_limit_judged camera pixel = kept accepted (point_of camera pixel) (most camera pixel)
 
 -- Affine and eucm always settle: an answer of theirs has 0 updates and the flag yes.
 pub settled :

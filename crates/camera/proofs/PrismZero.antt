@@ -13,7 +13,7 @@ use Rattle.exact.proofs.Zeros.{zero_elim}
 use Rattle.lens.specs.Alike.{AlikePixels, AlikeJacobians, AlikeSettled}
 use Rattle.lens.specs.Distorted.{told_pixel, finite_pixel}
 use Rattle.lens.specs.Finite.{all_finite}
-use Rattle.lens.specs.Judgement.{decided}
+use Rattle.lens.specs.Judgement.{decided, accepted}
 use Rattle.lens.specs.Undistorted.{told}
 use Rattle.lens.specs.declared.Jacobian.{Jacobian}
 use Rattle.lens.specs.Judgement.{Judgement}
@@ -123,6 +123,6 @@ focal_finite p x y a e =
     let fx = and_both (finite p.bc.fx) _ all in
     (subst T (sym fx.0) tt, subst T (sym (and_both (finite p.bc.fy) _ fx.1).0) tt)
   where
-    go : (g z : Bool) → slope_number (decided (cond g (cond z (Err ZeroFocalLength) (Ok tt)) (Err NotFinite)) Err (finite_jacobian a)) ≡ 0 → g ≡ true
+    go : (g z : Bool) → slope_number (decided (cond g (cond z (Err ZeroFocalLength) accepted) (Err NotFinite)) Err (finite_jacobian a)) ≡ 0 → g ≡ true
     go true z e = refl
     go false z e = absurd (none NotFinite e)

@@ -14,7 +14,7 @@ use Rattle.root.specs.Root.{root}
 use Rattle.arctan.specs.Tangent.{tangent}
 use Rattle.lens.specs.Constants.{zeros, eps}
 use Rattle.lens.specs.Finite.{all_finite}
-use Rattle.lens.specs.Judgement.{decided}
+use Rattle.lens.specs.Judgement.{decided, accepted}
 use Rattle.lens.specs.Refusal.{number}
 use Rattle.lens.specs.Rows.{◌when◌, first}
 use Rattle.lens.specs.Undistorted.{told}
@@ -45,7 +45,7 @@ use Rattle.lens.specs.Distorted.{Distorted}
 
 -- before: g says that all is finite, z that a focal length is zero; n is the number behind
 pub before : {A : Type 0} (say : A → ℕ) (refuse : Refusal → A) (answer : A) {n : ℕ} → ((r : Refusal) → say (refuse r) ≡ number r) → say answer ≡ n
-    → (g z : Bool) → say (decided (cond g (cond z (Err ZeroFocalLength) (Ok tt)) (Err NotFinite)) refuse answer) ≡ cond (not g) 4 (cond z 5 n)
+    → (g z : Bool) → say (decided (cond g (cond z (Err ZeroFocalLength) accepted) (Err NotFinite)) refuse answer) ≡ cond (not g) 4 (cond z 5 n)
 before say refuse answer r e false z = r NotFinite
 before say refuse answer r e true true = r ZeroFocalLength
 before say refuse answer r e true false = e

@@ -8,7 +8,7 @@ use Rattle.arctan.specs.Tangent.{tangent}
 use Rattle.lens.specs.Distorted.{finite_pixel}
 use Rattle.lens.specs.Finite.{all_finite}
 use Rattle.lens.specs.Jacobian.{two_rows}
-use Rattle.lens.specs.Judgement.{decided}
+use Rattle.lens.specs.Judgement.{decided, accepted}
 use Rattle.lens.specs.Refusal.{number}
 use Rattle.lens.specs.declared.Jacobian.{Jacobian}
 use Rattle.lens.specs.declared.Pixel.{Pixel}
@@ -55,13 +55,13 @@ zero_focal (ThinPrism p) = either_zero p.bc.fx p.bc.fy
 unfoldable pub judged : Camera → Float → Float → Judgement
 judged camera x y =
     cond (all_finite (parameters camera) && (finite x && finite y))
-    (cond (zero_focal camera) (Err ZeroFocalLength) (Ok tt))
+    (cond (zero_focal camera) (Err ZeroFocalLength) accepted)
     (Err NotFinite)
 
 -- the same where the parameters are known to be finite
 abbrev pub placed : Camera → Float → Float → Judgement
 placed camera x y =
-    cond (finite x && finite y) (cond (zero_focal camera) (Err ZeroFocalLength) (Ok tt)) (Err NotFinite)
+    cond (finite x && finite y) (cond (zero_focal camera) (Err ZeroFocalLength) accepted) (Err NotFinite)
 
 -- ---- distort: the model's pixel, or 11
 

@@ -180,7 +180,7 @@ fn point_of(camera: Camera, pixel: Pixel) -> Result<Settled, Refusal>
 }
 
 // 11 for a point that isn't finite. A refusal stays: 10 and 16 come before 11.
-fn finite_point(found: Result<Settled, Refusal>) -> Result<Settled, Refusal>
+pub fn finite_point(found: Result<Settled, Refusal>) -> Result<Settled, Refusal>
     ensures { result ≡ finite_point found }
 {
     let settled = found?;

@@ -9,7 +9,7 @@ use native.Mathlib.Omega.{arith}
 use borrow.Author.Tests.{le-leb, lt-leb, eq-eqb, ne_eqb, eqb-true}
 use lib.Dec.{eqb, leb}
 use lib.ListN.{length}
-use Rattle.lens.specs.Judgement.{decided}
+use Rattle.lens.specs.Judgement.{decided, accepted}
 use Rattle.lens.specs.Judgement.{Judgement}
 use Rattle.lens.specs.declared.Refusal.{Refusal}
 use Rattle.lens.specs.declared.Refusal.TheVariants.{UnknownModel, WrongCount}
@@ -41,7 +41,7 @@ module _ (model : ℕ) (p : List ℕ) where
   by_tests :
       (a b : Bool) (c : Camera) →
       cond a (cond b (Ok c) (Err WrongCount)) (Err UnknownModel)
-      ≡ decided (cond a (cond b (Ok tt) (Err WrongCount)) (Err UnknownModel)) Err (Ok c)
+      ≡ decided (cond a (cond b accepted (Err WrongCount)) (Err UnknownModel)) Err (Ok c)
   by_tests true true c = refl
   by_tests true false c = refl
   by_tests false b c = refl
@@ -55,17 +55,17 @@ module _ (model : ℕ) (p : List ℕ) where
   pub read_refused : {refusal : Refusal} → judged model p ≡ Err refusal → read model p ≡ Err refusal
   read_refused e = read_judged ∙ ap (λ (j : Judgement). decided j Err (Ok (camera_of model p))) e
 
-  pub read_taken : judged model p ≡ Ok tt → read model p ≡ Ok (camera_of model p)
+  pub read_taken : judged model p ≡ accepted → read model p ≡ Ok (camera_of model p)
   read_taken e = read_judged ∙ ap (λ (j : Judgement). decided j Err (Ok (camera_of model p))) e
 
-  pub judged_taken : judged model p ≡ Ok tt → length p ≡ 8 * count model
+  pub judged_taken : judged model p ≡ accepted → length p ≡ 8 * count model
   unfolding judged
   judged_taken e = counted_so (leb model last) (eqb (length p) (8 * count model)) refl e
     where
       counted_so :
           (a b : Bool) →
           eqb (length p) (8 * count model) ≡ b →
-          cond a (cond b (Ok tt) (Err WrongCount)) (Err UnknownModel) ≡ Ok tt →
+          cond a (cond b accepted (Err WrongCount)) (Err UnknownModel) ≡ accepted →
           length p ≡ 8 * count model
       counted_so true true f g = eqb-true (length p) (8 * count model) f
       counted_so true false f g = let z : ◌≡◌ {A = ℕ} 0 1 = cc in absurd (omega arith)

@@ -3,7 +3,7 @@ use Rattle.std.specs.Prelude.{cond, List, ℕ, ◌*◌, ◌%◌, ◌<◌, eqb, l
 use Rattle.lens.specs.declared.Refusal.{Refusal}
 use Rattle.little_endian.specs.Bytes.{float}
 use Rattle.lens.specs.Finite.{all_finite}
-use Rattle.lens.specs.Judgement.{Judgement}
+use Rattle.lens.specs.Judgement.{Judgement, accepted}
 use Rattle.lens.specs.declared.Refusal.TheVariants.{UnknownModel, WrongCount, NotFinite}
 use Rattle.camera.specs.Camera.{parameters}
 use Rattle.camera.specs.Numbers as numbers
@@ -22,7 +22,7 @@ camera_of model p = numbers.camera_of model (at p)
 unfoldable pub judged : ℕ → List ℕ → Judgement
 judged model p =
     cond (leb model numbers.last)
-    (cond (eqb (length p) (8 * numbers.count model)) (Ok tt) (Err WrongCount))
+    (cond (eqb (length p) (8 * numbers.count model)) accepted (Err WrongCount))
     (Err UnknownModel)
 
 unfoldable pub read : ℕ → List ℕ → Result Camera Refusal

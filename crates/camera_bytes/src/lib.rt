@@ -1,13 +1,12 @@
 // A camera out of a model's number and bytes: the parameters of its model, eight bytes each, the least first.
 #![tactic(auto)]
 
-ghost use Rattle.std.specs.Prelude.{◌≡◌, ◌+◌, ◌*◌, ◌%◌, ◌≤◌, length, replicate};
+ghost use Rattle.std.specs.Prelude.{◌≡◌, ◌+◌, ◌*◌, ◌%◌, ◌≤◌, length, replicate, is_some};
 ghost use Rattle.exact.specs.F64.{f64};
 ghost use Rattle.lens.specs.Constants.{zeros};
 ghost use Rattle.camera.specs.Numbers.{most, count};
 ghost use Rattle.camera_bytes.specs.Reading.{camera_of, judged, read, finite_only, read_finite, Plain};
 ghost use Rattle.camera_bytes.specs.Putting.{SameTo, TwoPut, AllPut};
-ghost use Rattle.camera_bytes.specs.declared.Asked.TheVariants.{Of};
 
 use camera::Camera;
 use camera::numbers::{LAST, MOST};
@@ -23,10 +22,8 @@ fn numbers(params: &[u8]) -> [f64; MOST]
     ensures { SameTo most params.now result }
 {
     let mut n = [0.0; MOST];
-    let mut i = 0;
-    while i < MOST {
+    for i in 0..MOST {
         n[i] = little_endian::float(params, 8 * i);
-        i += 1;
     }
     n
 }
@@ -47,53 +44,50 @@ fn raw(bits: u64) -> f64
 }
 
 // Puts the numbers i and i + 1 at their places, if both are finite.
-fn two(params: &[u8], i: usize, n: &mut [f64; MOST]) -> bool
+fn two(params: &[u8], i: usize, n: &mut [f64; MOST]) -> Option<()>
     requires { (8 * i + 16 ≤ length params.now) × ((i + 2 ≤ most) × (length n.old ≡ most)) }
-    ensures { TwoPut params.now i result n.old n.new }
+    ensures { TwoPut params.now i (is_some result) n.old n.new }
 {
     let a = little_endian::word(params, 8 * i);
     let b = little_endian::word(params, 8 * i + 8);
     if INFINITY <= a % SIGN {
-        return false;
+        return None;
     }
     if INFINITY <= b % SIGN {
-        return false;
+        return None;
     }
     n[i] = raw(a);
     n[i + 1] = raw(b);
-    true
+    Some(())
 }
 
-// Puts all numbers that there are over zeros, by twos, since every model's count is even; or says that one isn't
+// Puts all numbers that there are over zeros, by twos, since every model's count is even; nothing where one isn't
 // finite. A pattern is tested once, where the camera's own test and that of each number for NaN would cost far more
 // (docs/DECISIONS.md, 82); and the compiler lays the loop out.
-fn all(params: &[u8], n: &mut [f64; MOST]) -> bool
+fn all(params: &[u8], n: &mut [f64; MOST]) -> Option<()>
     requires { (length params.now % 16 ≡ 0) × (n.old ≡ replicate most zeros) }
-    ensures { AllPut params.now result n.new }
+    ensures { AllPut params.now (is_some result) n.new }
 {
-    let mut i = 0;
-    while i < MOST {
+    for k in 0..MOST / 2 {
+        let i = 2 * k;
         if params.len() < 8 * i + 16 {
-            return true;
+            return Some(());
         }
-        if !two(params, i, n) {
-            return false;
-        }
-        i += 2;
+        two(params, i, n)?;
     }
-    true
+    Some(())
 }
 
 // A camera of parameters that are all there, or 4.
 fn whole(model: u8, params: &[u8]) -> Result<Camera, Refusal>
     requires { length params.now ≡ 8 * count model }
-    ensures { result ≡ finite_only (Of (camera_of model params.now)) }
+    ensures { result ≡ finite_only (Ok (camera_of model params.now)) }
 {
     let mut n = [0.0; MOST];
-    if all(params, &mut n) {
-        return Ok(camera::numbers::camera_of(model, &n));
-    }
-    Err(Refusal::NotFinite)
+    let Some(()) = all(params, &mut n) else {
+        return Err(Refusal::NotFinite);
+    };
+    Ok(camera::numbers::camera_of(model, &n))
 }
 
 // 1, then 3.
@@ -113,18 +107,14 @@ pub fn judged(model: u8, params: &[u8]) -> Result<(), Refusal>
 pub fn read(model: u8, params: &[u8]) -> Result<Camera, Refusal>
     ensures { result ≡ read model params.now }
 {
-    match judged(model, params) {
-        Err(refusal) => Err(refusal),
-        Ok(()) => Ok(camera_of(model, params)),
-    }
+    judged(model, params)?;
+    Ok(camera_of(model, params))
 }
 
 // 1, 3, then 4 for a parameter that isn't finite, or the camera.
 pub fn read_finite(model: u8, params: &[u8]) -> Result<Camera, Refusal>
     ensures { result ≡ read_finite model params.now }
 {
-    match judged(model, params) {
-        Err(refusal) => Err(refusal),
-        Ok(()) => whole(model, params),
-    }
+    judged(model, params)?;
+    whole(model, params)
 }

@@ -1,4 +1,4 @@
--- Neither kind of cell holds a pixel that isn't finite, so that what holds one needs no test of it (`holds`, `refuses`); and an f32 less itself says whether it is finite. Assumes nothing.
+-- Neither kind of cell holds a pixel that isn't finite, so that what holds one needs no test of it (`holds`); and an f32 less itself says whether it is finite. Assumes nothing.
 use mathlib.Core.Path.{◌≡◌, refl, sym, ap, ◌∙◌}
 use Rattle.std.specs.declared.result.Result.TheVariants.{Ok, Err}
 use Rattle.std.specs.declared.option.Option.{Option}
@@ -7,7 +7,7 @@ use mathlib.Core.Bool.{Bool, true, false, not, cond, ◌&&◌, false≢true}
 use Prim.Native.Nat.{ℕ, ◌-◌, ◌*◌, ◌<◌}
 use native.Mathlib.Nat.{mul-pos, sub_self, le_refl}
 use borrow.Author.Tests.{le-ltb}
-use lib.IntN.{pos}
+use lib.IntN.{ℤ, pos}
 use lib.Ieee.{Float, nan, inf, fin, binary32, up, down, sum, add, sub, neg, eq, of_bits}
 use lib.Ieee.Fits.{down_pos}
 use lib.Ieee.Scale.{finite}
@@ -16,11 +16,9 @@ use Rattle.exact.proofs.Zeros.{zero_rounds}
 use Rattle.narrow.specs.Narrow.{narrowed}
 use Rattle.thirty_seconds.specs.Multiple.{nearest_multiple}
 use Rattle.lens.specs.Distorted.{finite_pixel}
-use Rattle.lens.specs.Refusal.{number}
 use Rattle.lens.specs.declared.Pixel.{Pixel}
-use Rattle.lens.specs.declared.Refusal.{Refusal}
 use Rattle.lens.specs.declared.Refusal.TheVariants.{AnswerNotFinite}
-use Rattle.plans.specs.Plan.{Content, none}
+use Rattle.plans.specs.Plan.{Content}
 use Rattle.cell.specs.Cell.{of_pixel}
 
 -- ---- a pixel by what is made of it
@@ -33,18 +31,6 @@ module _ {X : Type 0} (kind : Pixel → Content X) (pixel : Pixel) where
   holds e f g =
       let t : true ≡ (finite pixel.0 && finite pixel.1) = rw (f, g) refl in
       e ∙ ap judged_by t
-
-  abbrev told_why : Refusal → Content X
-  told_why r = none (number r)
-
-  pub refuses :
-      (why : Refusal) {r : Refusal} → none (number why) ≡ kind pixel → r ≡ cond (finite pixel.0 && finite pixel.1) why AnswerNotFinite
-      → none (number r) ≡ of_pixel kind (finite_pixel pixel)
-  refuses why e f = ap told_why f ∙ go (finite pixel.0 && finite pixel.1)
-    where
-      go : (b : Bool) → none (number (cond b why AnswerNotFinite)) ≡ judged_by b
-      go true = e
-      go false = refl
 
 pub of_narrowed : (x : Float) → finite (narrowed x) ≡ true → finite x ≡ true
 unfolding narrowed

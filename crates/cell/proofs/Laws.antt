@@ -1,5 +1,7 @@
 -- What a caller may rely on, of the definitions of specs/ and of the contracts of src/. Assumes nothing.
 use mathlib.Core.Path.{◌≡◌, sym, ap, ap₂, ◌∙◌}
+use Rattle.std.specs.declared.result.Result.{Result}
+use Rattle.std.specs.declared.result.Result.TheVariants.{Ok, Err}
 use mathlib.Core.Logic.{◌⊎◌, inl, inr, ◌↔◌}
 use Prim.Native.Nat.{ℕ}
 use native.Mathlib.Omega.{arith}
@@ -12,39 +14,26 @@ use Rattle.thirty_seconds.proofs.Laws.{held_exactly, too_far_exactly}
 use Rattle.lens.specs.Distorted.{Distorted}
 use Rattle.lens.specs.declared.Pixel.{Pixel}
 use Rattle.lens.specs.declared.Point.{Point}
+use Rattle.lens.specs.declared.Refusal.{Refusal}
 use Rattle.lens.proofs.Laws.{number_one_to_one}
 use Rattle.region.specs.declared.Increments.{Increments}
 use Rattle.region.specs.declared.Region.{Region}
 use Rattle.plans.specs.Plan.{Content, numbers, none}
-use Rattle.cell.specs.Cell.{unrounded, f32, both_held, i16, cell_by, of_cell, Together, told, told16}
-use Rattle.cell.specs.declared.Cell.{Cell}
-use Rattle.cell.specs.declared.Cell.TheVariants.{Holds, Refused}
-use Rattle.cell.specs.declared.Cell16.{Cell16}
-use Rattle.cell.specs.declared.Cell16.TheVariants as sixteen
+use Rattle.cell.specs.Cell.{unrounded, f32, both_held, i16, cell_by, of_cell, Together, told}
 use Rattle.cell.proofs.Made.{made}
 use Rattle.cell.proofs.Together.{i16_holds, i16_refused, cells_together}
 use Rattle.cell.proofs.cell_at.Reads as cell-at-contract
-use Rattle.cell.proofs.cell_at16.Reads as cell-at16-contract
 
 -- What is told of a cell determines it.
-pub told_one_to_one : (a b : Cell) → told a ≡ told b → a ≡ b
-told_one_to_one (Holds a b) (Holds c d) e = ap₂ Holds (cc) (cc)
-told_one_to_one (Holds a b) (Refused r) e = let z : ◌≡◌ {A = ℕ} 0 1 = cc in absurd (omega arith)
-told_one_to_one (Refused q) (Holds c d) e = let z : ◌≡◌ {A = ℕ} 0 1 = cc in absurd (omega arith)
-told_one_to_one (Refused q) (Refused r) e = ap Refused (number_one_to_one q r (cc))
+pub told_one_to_one : {X : Type 0} (a b : Result (X × X) Refusal) → told a ≡ told b → a ≡ b
+told_one_to_one {X} (Ok (a, b)) (Ok (c, d)) e = ap₂ (λ (x y : X). Ok (x, y)) (cc) (cc)
+told_one_to_one (Ok (a, b)) (Err r) e = let z : ◌≡◌ {A = ℕ} 0 1 = cc in absurd (omega arith)
+told_one_to_one (Err q) (Ok (c, d)) e = let z : ◌≡◌ {A = ℕ} 0 1 = cc in absurd (omega arith)
+told_one_to_one (Err q) (Err r) e = ap Err (number_one_to_one q r (cc))
 
-pub told16_one_to_one : (a b : Cell16) → told16 a ≡ told16 b → a ≡ b
-told16_one_to_one (sixteen.Holds a b) (sixteen.Holds c d) e = ap₂ sixteen.Holds (cc) (cc)
-told16_one_to_one (sixteen.Holds a b) (sixteen.Refused r) e = let z : ◌≡◌ {A = ℕ} 0 1 = cc in absurd (omega arith)
-told16_one_to_one (sixteen.Refused q) (sixteen.Holds c d) e = let z : ◌≡◌ {A = ℕ} 0 1 = cc in absurd (omega arith)
-told16_one_to_one (sixteen.Refused q) (sixteen.Refused r) e = ap sixteen.Refused (number_one_to_one q r (cc))
-
--- Any two answers to one call that the contract of `cell_at` permits are equal; and so for `cell_at16`.
-pub cell_at_determined : Determined cell-at-contract.Post
-cell_at_determined κ a s s' r r' p q = p ∙ sym q
-
-pub cell_at16_determined : Determined cell-at16-contract.Post
-cell_at16_determined κ a s s' r r' p q = told16_one_to_one r r' (p ∙ sym q)
+-- Any two answers to one call that the contract of `cell_at` permits are equal, at every type of number.
+pub cell_at_determined : (g : _) (l : _) (c : _) (number : _) (d : _) (clone : _) (e : _) → Determined (cell-at-contract.Post g l c number d clone e)
+cell_at_determined g l c number d clone e κ a s s' r r' p q = told_one_to_one r r' (p ∙ sym q)
 
 -- A cell of any kind is made from one that holds the pixel as it is, and is refused with the same number where that one is.
 pub one_pixel :

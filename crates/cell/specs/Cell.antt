@@ -1,5 +1,5 @@
 -- One cell of a table: its point, and what it holds, of any kind of cell. Definitions only.
-use Rattle.std.specs.Prelude.{cond, ◌&&◌, ℕ, ℤ, Float, Option, Ok, Err, Some, None}
+use Rattle.std.specs.Prelude.{cond, ◌&&◌, ℕ, ℤ, Float, Option, Result, Ok, Err, Some, None}
 use Rattle.std.specs.Float.Ieee.Scale.{finite}
 use Rattle.exact.specs.F64.{◌⊕◌, ◌⊗◌}
 use Rattle.exact.specs.Fraction.{over, ◌⊞◌, Within, exactly}
@@ -10,14 +10,11 @@ use Rattle.lens.specs.Refusal.{number}
 use Rattle.lens.specs.Distorted.{Distorted}
 use Rattle.lens.specs.declared.Pixel.{Pixel}
 use Rattle.lens.specs.declared.Point.{Point}
+use Rattle.lens.specs.declared.Refusal.{Refusal}
 use Rattle.region.specs.Size.{float}
 use Rattle.region.specs.declared.Increments.{Increments}
 use Rattle.region.specs.declared.Region.{Region}
 use Rattle.plans.specs.Plan.{Content, numbers, none}
-use Rattle.cell.specs.declared.Cell.{Cell}
-use Rattle.cell.specs.declared.Cell.TheVariants.{Holds, Refused}
-use Rattle.cell.specs.declared.Cell16.{Cell16}
-use Rattle.cell.specs.declared.Cell16.TheVariants as sixteen
 
 abbrev pub cell_point : Region → Increments → ℕ → ℕ → Point
 cell_point region by u v = record { 0 = region.left ⊕ float u ⊗ by.0; 1 = region.top ⊕ float v ⊗ by.1 }
@@ -67,10 +64,6 @@ abbrev pub Together : ℤ → Float → Type 0
 Together n a = Within (over 1 64 ⊞ over 1 16384) (thirty_seconds n) (exactly a)
 
 -- what the code's answer says: two numbers, or a refusal's
-abbrev pub told : Cell → Content Float
-told (Holds a b) = numbers a b
-told (Refused r) = none (number r)
-
-abbrev pub told16 : Cell16 → Content ℤ
-told16 (sixteen.Holds a b) = numbers a b
-told16 (sixteen.Refused r) = none (number r)
+abbrev pub told : {X : Type 0} → Result (X × X) Refusal → Content X
+told (Ok (a, b)) = numbers a b
+told (Err r) = none (number r)

@@ -6,24 +6,49 @@ ghost use Rattle.std.specs.Prelude.{◌≡◌, cond, ◌&&◌};
 ghost use Rattle.std.specs.Float.Ieee.Scale.{finite};
 ghost use Rattle.lens.specs.Distorted.{finite_pixel};
 ghost use Rattle.engine.specs.Engine.{distort};
-ghost use Rattle.cell.specs.Cell.{cell_point, f32, i16, of_pixel, cell_by, told, told16};
+ghost use Rattle.cell.specs.Cell.{cell_point, of_pixel, cell_by, told};
+ghost use Rattle.cell.specs.Kind.{Kind, f32s, i16s};
 
 use camera::Camera;
 use lens::{Pixel, Point, Refusal};
 use region::{Increments, Region};
 
-// What a cell of f32s holds, or why it holds nothing.
-#[derive(Clone, Copy)]
-pub enum Cell {
-    Holds(f32, f32),
-    Refused(Refusal),
+// A type of number that the cells of a table may hold two of, with its kind of cell.
+pub trait CellNumber: Copy {
+    ghost kind: { Kind Self };
+
+    // A pixel as a cell of such numbers.
+    fn from_pixel(pixel: Pixel) -> Result<(Self, Self), Refusal>
+        ensures { told result ≡ of_pixel kind.holds (finite_pixel pixel) };
 }
 
-// What a cell of sixteen-bit numbers holds, in thirty-seconds of a pixel, or why it holds nothing.
-#[derive(Clone, Copy)]
-pub enum Cell16 {
-    Holds(i16, i16),
-    Refused(Refusal),
+// Two f32s, each the nearest: 12 if one is infinite.
+impl CellNumber for f32 {
+    ghost kind = { f32s };
+
+    fn from_pixel(pixel: Pixel) -> Result<(f32, f32), Refusal> {
+        let a = narrow::narrow(pixel.0);
+        let b = narrow::narrow(pixel.1);
+        if both_finite32(a, b) {
+            return Ok((a, b));
+        }
+        Err(refusal_of(pixel, Refusal::CellInfinite))
+    }
+}
+
+// Two numbers of thirty-seconds of a pixel, each the nearest: 19 if one is too far for sixteen bits.
+impl CellNumber for i16 {
+    ghost kind = { i16s };
+
+    fn from_pixel(pixel: Pixel) -> Result<(i16, i16), Refusal> {
+        let (Some(i), Some(j)) = (
+            thirty_seconds::thirty_seconds(pixel.0),
+            thirty_seconds::thirty_seconds(pixel.1),
+        ) else {
+            return Err(refusal_of(pixel, Refusal::TooFar));
+        };
+        Ok((i, j))
+    }
 }
 
 // Whether two f32s are numbers, and neither NaNs nor infinities: x - x is 0.0 then, and a NaN else, and the two share
@@ -46,30 +71,6 @@ fn refusal_of(pixel: Pixel, kind: Refusal) -> Refusal
     Refusal::AnswerNotFinite
 }
 
-// A pixel as a cell: 12 if an f32 of it is infinite.
-fn narrow_pixel(pixel: Pixel) -> Cell
-    ensures { told result ≡ of_pixel f32 (finite_pixel pixel) }
-{
-    let a = narrow::narrow(pixel.0);
-    let b = narrow::narrow(pixel.1);
-    if both_finite32(a, b) {
-        return Cell::Holds(a, b);
-    }
-    Cell::Refused(refusal_of(pixel, Refusal::CellInfinite))
-}
-
-// A pixel as a cell of sixteen-bit numbers: 19 if one of it is too far.
-fn round_pixel(pixel: Pixel) -> Cell16
-    ensures { told16 result ≡ of_pixel i16 (finite_pixel pixel) }
-{
-    if let Some(a) = thirty_seconds::thirty_seconds(pixel.0) {
-        if let Some(b) = thirty_seconds::thirty_seconds(pixel.1) {
-            return Cell16::Holds(a, b);
-        }
-    }
-    Cell16::Refused(refusal_of(pixel, Refusal::TooFar))
-}
-
 // The point of the cell in column u and row v.
 fn point_at(region: Region, by: Increments, u: usize, v: usize) -> Point
     ensures { result ≡ cell_point region by u v }
@@ -80,38 +81,20 @@ fn point_at(region: Region, by: Increments, u: usize, v: usize) -> Point
     )
 }
 
-// The cell of f32s in column u and row v.
-pub fn cell_at(
+// The cell in column u and row v, of either kind.
+pub fn cell_at<N: CellNumber>(
     camera: Camera,
     short: bool,
     region: Region,
     by: Increments,
     u: usize,
     v: usize,
-) -> Cell
-    ensures { told result ≡ cell_by (distort camera short) f32 region by u v }
+) -> Result<(N, N), Refusal>
+    ensures { told result ≡ cell_by (distort camera short) N.kind.holds region by u v }
 {
     let point = point_at(region, by, u, v);
     if lens::both_finite(point.0, point.1) {
-        return narrow_pixel(engine::distort(camera, short, point));
+        return N::from_pixel(engine::distort(camera, short, point));
     }
-    Cell::Refused(Refusal::AnswerNotFinite)
-}
-
-// The cell of sixteen-bit numbers in column u and row v.
-pub fn cell_at16(
-    camera: Camera,
-    short: bool,
-    region: Region,
-    by: Increments,
-    u: usize,
-    v: usize,
-) -> Cell16
-    ensures { told16 result ≡ cell_by (distort camera short) i16 region by u v }
-{
-    let point = point_at(region, by, u, v);
-    if lens::both_finite(point.0, point.1) {
-        return round_pixel(engine::distort(camera, short, point));
-    }
-    Cell16::Refused(Refusal::AnswerNotFinite)
+    Err(Refusal::AnswerNotFinite)
 }

@@ -3,8 +3,6 @@
 #![tactic(auto)]
 
 ghost use Rattle.std.specs.Prelude.{◌≡◌};
-ghost use Rattle.lens.specs.Undistorted.{told};
-ghost use Rattle.camera.specs.Camera.{finite_point};
 ghost use Rattle.engine.specs.Engine.{short_for, pixel_by, undistort};
 
 use camera::Camera;
@@ -39,23 +37,13 @@ pub fn distort(camera: Camera, short: bool, point: Point) -> Pixel
     }
 }
 
-// 11 for a point that isn't finite.
-fn finite(settled: Settled) -> Result<Settled, Refusal>
-    ensures { result ≡ finite_point (Ok settled) }
-{
-    if lens::both_finite(settled.point.0, settled.point.1) {
-        return Ok(settled);
-    }
-    Err(Refusal::AnswerNotFinite)
-}
-
 // The point of a sample's pixel, by the short engine or not, for a camera that 4 and 5 do not refuse.
 pub fn undistort(camera: Camera, short: bool, pixel: Pixel) -> Result<Settled, Refusal>
     ensures { result ≡ undistort camera short pixel }
 {
     if short {
         if let Camera::BrownConrady(params) = camera {
-            return finite(short_brown_conrady::undistort(params, pixel));
+            return camera::finite_point(Ok(short_brown_conrady::undistort(params, pixel)));
         }
     }
     camera::undistort_judged(camera, pixel)

@@ -30,7 +30,7 @@ started_one_to_one (Err q) (Err r) e = ap Err (number_one_to_one q r (cc))
 
 -- Any two answers to one call that the contract of `fresh` permits are equal; and so for `begun`
 pub fresh_determined : Determined fresh-contract.Post
-fresh_determined κ a s s' r r' p q = started_one_to_one r r' (p ∙ sym q)
+fresh_determined κ a s s' r r' p q = p ∙ sym q
 
 pub begun_determined : Determined begun-contract.Post
 begun_determined κ a s s' r r' p q = p ∙ sym q

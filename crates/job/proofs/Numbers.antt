@@ -9,7 +9,7 @@ use lib.Dec.{leb, ltb, eqb}
 use lib.Ieee.{of_bits}
 use lib.Ieee.Scale.{finite}
 use Rattle.lens.specs.Finite.{all_finite}
-use Rattle.lens.specs.Judgement.{verdict, decided}
+use Rattle.lens.specs.Judgement.{verdict, decided, accepted}
 use Rattle.lens.specs.Rows.{◌when◌, first}
 use Rattle.lens.specs.Judgement.{Judgement}
 use Rattle.lens.specs.declared.Refusal.TheVariants.{NotFinite, ZeroFocalLength, WrongSize, WrongLength, IncrementNotPositive, AnswerNotFinite, ImpossibleRecord}
@@ -29,7 +29,7 @@ use Rattle.job.specs.declared.Job.{Job}
 
 -- the three tests of a camera and its size
 abbrev by_tests : Bool → Bool → Bool → Judgement
-by_tests g z s = cond g (cond z (Err ZeroFocalLength) (cond s (Ok tt) (Err WrongSize))) (Err NotFinite)
+by_tests g z s = cond g (cond z (Err ZeroFocalLength) (cond s accepted (Err WrongSize))) (Err NotFinite)
 
 -- ---- the rows of a fresh record
 
@@ -70,7 +70,7 @@ fine_not : (by : Increments) → eqb (verdict (wrong by)) 0 ≡ not (unfit by)
 unfolding wrong
 fine_not by = go (flat by.0 || flat by.1) (finite by.0 && finite by.1)
   where
-    go : (f p : Bool) → eqb (verdict (cond f (Err IncrementNotPositive) (cond p (Ok tt) (Err AnswerNotFinite)))) 0 ≡ not (f || not p)
+    go : (f p : Bool) → eqb (verdict (cond f (Err IncrementNotPositive) (cond p accepted (Err AnswerNotFinite)))) 0 ≡ not (f || not p)
     go true p = refl
     go false true = refl
     go false false = refl
@@ -118,7 +118,7 @@ admitted_number job places =
     (go (all_finite (parameters job.camera) && all_finite (four job.at.region)) (zero_focal job.camera) (sized job.width job.height) (eqb places (2 * (job.width * job.height))) (no_build job.camera job.width job.height job.strict job.at))
   where
     go : (g z s e n : Bool)
-        → verdict (decided (by_tests g z s) Err (cond e (cond (not n) (Ok tt) (Err ImpossibleRecord)) (Err WrongLength)))
+        → verdict (decided (by_tests g z s) Err (cond e (cond (not n) accepted (Err ImpossibleRecord)) (Err WrongLength)))
         ≡ first ((4 when not g) ∷ (5 when z) ∷ (6 when not s) ∷ (7 when not e) ∷ (13 when n) ∷ [])
     go false z s e n = refl
     go true true s e n = refl

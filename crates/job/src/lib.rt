@@ -63,10 +63,7 @@ pub fn begun(camera: Camera, width: usize, height: usize, strict: bool) -> Job
 fn opens(camera: Camera, width: usize, height: usize, region: Region) -> Result<(), Refusal>
     ensures { result ≡ opens_for camera width height region }
 {
-    if !camera::finite_parameters(camera) {
-        return Err(Refusal::NotFinite);
-    }
-    if !region::finite_region(region) {
+    if !camera::finite_parameters(camera) || !region::finite_region(region) {
         return Err(Refusal::NotFinite);
     }
     if camera::zero_focal(camera) {
@@ -82,17 +79,8 @@ fn opens(camera: Camera, width: usize, height: usize, region: Region) -> Result<
 pub fn fresh(camera: Camera, width: usize, height: usize, strict: bool) -> Result<Job, Refusal>
     ensures { result ≡ fresh camera width height strict }
 {
-    match opens(camera, width, height, nowhere()) {
-        Err(refusal) => Err(refusal),
-        Ok(()) => Ok(begun(camera, width, height, strict)),
-    }
-}
-
-// The smaller of two.
-fn least(a: usize, b: usize) -> usize
-    ensures { result ≡ min a b }
-{
-    if a < b { a } else { b }
+    opens(camera, width, height, nowhere())?;
+    Ok(begun(camera, width, height, strict))
 }
 
 // Whether no more updates were made than the samples done can have made.
@@ -107,32 +95,20 @@ fn few(limit: usize, samples: usize, updates: usize) -> bool
 fn tallied(strict: bool, samples: usize, unsettled: usize, first: usize) -> bool
     ensures { result ≡ tallied strict samples unsettled first }
 {
-    if samples < unsettled {
-        return false;
-    }
-    if samples < first {
+    if samples < unsettled || samples < first {
         return false;
     }
     if unsettled == 0 {
         return first == 0;
     }
-    if first == 0 {
-        return false;
-    }
-    !strict
+    first != 0 && !strict
 }
 
 // Whether the border isn't behind it yet, or its region has increments that will do.
 fn fine(region: Region, width: usize, height: usize, before: bool) -> bool
     ensures { result ≡ (before || eqb (verdict (wrong (increments region width height))) 0) }
 {
-    if before {
-        return true;
-    }
-    match region::wrong(region::increments_of(region, width, height)) {
-        Ok(()) => true,
-        Err(_) => false,
-    }
+    before || region::wrong(region::increments_of(region, width, height)).is_ok()
 }
 
 // Whether a build can have come to this.
@@ -144,7 +120,7 @@ fn possible(camera: Camera, width: usize, height: usize, strict: bool, at: Progr
     if all + width * height < at.done {
         return false;
     }
-    let samples = least(at.done, all);
+    let samples = at.done.min(all);
     if !few(camera::limit(camera) as usize, samples, at.updates as usize) {
         return false;
     }
@@ -165,11 +141,8 @@ pub fn admitted(job: Job, places: usize) -> Result<(), Refusal>
     let at = job.at;
     let width = job.width;
     let height = job.height;
-    let opened = opens(camera, width, height, at.region);
-    match opened {
-        Err(refusal) => Err(refusal),
-        Ok(()) => sound(camera, width, height, job.strict, at, places),
-    }
+    opens(camera, width, height, at.region)?;
+    sound(camera, width, height, job.strict, at, places)
 }
 
 // 7, 13, once camera and size are taken.

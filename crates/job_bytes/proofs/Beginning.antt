@@ -2,7 +2,7 @@
 use Rattle.std.proofs.Common.{◌≡◌, ℕ, ◌*◌, ◌≤◌, Bool, true, false, cond, eqb, leb, List, [], length, sym, refl, ap, ◌∙◌, arith}
 use Rattle.std.specs.declared.result.Result.{Result}
 use Rattle.std.specs.declared.result.Result.TheVariants.{Ok, Err}
-use Rattle.lens.specs.Judgement.{decided}
+use Rattle.lens.specs.Judgement.{decided, accepted}
 use Rattle.lens.specs.Refusal.{number}
 use Rattle.lens.specs.declared.Refusal.{Refusal}
 use Rattle.lens.specs.Judgement.{Judgement}
@@ -55,12 +55,12 @@ module _ (model : ℕ) (params : List ℕ) (width height m : ℕ) (lent : List �
   job = fresh_job camera width height (eqb m 1)
 
   abbrev Says : Given → Type 0
-  Says g = g.code ≡ 0 → (g.answer ≡ record_bytes job) × (opens_for camera width height nowhere ≡ Ok tt)
+  Says g = g.code ≡ 0 → (g.answer ≡ record_bytes job) × (opens_for camera width height nowhere ≡ accepted)
 
   refusing : (refusal : Refusal) → Says (give_started (no_job (number refusal)) lent)
   refusing refusal z = absurd (omega (arith, (number_within refusal).0, (told_zero record_length (number refusal) [] lent z).0))
 
-  beginning : opens_for camera width height nowhere ≡ Ok tt → Says (answered record_length 0 (record_bytes job) lent)
+  beginning : opens_for camera width height nowhere ≡ accepted → Says (answered record_length 0 (record_bytes job) lent)
   beginning s z =
       let e : length lent ≡ record_length = (told_zero record_length 0 (record_bytes job) lent z).1 in
       (ap (λ (g : Given). g.answer) (filled record_length 0 (record_bytes job) lent refl e), s)

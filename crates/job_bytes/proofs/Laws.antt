@@ -1,4 +1,5 @@
 -- What a caller may rely on, of the definitions of specs/ and of the contracts of src/. Assumes nothing.
+use Rattle.lens.specs.Judgement.{accepted}
 use Rattle.std.proofs.Common.{◌≡◌, ℕ, ◌/◌, ◌^◌, ◌<◌, Bool, true, false, eqb, List, length, sym, refl, ap, ◌∙◌, arith}
 use Rattle.std.specs.declared.result.Result.TheVariants.{Ok, Err}
 use lib.Ieee.{binary64}
@@ -148,5 +149,5 @@ fresh_read model params width height m lent z =
 pub fresh_opens_zero :
     (model : ℕ) (params : List ℕ) (width height m : ℕ) (lent : List ℕ) →
     (fresh_bytes model params width height m lent).code ≡ 0 →
-    opens_for (camera_of model params) width height nowhere ≡ Ok tt
+    opens_for (camera_of model params) width height nowhere ≡ accepted
 fresh_opens_zero model params width height m lent z = (fresh_zero model params width height m lent z).1

@@ -7,6 +7,10 @@ use Rattle.lens.specs.declared.Refusal.{Refusal}
 abbrev pub Judgement : Type 0
 Judgement = Result (Unit {0}) Refusal
 
+-- the judgement of a call that is taken
+abbrev pub accepted : Judgement
+accepted = Ok tt
+
 -- its number: 0 for a call that is taken
 abbrev pub verdict : Judgement → ℕ
 verdict (Ok _) = 0

@@ -1,113 +1,97 @@
--- Bytes read one by one make the number that the definition gives. Assumes nothing.
+-- Bytes make the number that the definition gives: four and eight by the library's reading, fewer one by one. Assumes nothing.
 use mathlib.Core.Path.{◌≡◌, refl, sym, ap, ◌∙◌, subst}
-use mathlib.Core.List.{List, [], ◌∷◌}
+use mathlib.Core.List.{List, [], ◌∷◌, reverse}
 use Prim.Native.Nat.{ℕ, suc, ◌+◌, ◌-◌, ◌*◌, ◌^◌, ◌≤◌, ◌<◌}
-use native.Mathlib.Nat.{add-zero, pow-suc, one-le-pow, pow-le-pow_right}
+use native.Mathlib.Nat.{pow-le-pow_right}
 use native.Mathlib.Omega.{arith}
-use lib.ListN.{length, get_or, take, drop, length-drop, drop_of_length-le}
-use lib.Seq.{get_or-drop, drop-cons, take_all}
-use Rattle.little_endian.specs.Bytes.{value}
+use lib.ListN.{length, get_or, take, drop, length-drop, drop_of_length-le, length-reverse}
+use Rattle.std.proofs.lemmas.List.{get_or-reverse, get_or_default}
+use Rattle.std.proofs.lemmas.Nat.{pow-add}
+use lib.Seq.{take-nil, drop-cons, get_or-drop}
+use mir.Syntax.{w8, w32, w64}
+use mir.Val.{Fits}
+use Rattle.std.specs.Int.{from_le_bytes}
+use Rattle.std.specs.Array.{IsFirstChunk}
+use Rattle.little_endian.specs.Bytes.{value, half, word}
 
--- four bytes, one by one
-one_by_one : (l : List ℕ) → get_or l 0 0 + get_or l 1 0 * 256 + get_or l 2 0 * 65536 + get_or l 3 0 * 16777216 ≡ value (take 4 l)
+four_read : (l : List ℕ) → from_le_bytes w32 (take 4 l) ≡ value (take 4 l)
 unfolding value
-one_by_one [] = refl
-one_by_one (a ∷ []) = omega arith
-one_by_one (a ∷ b ∷ []) = omega arith
-one_by_one (a ∷ b ∷ c ∷ []) = omega arith
-one_by_one (a ∷ b ∷ c ∷ d ∷ l) = omega arith
+four_read [] = refl
+four_read (a ∷ []) = omega arith
+four_read (a ∷ b ∷ []) = omega arith
+four_read (a ∷ b ∷ c ∷ []) = omega arith
+four_read (a ∷ b ∷ c ∷ d ∷ l) = omega arith
 
-pub four_is :
-    (bs : List ℕ) (k : ℕ) (b₀ b₁ b₂ b₃ : ℕ) →
-    b₃ ≡ get_or bs (k + 3) 0 →
-    b₂ ≡ get_or bs (k + 2) 0 →
-    b₁ ≡ get_or bs (k + 1) 0 →
-    b₀ ≡ get_or bs k 0 →
-    b₀ + b₁ * 256 + b₂ * 65536 + b₃ * 16777216 ≡ value (take 4 (drop k bs))
-four_is bs k b₀ b₁ b₂ b₃ e₃ e₂ e₁ e₀ =
-    let f₃ : b₃ ≡ get_or (drop k bs) 3 0 = e₃ ∙ sym (get_or-drop k bs 3 0) in
-    let f₂ : b₂ ≡ get_or (drop k bs) 2 0 = e₂ ∙ sym (get_or-drop k bs 2 0) in
-    let f₁ : b₁ ≡ get_or (drop k bs) 1 0 = e₁ ∙ sym (get_or-drop k bs 1 0) in
-    let f₀ : b₀ ≡ get_or (drop k bs) 0 0 = e₀ ∙ ap (λ (j : ℕ). get_or bs j 0) (sym (add-zero k)) ∙ sym (get_or-drop k bs 0 0) in
-    let g :
-    get_or (drop k bs) 0 0 + get_or (drop k bs) 1 0 * 256 + get_or (drop k bs) 2 0 * 65536 + get_or (drop k bs) 3 0 * 16777216 ≡ value (take 4 (drop k bs)) =
-    one_by_one (drop k bs) in
-    omega (arith, f₃, f₂, f₁, f₀, g)
-
--- eight bytes by fours
-pub by_fours : (l : List ℕ) → value (take 4 (drop 4 l)) * 4294967296 + value (take 4 l) ≡ value (take 8 l)
+eight_read : (l : List ℕ) → from_le_bytes w64 (take 8 l) ≡ value (take 8 l)
 unfolding value
-by_fours [] = refl
-by_fours (a ∷ []) = omega arith
-by_fours (a ∷ b ∷ []) = omega arith
-by_fours (a ∷ b ∷ c ∷ []) = omega arith
-by_fours (a ∷ b ∷ c ∷ d ∷ l) = omega arith
+eight_read [] = refl
+eight_read (a ∷ []) = omega arith
+eight_read (a ∷ b ∷ []) = omega arith
+eight_read (a ∷ b ∷ c ∷ []) = omega arith
+eight_read (a ∷ b ∷ c ∷ d ∷ []) = omega arith
+eight_read (a ∷ b ∷ c ∷ d ∷ e ∷ []) = omega arith
+eight_read (a ∷ b ∷ c ∷ d ∷ e ∷ f ∷ []) = omega arith
+eight_read (a ∷ b ∷ c ∷ d ∷ e ∷ f ∷ g ∷ []) = omega arith
+eight_read (a ∷ b ∷ c ∷ d ∷ e ∷ f ∷ g ∷ h ∷ l) = omega arith
 
-pub word_is :
-    (bs : List ℕ) (low high : ℕ) →
-    high ≡ value (take 4 (drop 4 bs)) →
-    low ≡ value (take 4 bs) →
-    high * 4294967296 + low ≡ value (take 8 bs)
-word_is bs low high e f = omega (arith, e, f, by_fours bs)
+-- as many bytes from a place on as a number has, in the library's array
+pub half_is : (bs : List ℕ) (at : ℕ) (rest four : List ℕ) (n : ℕ) → rest ≡ drop at bs → IsFirstChunk rest four 4 → n ≡ from_le_bytes w32 four → n ≡ half bs at
+half_is bs at rest four n r c e = e ∙ ap (from_le_bytes w32) (c.same ∙ ap (take 4) r) ∙ four_read (drop at bs)
 
--- ---- fewer than that, at the end
-
--- all of them are taken
-pub taken : (n : ℕ) (bs : List ℕ) (at : ℕ) → length bs ≤ at + n → value (drop at bs) ≡ value (take n (drop at bs))
-taken n bs at h = ap value (sym (take_all n (drop at bs) (omega (arith, length-drop at bs))))
+pub word_is : (bs : List ℕ) (at : ℕ) (rest eight : List ℕ) (n : ℕ) → rest ≡ drop at bs → IsFirstChunk rest eight 8 → n ≡ from_le_bytes w64 eight → n ≡ word bs at
+word_is bs at rest eight n r c e = e ∙ ap (from_le_bytes w64) (c.same ∙ ap (take 8) r) ∙ eight_read (drop at bs)
 
 -- past the end stand zeros
-pub past : (n : ℕ) (bs : List ℕ) (at : ℕ) → length bs ≤ at → 0 ≡ value (take n (drop at bs))
+pub past : (n : ℕ) (bs : List ℕ) (at : ℕ) → length bs < at → 0 ≡ value (take n (drop at bs))
 unfolding value
-past n bs at h = sym (ap value (drop_of_length-le bs h)) ∙ taken n bs at (omega arith)
+past n bs at h = sym (ap (λ (l : List ℕ). value (take n l)) (drop_of_length-le bs (omega arith)) ∙ ap value (take-nil n))
 
--- what stands from place i on is read
-pub record Backwards (bs : List ℕ) (at i number : ℕ) : Type 0 where
-  pub within : i ≤ length bs
-  pub few : length bs < at + 8
-  pub behind : at ≤ i
-  pub read : number ≡ value (drop i bs)
-  pub small : number < 256 ^ (length bs - i)
+-- ---- fewer than eight, from the last one on: n of them are read
+pub record Backwards (bs : List ℕ) (n number : ℕ) : Type 0 where
+  pub read : number ≡ value (drop (length bs - n) bs)
+  pub small : number < 256 ^ n
 
-pub none_read : (bs : List ℕ) (at : ℕ) → (at ≤ length bs) × (length bs < at + 8) → Backwards bs at (length bs) 0
+pub none_read : (bs : List ℕ) → Backwards bs 0 0
 unfolding value
-none_read bs at h = record {
-  within = omega arith;
-  few = h.1;
-  behind = h.0;
-  read = sym (ap value (drop_of_length-le bs {i = length bs} (omega arith)));
-  small = one-le-pow (length bs - length bs) 256 (omega arith);
-}
+none_read bs = record { read = sym (ap value (drop_of_length-le bs (omega arith))); small = omega arith }
 
-swapped : (v b : ℕ) → v * 256 + b ≡ b + 256 * v
-swapped v b = omega arith
+-- the bytes from a place on
+pub few : (bs : List ℕ) (at : ℕ) → (at ≤ length bs) × (length bs < at + 8) → length (drop at bs) < 8
+few bs at h = omega (arith, length-drop at bs)
 
-module _ (bs : List ℕ) (at i number : ℕ) (p : Backwards bs at i number) where
-  -- there is room for another byte
-  pub room : at < i → number < 256 ^ 7
-  room h =
-      let more : 256 ^ (length bs - i) ≤ 256 ^ 7 = pow-le-pow_right (omega arith) {i = length bs - i} {j = 7} (omega (arith, p.few)) in
-      omega (arith, p.small, more)
+pub each : (bs : List ℕ) (at : ℕ) → ((i : ℕ) → Fits w8 (get_or bs i 0)) → (i : ℕ) → Fits w8 (get_or (drop at bs) i 0)
+each bs at h i = rw (get_or-drop at bs i 0) (h (at + i))
 
-  pub next_read : at < i → get_or bs (i - 1) 0 < 256 → Backwards bs at (i - 1) (number * 256 + get_or bs (i - 1) 0)
+-- b is the next of them
+module _
+    (bs : List ℕ) (all : (i : ℕ) → Fits w8 (get_or bs i 0)) (short : length bs < 8)
+    (n number b : ℕ) (p : Backwards bs n number) (t : (n < length (reverse bs)) × (b ≡ get_or (reverse bs) n b)) where
+  more : n < length bs
+  more = omega (arith, t.0, length-reverse bs)
+
+  abbrev i : ℕ
+  i = length bs - 1 - n
+
+  next : b ≡ get_or bs i 0
+  next = t.1 ∙ get_or-reverse bs n b more ∙ get_or_default bs i b 0 (omega (arith, more))
+
+  -- there is room for it
+  pub room : number * 256 + b < 2 ^ 64
+  room =
+      let most : 256 ^ n ≤ 256 ^ 7 = pow-le-pow_right (omega arith) {i = n} {j = 7} (omega (arith, more)) in
+      omega (arith, p.small, most, next, all i)
+
+  pub next_read : Backwards bs (n + 1) (number * 256 + b)
   unfolding value
-  next_read h b =
-      let one : suc (i - 1) ≡ i = omega arith in
-      let longer : length bs - (i - 1) ≡ suc (length bs - i) = omega (arith, p.within) in
-      let more : 256 ^ suc (length bs - i) ≡ 256 ^ (length bs - i) * 256 = pow-suc 256 (length bs - i) in
-      let wide : number * 256 + get_or bs (i - 1) 0 < 256 ^ suc (length bs - i) = omega (arith, p.small, more, b) in
-      record {
-        within = omega (arith, p.within);
-        few = p.few;
-        behind = omega arith;
-        read =
-            ap (λ (n : ℕ). n * 256 + get_or bs (i - 1) 0) (p.read ∙ ap (λ (j : ℕ). value (drop j bs)) (sym one))
-            ∙ swapped (value (drop (suc (i - 1)) bs)) (get_or bs (i - 1) 0)
-            ∙ ap value (sym (drop-cons bs (i - 1) 0 (omega (arith, p.within))));
-        small = subst (λ (k : ℕ). number * 256 + get_or bs (i - 1) 0 < 256 ^ k) (sym longer) wide;
-      }
+  next_read =
+      let wider : 256 ^ (n + 1) ≡ 256 ^ n * 256 = pow-add 256 n 1 in
+      let here : length bs - (n + 1) ≡ i = omega arith in
+      let last : suc i ≡ length bs - n = omega (arith, more) in
+      let rest : number ≡ value (drop (suc i) bs) = p.read ∙ ap (λ (j : ℕ). value (drop j bs)) (sym last) in
+      let first : value (drop i bs) ≡ get_or bs i 0 + 256 * value (drop (suc i) bs) = ap value (drop-cons bs i 0 (omega (arith, more))) in
+      record { read = rw here (omega (arith, rest, first, next)); small = omega (arith, p.small, wider, next, all i) }
 
-  pub all_read : i ≤ at → (number ≡ value (drop at bs)) × (number < 256 ^ (length bs - at))
-  all_read h =
-      let same : i ≡ at = omega (arith, p.behind) in
-      subst (λ (j : ℕ). (number ≡ value (drop j bs)) × (number < 256 ^ (length bs - j))) same (p.read, p.small)
+pub all_read : (bs : List ℕ) (n number : ℕ) → Backwards bs n number → n ≡ length bs → (number ≡ value bs) × (number < 256 ^ length bs)
+all_read bs n number p e =
+    let none : length bs - n ≡ 0 = omega arith in
+    (p.read ∙ ap (λ (j : ℕ). value (drop j bs)) none, subst (λ (k : ℕ). number < 256 ^ k) e p.small)

@@ -1,12 +1,16 @@
 -- Bytes written one by one are the bytes that the definition gives, and stand where it says. Assumes nothing.
 use mathlib.Core.Path.{◌≡◌, refl, sym, ap, ap₂, ◌∙◌}
-use mathlib.Core.List.{List, [], ◌∷◌, ◌++◌}
+use mathlib.Core.List.{List, [], ◌∷◌, ◌++◌, append-nil, append_assoc}
 use Prim.Native.Nat.{ℕ, zero, suc, ◌+◌, ◌-◌, ◌*◌, ◌/◌, ◌%◌, ◌≤◌, ◌<◌}
-use native.Mathlib.Nat.{add-zero, sub-zero}
+use native.Mathlib.Nat.{sub-zero, div-div-eq-div-mul}
+use native.Mathlib.Numerals.{add-one}
+use mir.Syntax.{w64}
+use borrow.Rule.Slice.PartMut.{mid_of, put_mid, post_of, Post-is, mid_len}
+use Rattle.std.specs.Int.{to_le_bytes}
 use native.Mathlib.Omega.{arith}
 use borrow.Author.Tests.{le-leb, lt-leb}
 use lib.Ieee.{Float, binary64, to_bits}
-use lib.ListN.{length, get_or, drop, set, length-set, length-append, drop_of_length-le}
+use lib.ListN.{length, get_or, take, drop, set, length-set, length-append, drop_of_length-le}
 use lib.Seq.{drop-cons, sets, length-sets, sets-eq}
 use Rattle.little_endian.specs.Bytes.{bytes, floats, put}
 
@@ -23,78 +27,66 @@ length_floats [] = refl
 length_floats (x ∷ xs) =
     omega (arith, length-append (bytes 8 (to_bits binary64 x)) (floats xs), length_bytes 8 (to_bits binary64 x), length_floats xs)
 
--- ---- one byte after the other
+-- ---- one byte after the other: i are written, and with those that are left of the rest they are all
+pub record Bytewise (n number : ℕ) (out : List ℕ) (i rest : ℕ) : Type 0 where
+  pub long : length out ≡ n
+  pub left : sets out i (bytes (n - i) rest) ≡ bytes n number
 
--- i bytes are written, and with those that are left of the rest they are all
-pub record Bytewise (out₀ : List ℕ) (at count number : ℕ) (out : List ℕ) (i rest : ℕ) : Type 0 where
-  pub within : i ≤ count
-  pub fits : at + count ≤ length out₀
-  pub long : length out ≡ length out₀
-  pub left : sets out (at + i) (bytes (count - i) rest) ≡ sets out₀ at (bytes count number)
-
-pub no_byte : (out : List ℕ) (at count number : ℕ) → at + count ≤ length out → Bytewise out at count number out 0 number
-no_byte out at count number h = record { within = omega arith; fits = h; long = refl; left = ap₂ (λ (k n : ℕ). sets out k (bytes n number)) (add-zero at) (sub-zero count) }
+pub no_byte : (out : List ℕ) (number : ℕ) → Bytewise (length out) number out 0 number
+no_byte out number =
+    let n : ℕ = length out in
+    let all : length (bytes n number) ≡ n = length_bytes n number in
+    record {
+      long = refl;
+      left =
+          ap (λ (k : ℕ). sets out 0 (bytes k number)) (sub-zero n)
+          ∙ sets-eq (bytes n number) out 0 (omega (arith, all))
+          ∙ ap (λ (l : List ℕ). bytes n number ++ l) (drop_of_length-le out (omega (arith, all)))
+          ∙ append-nil (bytes n number);
+    }
 
 pub next_byte :
-    (out₀ : List ℕ) (at count number : ℕ) (out : List ℕ) (i rest : ℕ) →
-    Bytewise out₀ at count number out i rest →
-    i < count →
-    Bytewise out₀ at count number (set out (at + i) (rest % 256)) (i + 1) (rest / 256)
+    (n number : ℕ) (out : List ℕ) (i rest : ℕ) → Bytewise n number out i rest → i < n → Bytewise n number (set out i (rest % 256)) (i + 1) (rest / 256)
 unfolding bytes
-next_byte out₀ at count number out i rest p h =
-    let behind : at + (i + 1) ≡ suc (at + i) = omega arith in
-    let one : suc (count - (i + 1)) ≡ count - i = omega arith in
+next_byte n number out i rest p h =
+    let one : suc (n - (i + 1)) ≡ n - i = omega arith in
     record {
-      within = omega arith;
-      fits = p.fits;
-      long = length-set out (at + i) (rest % 256) ∙ p.long;
+      long = length-set out i (rest % 256) ∙ p.long;
       left =
-          ap (λ (k : ℕ). sets (set out (at + i) (rest % 256)) k (bytes (count - (i + 1)) (rest / 256))) behind
-          ∙ ap (λ (n : ℕ). sets out (at + i) (bytes n rest)) one
+          ap (λ (k : ℕ). sets (set out i (rest % 256)) k (bytes (n - (i + 1)) (rest / 256))) (add-one i)
+          ∙ ap (λ (k : ℕ). sets out i (bytes k rest)) one
           ∙ p.left;
     }
 
-pub every_byte :
-    (out₀ : List ℕ) (at count number : ℕ) (out : List ℕ) (i rest : ℕ) →
-    Bytewise out₀ at count number out i rest →
-    count ≤ i →
-    out ≡ sets out₀ at (bytes count number)
+pub every_byte : (n number : ℕ) (out : List ℕ) (i rest : ℕ) → Bytewise n number out i rest → n ≤ i → out ≡ bytes n number
 unfolding bytes
-every_byte out₀ at count number out i rest p h =
-    let none : 0 ≡ count - i = omega arith in
-    ap (λ (n : ℕ). sets out (at + i) (bytes n rest)) none ∙ p.left
+every_byte n number out i rest p h =
+    let none : 0 ≡ n - i = omega arith in
+    ap (λ (k : ℕ). sets out i (bytes k rest)) none ∙ p.left
 
--- ---- four bytes, and eight
+-- ---- the library's eight bytes, and the first four of them
+
+pub eight_bytes : (w : ℕ) → to_le_bytes w64 w ≡ bytes 8 w
+unfolding bytes
+eight_bytes w = simp div-div-eq-div-mul
+
+pub four_bytes : (w : ℕ) → take 4 (to_le_bytes w64 w) ≡ bytes 4 w
+unfolding bytes
+four_bytes w = simp div-div-eq-div-mul
+
+-- ---- lists of bytes side by side
 
 pub sets_append : (l : List ℕ) (i : ℕ) (xs ys : List ℕ) (j : ℕ) → j ≡ i + length xs → sets (sets l i xs) j ys ≡ sets l i (xs ++ ys)
 sets_append l i [] ys j e = ap (λ (k : ℕ). sets l k ys) (omega (arith, e))
 sets_append l i (x ∷ xs) ys j e = sets_append (set l i x) (suc i) xs ys j (omega (arith, e))
 
-pub four_set :
-    (out : List ℕ) (at w : ℕ) →
-    set (set (set (set out at (w % 256)) (at + 1) (w / 256 % 256)) (at + 2) (w / 65536 % 256)) (at + 3) (w / 16777216 % 256)
-    ≡ sets out at (bytes 4 w)
-unfolding bytes
-four_set out at w =
-    let third : w / 65536 ≡ w / 256 / 256 = omega arith in
-    let fourth : w / 16777216 ≡ w / 256 / 256 / 256 = omega arith in
-    let one : at + 1 ≡ suc at = omega arith in
-    let two : at + 2 ≡ suc (suc at) = omega arith in
-    let three : at + 3 ≡ suc (suc (suc at)) = omega arith in
-    simp (third, fourth, one, two, three)
-
-pub eight_set :
-    (out : List ℕ) (at w : ℕ) (between after : List ℕ) →
-    between ≡ sets out at (bytes 4 w) →
-    after ≡ sets between (at + 4) (bytes 4 (w / 4294967296)) →
-    after ≡ sets out at (bytes 8 w)
-unfolding bytes
-eight_set out at w between after e f =
-    let rest : w / 4294967296 ≡ w / 256 / 256 / 256 / 256 = omega arith in
-    f
-    ∙ ap (λ (v : ℕ). sets between (at + 4) (bytes 4 v)) rest
-    ∙ ap (λ (l : List ℕ). sets l (at + 4) (bytes 4 (w / 256 / 256 / 256 / 256))) e
-    ∙ sets_append out at (bytes 4 w) (bytes 4 (w / 256 / 256 / 256 / 256)) (at + 4) refl
+-- a part of the buffer, as long as the new bytes, has become them
+pub written : (at n : ℕ) (new part bs : List ℕ) → part ≡ new → n ≡ length new → at + n ≤ length bs → put_mid at (at + n - at) bs part ≡ sets bs at new
+written at n new part bs e l h =
+    let behind : post_of at (at + n - at) bs ≡ drop (at + length new) bs = Post-is at (at + n) bs (omega arith) ∙ ap (λ (k : ℕ). drop (at + k) bs) l in
+    ap₂ (λ (p d : List ℕ). take at bs ++ (p ++ d)) e behind
+    ∙ sym (append_assoc (take at bs) new (drop (at + length new) bs))
+    ∙ sym (sets-eq new bs at (omega arith))
 
 -- ---- one number after the other
 
@@ -103,9 +95,6 @@ pub record Floatwise (out₀ : List ℕ) (at : ℕ) (numbers : List Float) (out 
   pub fits : at + 8 * length numbers ≤ length out₀
   pub long : length out ≡ length out₀
   pub left : sets out (at + 8 * i) (floats (drop i numbers)) ≡ sets out₀ at (floats numbers)
-
-pub no_float : (out : List ℕ) (at : ℕ) (numbers : List Float) → at + 8 * length numbers ≤ length out → Floatwise out at numbers out 0
-no_float out at numbers h = record { within = omega arith; fits = h; long = refl; left = ap (λ (k : ℕ). sets out k (floats numbers)) (add-zero at) }
 
 pub next_float :
     (out₀ : List ℕ) (at : ℕ) (numbers : List Float) (out : List ℕ) (i : ℕ) (d : Float) (b : ℕ) (after : List ℕ) →
@@ -151,14 +140,15 @@ module _ (at : ℕ) (new bs : List ℕ) where
   unfolding put
   not_fitting h = simp (lt-leb (at + length new) (length bs) h)
 
--- as many bytes written as the count says, by the writer of so many
-pub counted :
-    (n at count number : ℕ) (bs after : List ℕ) →
-    count ≡ n →
-    after ≡ sets bs at (bytes n number) →
-    at + count ≤ length bs →
-    after ≡ put at (bytes count number) bs
-counted n at count number bs after e f h =
-    f
-    ∙ ap (λ (k : ℕ). sets bs at (bytes k number)) (sym e)
-    ∙ sym (fitting at (bytes count number) bs (omega (arith, h, length_bytes count number)))
+-- a part of the buffer, as long as the new bytes, has become them
+module _ (at count number : ℕ) (bs : List ℕ) (h : count ≤ length bs - at) (l : at ≤ length bs) where
+  pub put_there : (part : List ℕ) → part ≡ bytes count number → put_mid at (at + count - at) bs part ≡ put at (bytes count number) bs
+  put_there part e =
+      let n : length (bytes count number) ≡ count = length_bytes count number in
+      written at count (bytes count number) part bs e (sym n) (omega arith) ∙ sym (fitting at (bytes count number) bs (omega (arith, n)))
+
+  -- the part that the loop was lent has as many places
+  pub put_each : (part : List ℕ) → part ≡ bytes (length (mid_of at (at + count - at) bs)) number → put_mid at (at + count - at) bs part ≡ put at (bytes count number) bs
+  put_each part e =
+      let n : length (mid_of at (at + count - at) bs) ≡ count = mid_len at (at + count) bs (omega arith) ∙ omega arith in
+      put_there part (e ∙ ap (λ (k : ℕ). bytes k number) n)

@@ -1,6 +1,7 @@
 -- An index among the cells: that it is a number, and what its whole part is. Assumes nothing.
+use Rattle.lens.specs.Judgement.{accepted}
 use Rattle.std.proofs.Common.{◌≡◌, ℕ, zero, suc, ◌+◌, ◌-◌, ◌*◌, ◌/◌, ◌^◌, ◌<◌, ◌≤◌, Bool, true, false, cond, not, ◌&&◌, ◌||◌, T, eqb, ltb, ℤ, pos, sym, refl, ap, ◌∙◌, subst, inl, inr, true≢false, le_trans, mul-le-mul_right, zero-lt-suc, mul-pos, div-mul-le_self, arith, lit≤, lt→ltb}
-use Rattle.std.specs.declared.result.Result.TheVariants.{Ok, Err}
+use Rattle.std.specs.declared.result.Result.TheVariants.{Err}
 use mathlib.Core.Bool.{beq, false≢true}
 use native.Mathlib.Nat.{min-eq_left, div-le_of_le-mul, lt-div-mul-add}
 use native.Mathlib.Decide.{dec_lt}
@@ -95,12 +96,12 @@ pub record Steps (by : Increments) : Type 0 where
   pub across_some : is_zero by.0 ≡ false
   pub down_some : is_zero by.1 ≡ false
 
-pub steps : (by : Increments) → wrong by ≡ Ok tt → Steps by
+pub steps : (by : Increments) → wrong by ≡ accepted → Steps by
 unfolding wrong
 steps by h = go (flat by.0) refl (flat by.1) refl (finite by.0) refl (finite by.1) refl h
   where
     go : (f : Bool) → flat by.0 ≡ f → (g : Bool) → flat by.1 ≡ g → (p : Bool) → finite by.0 ≡ p → (q : Bool) → finite by.1 ≡ q
-        → cond (f || g) (Err IncrementNotPositive) (cond (p && q) (Ok tt) (Err AnswerNotFinite)) ≡ Ok tt → Steps by
+        → cond (f || g) (Err IncrementNotPositive) (cond (p && q) accepted (Err AnswerNotFinite)) ≡ accepted → Steps by
     go true ef g eg p ep q eq h = let z : ◌≡◌ {A = ℕ} 0 1 = cc in absurd (omega arith)
     go false ef true eg p ep q eq h = let z : ◌≡◌ {A = ℕ} 0 1 = cc in absurd (omega arith)
     go false ef false eg true ep true eq h = record { across = ep; down = eq; across_some = not_flat by.0 ep ef; down_some = not_flat by.1 eq eg }

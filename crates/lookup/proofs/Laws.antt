@@ -13,7 +13,7 @@ use Rattle.exact.proofs.Alike.{≐-sym, ≐-trans}
 use Rattle.lens.specs.ByHand.{xy, uv}
 use Rattle.lens.specs.Distorted.{told_pixel}
 use Rattle.lens.specs.Finite.{all_finite}
-use Rattle.lens.specs.Judgement.{decided}
+use Rattle.lens.specs.Judgement.{decided, accepted}
 use Rattle.lens.specs.Rows.{first}
 use Rattle.lens.specs.Distorted.{Distorted}
 use Rattle.lens.specs.declared.Pixel.{Pixel}
@@ -51,8 +51,8 @@ lookup_determined κ a s s' r r' p q = p ∙ sym q
 in_order :
     (f s m g d o a : Bool) (pixel : Pixel)
     → (told_pixel
-    (decided (cond f (Err NotFinite) (cond (not s) (Err WrongSize) (cond m (Ok tt) (Err WrongLength)))) Err
-    (decided (cond g (Err IncrementNotPositive) (cond d (Ok tt) (Err AnswerNotFinite))) Err
+    (decided (cond f (Err NotFinite) (cond (not s) (Err WrongSize) (cond m accepted (Err WrongLength)))) Err
+    (decided (cond g (Err IncrementNotPositive) (cond d accepted (Err AnswerNotFinite))) Err
     (cond o (Err OutsideTable) (cond a (Ok pixel) (Err AnswerNotFinite)))))
     ).number
     ≡ cond f 4 (cond (not s) 6 (cond (not m) 7 (cond g 8 (cond (not d) 11 (cond o 9 (cond (not a) 11 0))))))
@@ -82,8 +82,8 @@ nine false true true false true false true = (λ h. absurd (omega arith), λ h. 
 passed :
     (f s m g d : Bool)
     → ◌≡◌ {A = ℕ} (cond f 4 (cond (not s) 6 (cond (not m) 7 (cond g 8 (cond (not d) 11 0))))) 0
-    → (cond f (Err NotFinite) (cond (not s) (Err WrongSize) (cond m (Ok tt) (Err WrongLength))) ≡ Ok tt)
-    × (cond g (Err IncrementNotPositive) (cond d (Ok tt) (Err AnswerNotFinite)) ≡ Ok tt)
+    → (cond f (Err NotFinite) (cond (not s) (Err WrongSize) (cond m accepted (Err WrongLength))) ≡ accepted)
+    × (cond g (Err IncrementNotPositive) (cond d accepted (Err AnswerNotFinite)) ≡ accepted)
 passed true s m g d h = absurd (omega arith)
 passed false false m g d h = absurd (omega arith)
 passed false true false g d h = absurd (omega arith)
@@ -169,8 +169,8 @@ module _ (table : List Float) (region : Region) (width height : ℕ) (point : Po
 
   -- its parts, for a call that isn't refused ahead of the indices
   judged :
-      before ≡ 0 → (admitted (length table) region width height point ≡ Ok tt)
-      × (wrong (increments region width height) ≡ Ok tt)
+      before ≡ 0 → (admitted (length table) region width height point ≡ accepted)
+      × (wrong (increments region width height) ≡ accepted)
   unfolding admitted wrong
   judged h = passed not_given (sized width height) measures no_step steps_finite h
 

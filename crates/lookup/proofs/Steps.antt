@@ -1,13 +1,13 @@
 -- What the refusals before the answer leave, and that the four cells around two spots are in the table. Assumes nothing.
 use Rattle.std.proofs.Common.{◌≡◌, ℕ, ◌+◌, ◌-◌, ◌*◌, ◌<◌, Bool, true, false, cond, not, ◌&&◌, ◌||◌, eqb, List, [], ◌∷◌, refl, mul-le-mul_right, arith, eqb-true}
-use Rattle.std.specs.declared.result.Result.TheVariants.{Ok, Err}
+use Rattle.std.specs.declared.result.Result.TheVariants.{Err}
 use mathlib.Core.Bool.{false≢true}
 use native.Mathlib.Nat.{min-le_right}
 use lib.Ieee.{Float}
 use lib.Ieee.Scale.{finite}
 use Rattle.lens.specs.Distorted.{finite_pixel}
 use Rattle.lens.specs.Finite.{all_finite}
-use Rattle.lens.specs.Judgement.{decided}
+use Rattle.lens.specs.Judgement.{decided, accepted}
 use Rattle.lens.specs.Distorted.{Distorted}
 use Rattle.lens.specs.Judgement.{Judgement}
 use Rattle.lens.specs.declared.Point.{Point}
@@ -25,19 +25,19 @@ use Rattle.lookup.proofs.Among.{cut, steps, index_number}
 
 pub admitted_so : (places : ℕ) (region : Region) (width height : ℕ) (point : Point) {f g s m : Bool}
     → f ≡ not (all_finite (four region)) → g ≡ not (finite point.0 && finite point.1) → s ≡ not (sized width height) → m ≡ eqb places (2 * (width * height))
-    → cond (f || g) (Err NotFinite) (cond s (Err WrongSize) (cond m (Ok tt) (Err WrongLength))) ≡ admitted places region width height point
+    → cond (f || g) (Err NotFinite) (cond s (Err WrongSize) (cond m accepted (Err WrongLength))) ≡ admitted places region width height point
 unfolding admitted
 admitted_so places region width height point f g s m = rw (f, g, s, m) refl
 
 -- ---- a call that they leave
 
-pub taken : (places : ℕ) (region : Region) (width height : ℕ) (point : Point) → admitted places region width height point ≡ Ok tt → Taken places region width height point
+pub taken : (places : ℕ) (region : Region) (width height : ℕ) (point : Point) → admitted places region width height point ≡ accepted → Taken places region width height point
 unfolding admitted
 taken places region width height point =
     go (all_finite (four region)) refl (finite point.0 && finite point.1) refl (sized width height) refl (eqb places (2 * (width * height))) refl
   where
     go : (f : Bool) → all_finite (four region) ≡ f → (g : Bool) → (finite point.0 && finite point.1) ≡ g → (s : Bool) → sized width height ≡ s → (m : Bool) → eqb places (2 * (width * height)) ≡ m
-        → cond (not f || not g) (Err NotFinite) (cond (not s) (Err WrongSize) (cond m (Ok tt) (Err WrongLength))) ≡ Ok tt
+        → cond (not f || not g) (Err NotFinite) (cond (not s) (Err WrongSize) (cond m accepted (Err WrongLength))) ≡ accepted
         → Taken places region width height point
     go true ef true eg true es true em h = record { edges = ef; place = eg; whole = record { size = is_sized width height es; all = eqb-true places (2 * (width * height)) em } }
     go true ef true eg true es false em h = let z : ◌≡◌ {A = ℕ} 0 1 = cc in absurd (omega arith)
@@ -101,7 +101,7 @@ unfolding spread
 spread_so table region width height point e f a = rw (a, f, e) refl
 
 -- what they leave makes indices that are numbers
-pub indices : {places : ℕ} {region : Region} {width height : ℕ} {point : Point} (by : Increments) → Taken places region width height point → wrong by ≡ Ok tt
+pub indices : {places : ℕ} {region : Region} {width height : ℕ} {point : Point} (by : Increments) → Taken places region width height point → wrong by ≡ accepted
     → Number (index point.0 region.left by.0) × Number (index point.1 region.top by.1)
 indices {region = region} {point = point} by t w =
     let s = steps by w in

@@ -1,5 +1,5 @@
 -- Lookup: the pixel at a point between the cells of a table. Definitions only.
-use Rattle.std.specs.Prelude.{ℕ, ◌+◌, ◌-◌, ◌*◌, min, Bool, cond, not, ◌&&◌, ◌||◌, List, length, ◌==◌, slice_index_or, Float, Ok, Err}
+use Rattle.std.specs.Prelude.{ℕ, ◌+◌, ◌-◌, ◌*◌, min, Bool, cond, not, ◌&&◌, ◌||◌, List, length, ◌==◌, slice_index_or, Float, Err}
 use Rattle.std.specs.Float.{nan}
 use Rattle.std.specs.Float.Ieee.{lt, to_unsigned}
 use Rattle.std.specs.Float.Ieee.Scale.{finite}
@@ -7,7 +7,7 @@ use Rattle.exact.specs.F64.{◌⊕◌, ◌⊖◌, ◌⊗◌, ◌⊘◌}
 use Rattle.lens.specs.Constants.{zeros}
 use Rattle.lens.specs.Distorted.{finite_pixel}
 use Rattle.lens.specs.Finite.{all_finite}
-use Rattle.lens.specs.Judgement.{decided}
+use Rattle.lens.specs.Judgement.{decided, accepted}
 use Rattle.lens.specs.Distorted.{Distorted}
 use Rattle.lens.specs.Judgement.{Judgement}
 use Rattle.lens.specs.declared.Pixel.{Pixel}
@@ -100,7 +100,7 @@ unfoldable pub admitted : ℕ → Region → ℕ → ℕ → Point → Judgement
 admitted places region width height point =
     cond (not (all_finite (four region)) || not (finite point.0 && finite point.1)) (Err NotFinite)
     (cond (not (sized width height)) (Err WrongSize)
-    (cond (places == 2 * (width * height)) (Ok tt) (Err WrongLength)))
+    (cond (places == 2 * (width * height)) accepted (Err WrongLength)))
 
 abbrev pub lookup : List Float → Region → ℕ → ℕ → Point → Distorted
 lookup table region width height point =

@@ -2,7 +2,6 @@
 #![tactic(auto)]
 
 ghost use Rattle.std.specs.Prelude.{◌≡◌, ◌+◌, ◌*◌, ◌<◌, length, ◌==◌};
-ghost use Rattle.lens.specs.Distorted.{told_pixel};
 ghost use Rattle.region.specs.Size.{Sized};
 ghost use Rattle.lookup.specs.Lookup.{index, outside, neighbour, spot, between, blended, cell, number_at, pixel_at, looked_up, spread, admitted, lookup};
 ghost use Rattle.lookup.specs.Asked.{Number, Inside, Reaches, Whole, Taken};
@@ -120,16 +119,14 @@ fn spread(table: &[f32], region: Region, width: usize, height: usize, point: Poi
     ensures { result ≡ spread table.now region width height point }
 {
     let by = region::increments_of(region, width, height);
-    match region::wrong(by) {
-        Err(refusal) => Err(refusal),
-        Ok(()) => looked_up(
-            table,
-            width,
-            height,
-            index(point.0, region.left, by.0),
-            index(point.1, region.top, by.1),
-        ),
-    }
+    region::wrong(by)?;
+    looked_up(
+        table,
+        width,
+        height,
+        index(point.0, region.left, by.0),
+        index(point.1, region.top, by.1),
+    )
 }
 
 // 7, of a size that is taken.
@@ -161,8 +158,6 @@ fn admitted(places: usize, region: Region, width: usize, height: usize, point: P
 pub fn lookup(table: &[f32], region: Region, width: usize, height: usize, point: Point) -> Result<Pixel, Refusal>
     ensures { result ≡ lookup table.now region width height point }
 {
-    match admitted(table.len(), region, width, height, point) {
-        Err(refusal) => Err(refusal),
-        Ok(()) => spread(table, region, width, height, point),
-    }
+    admitted(table.len(), region, width, height, point)?;
+    spread(table, region, width, height, point)
 }

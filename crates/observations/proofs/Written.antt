@@ -1,6 +1,6 @@
 -- What the loop writes is what specs/ says of the list: the rounds it makes, one record of each, and the whole. Assumes nothing.
 use mathlib.Core.Path.{◌≡◌, refl, sym, ◌∙◌, subst}
-use Rattle.std.specs.declared.result.Result.TheVariants.{Ok, Err}
+use Rattle.std.specs.declared.result.Result.TheVariants.{Err}
 use mathlib.Core.Bool.{Bool, true, false, not, cond, ◌&&◌}
 use mathlib.Core.List.{List, [], ◌∷◌, map}
 use Prim.Native.Nat.{ℕ, ◌≤◌, ◌<◌}
@@ -12,7 +12,7 @@ use Rattle.lens.specs.Finite.{all_finite}
 use Rattle.lens.specs.Undistorted.{told}
 use Rattle.lens.specs.declared.Refusal.TheVariants.{NotFinite, ZeroFocalLength}
 use Rattle.lens.specs.Undistorted.{Undistorted}
-use Rattle.lens.specs.Judgement.{decided}
+use Rattle.lens.specs.Judgement.{decided, accepted}
 use Rattle.camera.specs.Camera.{parameters, zero_focal, judged, undistort_judged}
 use Rattle.lens.specs.Rows.{Row, ◌when◌, first}
 use Rattle.camera.specs.declared.Camera.{Camera}
@@ -56,7 +56,7 @@ unfolding seen observed judged
 seen_observed camera o e = go (all_finite (parameters camera)) (zero_focal camera) (finite o.pixel.0 && finite o.pixel.1) (undistort_judged camera o.pixel) (sym (refusal_by_rows camera) ∙ e)
   where
     go : (f z p : Bool) (u : Undistorted) → first (rows f z) ≡ 0
-        → beside o.pixel (told (cond p u (Err NotFinite))) ≡ beside o.pixel (told (decided (cond (f && p) (cond z (Err ZeroFocalLength) (Ok tt)) (Err NotFinite)) Err u))
+        → beside o.pixel (told (cond p u (Err NotFinite))) ≡ beside o.pixel (told (decided (cond (f && p) (cond z (Err ZeroFocalLength) accepted) (Err NotFinite)) Err u))
     go true false true u e = refl
     go true false false u e = refl
     go true true p u e = absurd (omega (arith, e))

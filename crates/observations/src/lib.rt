@@ -10,6 +10,7 @@ use camera::Camera;
 use lens::{Pixel, Point, Refusal, Settled};
 
 // A pixel, and what undistort makes of it: number 0 with its answer and flag, or a refusal's number with zeros and no.
+// The number stands beside the answer, since this is a record of the list that C hands over.
 #[derive(Clone, Copy)]
 pub struct Observation {
     pub pixel: Pixel,
@@ -88,10 +89,8 @@ pub fn observe_all(camera: Camera, list: &mut [Observation]) -> u8
 {
     let number = refusal_of(camera);
     let n = rounds(number, list.len());
-    let mut i = 0usize;
-    while i < n {
+    for i in 0..n {
         list[i] = seen(camera, list[i]);
-        i += 1;
     }
     number
 }

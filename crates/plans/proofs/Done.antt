@@ -8,7 +8,7 @@ use native.Mathlib.Omega.{arith}
 use borrow.Author.Tests.{ltb-true, ltb-false, le-ltb}
 use lib.Dec.{ltb}
 use lib.ListN.{set}
-use Rattle.lens.specs.Judgement.{decided}
+use Rattle.lens.specs.Judgement.{decided, accepted}
 use Rattle.lens.specs.Refusal.{number}
 use Rattle.lens.specs.Judgement.{Judgement}
 use Rattle.lens.specs.declared.Settled.{Settled}
@@ -35,7 +35,7 @@ module _ {X : Type 0} (p : Plan X) where
     a_sample : (settled : Settled) → s.at.done + 1 < p.sweep.samples → found p.sweep s.at.done ≡ Ok settled → too_strict p.sweep settled ≡ false → t ≡ record { at = sampled s.at settled; cells = s.cells } → Done s t
     the_last :
         (settled : Settled) → s.at.done + 1 ≡ p.sweep.samples → found p.sweep s.at.done ≡ Ok settled → too_strict p.sweep settled ≡ false
-        → wrong (increments (doubled (sampled s.at settled).edges) p.sweep.width p.sweep.height) ≡ Ok tt → t ≡ rounded_off s settled → Done s t
+        → wrong (increments (doubled (sampled s.at settled).edges) p.sweep.width p.sweep.height) ≡ accepted → t ≡ rounded_off s settled → Done s t
     a_cell : p.sweep.samples ≤ s.at.done → s.at.done < all_units p.sweep → (a b : X) → p.cell s.at.region (cells_done p.sweep s % p.sweep.width) (cells_done p.sweep s / p.sweep.width) ≡ numbers a b → t ≡ filled s a b → Done s t
 
   -- each is one more, of at most T

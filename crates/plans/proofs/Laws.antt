@@ -11,7 +11,7 @@ use lib.Dec.{eqb, ltb}
 use lib.Ieee.{of_bits, add, sub, neg, sum, div, round}
 use lib.ListN.{length}
 use Rattle.lens.specs.Finite.{all_finite}
-use Rattle.lens.specs.Judgement.{decided}
+use Rattle.lens.specs.Judgement.{decided, accepted}
 use Rattle.lens.specs.Refusal.{number}
 use Rattle.lens.specs.Judgement.{Judgement}
 use Rattle.lens.specs.Undistorted.{told}
@@ -158,10 +158,10 @@ module _ {X : Type 0} (p : Plan X) (sound : Sound p) where
       let i = refused_calls rest s r e in
       (ap (calls p rest) k ∙ i.0, ap₂ (λ (j : Judgement) (x : State X). decided j (λ r. 0) a + admits p rest x) e k ∙ zero-add (admits p rest s) ∙ i.1)
 
-  took : (s : State X) → judged p s ≡ Ok tt → (p.sweep.opens s.at.region ≡ Ok tt) × (length s.cells ≡ 2 * (p.sweep.width * p.sweep.height))
+  took : (s : State X) → judged p s ≡ accepted → (p.sweep.opens s.at.region ≡ accepted) × (length s.cells ≡ 2 * (p.sweep.width * p.sweep.height))
   took s h = let k = is_admitted p.sweep s.at (length s.cells) h in (k.opens, k.long)
 
-  pub start_good : p.sweep.opens nowhere ≡ Ok tt → (cells : List X) → length cells ≡ 2 * (p.sweep.width * p.sweep.height) → Good p (fresh cells)
+  pub start_good : p.sweep.opens nowhere ≡ accepted → (cells : List X) → length cells ≡ 2 * (p.sweep.width * p.sweep.height) → Good p (fresh cells)
   start_good opens cells h = record {
     record_of = record {
       not_past = omega arith;
@@ -174,14 +174,14 @@ module _ {X : Type 0} (p : Plan X) (sound : Sound p) where
     long = h;
   }
 
-  module _ (opens : p.sweep.opens nowhere ≡ Ok tt) where
-    stays_open : (s : State X) → Good p s → judged p s ≡ Ok tt
+  module _ (opens : p.sweep.opens nowhere ≡ accepted) where
+    stays_open : (s : State X) → Good p s → judged p s ≡ accepted
     stays_open s g =
         good_admitted p sound s g (sound.steady.alike s.at.region nowhere
         (all_four s.at.region g.region) (all_four nowhere nowhere_finite) ∙ opens)
 
     -- so is a fresh record, with a table of its size
-    pub fresh_admitted : (cells : List X) → length cells ≡ 2 * (p.sweep.width * p.sweep.height) → judged p (fresh cells) ≡ Ok tt
+    pub fresh_admitted : (cells : List X) → length cells ≡ 2 * (p.sweep.width * p.sweep.height) → judged p (fresh cells) ≡ accepted
     fresh_admitted cells long = stays_open (fresh cells) (start_good opens cells long)
 
     -- a call of an admitted record is a turn
@@ -220,7 +220,7 @@ module _ {X : Type 0} (p : Plan X) (sound : Sound p) where
           subst (Built p cells (admits p ls (fresh cells))) (sym (k.0 ∙ any.any_split (next p) ls (fresh cells)))
           (subst (λ (n : ℕ). Built p cells n (end cells (total ls))) (sym k.1) (as_defined cells t.1 (total ls)))
 
-  module _ (cells : List X) (taken : judged p (fresh cells) ≡ Ok tt) (ls : List ℕ) where
+  module _ (cells : List X) (taken : judged p (fresh cells) ≡ accepted) (ls : List ℕ) where
     abbrev reached : State X
     reached = calls p ls (fresh cells)
 
@@ -231,7 +231,7 @@ module _ {X : Type 0} (p : Plan X) (sound : Sound p) where
     reached_both = let t = took (fresh cells) taken in reached_good t.0 ls (fresh cells) (start_good t.0 cells t.1) (start_along cells)
 
     -- Where the first call is admitted, so is every later one;
-    pub reached_admitted : judged p reached ≡ Ok tt
+    pub reached_admitted : judged p reached ≡ accepted
     reached_admitted = stays_open (took (fresh cells) taken).0 reached reached_both.0
 
     -- and it says finished at T, refused with the number of the next unit if it has one and the allowance had room for it, else running.
@@ -354,9 +354,9 @@ module _
         pub built_ready : Ready k × (plan k ≡ plan h)
         built_ready = (chained.ready_there, chained.plan_there)
 
-        module _ (taken : judged (plan h) (fresh cells) ≡ Ok tt) where
+        module _ (taken : judged (plan h) (fresh cells) ≡ accepted) where
           -- Where the first call is admitted, so is every later one;
-          pub built_admitted : judged (plan h) (state k) ≡ Ok tt
+          pub built_admitted : judged (plan h) (state k) ≡ accepted
           built_admitted = ap (judged (plan h)) held_at ∙ reached_admitted (plan h) sound cells taken ls
 
           -- all that was allowed counts;

@@ -9,7 +9,7 @@ use borrow.Author.Tests.{leb-true, ltb-false, le-ltb, le-leb, eqb-true, eq-eqb}
 use lib.Dec.{leb, ltb, eqb}
 use lib.ListN.{length, set, length-set}
 use Rattle.lens.specs.Finite.{all_finite}
-use Rattle.lens.specs.Judgement.{verdict, decided}
+use Rattle.lens.specs.Judgement.{verdict, decided, accepted}
 use Rattle.lens.specs.Refusal.{number}
 use Rattle.lens.proofs.Laws.{number_within}
 use Rattle.lens.specs.Judgement.{Judgement}
@@ -31,7 +31,7 @@ either : (a b : Bool) → (a ≡ false → b ≡ true) → (a || b) ≡ true
 either true b h = refl
 either false b h = h refl
 
-no_verdict : (j : Judgement) → eqb (verdict j) 0 ≡ true → j ≡ Ok tt
+no_verdict : (j : Judgement) → eqb (verdict j) 0 ≡ true → j ≡ accepted
 no_verdict (Ok _) h = refl
 no_verdict (Err r) h = absurd (omega (arith, number_within r, eqb-true (number r) 0 h))
 
@@ -41,7 +41,7 @@ module _ (sweep : Sweep) where
     pub not_past : at.done ≤ all_units sweep
     pub updates : at.updates ≤ sweep.limit * samples_done sweep at
     pub edges : Four at.edges
-    pub behind : sweep.samples ≤ at.done → wrong (increments at.region sweep.width sweep.height) ≡ Ok tt
+    pub behind : sweep.samples ≤ at.done → wrong (increments at.region sweep.width sweep.height) ≡ accepted
     pub tallies : Tallied sweep.strict (samples_done sweep at) at.unsettled at.first
 
   abbrev fine : Progress → Bool
@@ -76,17 +76,17 @@ module _ (sweep : Sweep) where
 
   -- what the code may rely on in a record that is admitted
   pub record Admitted (at : Progress) (places : ℕ) : Type 0 where
-    pub opens : sweep.opens at.region ≡ Ok tt
+    pub opens : sweep.opens at.region ≡ accepted
     pub long : places ≡ 2 * (sweep.width * sweep.height)
     pub record_of : Possible at
 
-  passed : (j : Judgement) (e b : Bool) → decided j Err (cond e (cond b (Ok tt) (Err ImpossibleRecord)) (Err WrongLength)) ≡ Ok tt → (j ≡ Ok tt) × (e ≡ true) × (b ≡ true)
+  passed : (j : Judgement) (e b : Bool) → decided j Err (cond e (cond b accepted (Err ImpossibleRecord)) (Err WrongLength)) ≡ accepted → (j ≡ accepted) × (e ≡ true) × (b ≡ true)
   passed (Err r) e b h = let z : ◌≡◌ {A = ℕ} 0 1 = cc in absurd (omega arith)
   passed (Ok _) true true h = (refl, refl, refl)
   passed (Ok _) true false h = let z : ◌≡◌ {A = ℕ} 0 1 = cc in absurd (omega arith)
   passed (Ok _) false b h = let z : ◌≡◌ {A = ℕ} 0 1 = cc in absurd (omega arith)
 
-  pub is_admitted : (at : Progress) (places : ℕ) → admitted sweep at places ≡ Ok tt → Admitted at places
+  pub is_admitted : (at : Progress) (places : ℕ) → admitted sweep at places ≡ accepted → Admitted at places
   unfolding admitted
   is_admitted at places h =
       let k = passed (sweep.opens at.region) (eqb places (2 * (sweep.width * sweep.height))) (possible sweep at) h in
@@ -123,7 +123,7 @@ module _ {X : Type 0} (p : Plan X) where
           (one_more_tallied p.sweep.strict at.done at.unsettled at.first settled.flag f
           (subst (λ (n : ℕ). Tallied p.sweep.strict n at.unsettled at.first) here q.tallies))
 
-      after : (region : Region) → (p.sweep.samples ≤ at.done + 1 → wrong (increments region p.sweep.width p.sweep.height) ≡ Ok tt)
+      after : (region : Region) → (p.sweep.samples ≤ at.done + 1 → wrong (increments region p.sweep.width p.sweep.height) ≡ accepted)
           → Possible p.sweep (with_region (sampled at settled) region)
       after region behind = record { not_past = omega (arith, under); updates = within; edges = edges_four; behind = behind; tallies = tallies }
 
@@ -162,6 +162,6 @@ module _ {X : Type 0} (p : Plan X) where
 
     -- ---- and is admitted, where the plan opens for a finite region
 
-    pub good_admitted : (s : State X) → Good s → p.sweep.opens s.at.region ≡ Ok tt → judged p s ≡ Ok tt
+    pub good_admitted : (s : State X) → Good s → p.sweep.opens s.at.region ≡ accepted → judged p s ≡ accepted
     unfolding admitted
     good_admitted s g o = rw (o, eq-eqb (length s.cells) (2 * (p.sweep.width * p.sweep.height)) g.long, then_possible p.sweep s.at g.record_of) refl

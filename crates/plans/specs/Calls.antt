@@ -3,7 +3,7 @@
 use Rattle.std.specs.Prelude.{◌≡◌, Bool, true, cond, not, ◌&&◌, ◌||◌, List, [], ◌∷◌, ℕ, ◌+◌, ◌*◌, ◌≤◌, ◌<◌, min, leb, ltb, eqb, length, Ok, Err}
 use Rattle.std.specs.Float.Ieee.Scale.{finite}
 use Rattle.lens.specs.Finite.{all_finite}
-use Rattle.lens.specs.Judgement.{verdict, decided}
+use Rattle.lens.specs.Judgement.{verdict, decided, accepted}
 use Rattle.lens.specs.Refusal.{number}
 use Rattle.lens.specs.Judgement.{Judgement}
 use Rattle.lens.specs.declared.Pixel.{Pixel}
@@ -48,7 +48,7 @@ module _ (sweep : Sweep) where
   abbrev pub sound : Progress → ℕ → Judgement
   sound at places =
       cond (eqb places (2 * (sweep.width * sweep.height)))
-      (cond (possible at) (Ok tt) (Err ImpossibleRecord))
+      (cond (possible at) accepted (Err ImpossibleRecord))
       (Err WrongLength)
 
   -- 4, 5, 6 by the sweep, then these
@@ -77,7 +77,7 @@ said_number running = 0
 -- finite region a record carries, and refusals of cells with a number
 
 pub record Steady (sweep : Sweep) : Type 0 where
-  pub bordered : (region : Region) → sweep.opens region ≡ Ok tt → 0 < sweep.samples
+  pub bordered : (region : Region) → sweep.opens region ≡ accepted → 0 < sweep.samples
   pub limited :
       (pixel : Pixel) (settled : Settled) → sweep.sample pixel ≡ Ok settled → settled.updates ≤ sweep.limit
   pub points :

@@ -1,10 +1,10 @@
 -- The region of a table, and its increments. Definitions only.
-use Rattle.std.specs.Prelude.{ℕ, ◌-◌, Bool, cond, ◌&&◌, ◌||◌, List, [], ◌∷◌, Float, Ok, Err}
+use Rattle.std.specs.Prelude.{ℕ, ◌-◌, Bool, cond, ◌&&◌, ◌||◌, List, [], ◌∷◌, Float, Err}
 use Rattle.std.specs.Float.Ieee.{le}
 use Rattle.std.specs.Float.Ieee.Scale.{finite}
 use Rattle.exact.specs.F64.{◌⊖◌, ◌⊘◌}
 use Rattle.lens.specs.Constants.{zeros}
-use Rattle.lens.specs.Judgement.{Judgement}
+use Rattle.lens.specs.Judgement.{Judgement, accepted}
 use Rattle.lens.specs.declared.Refusal.TheVariants.{IncrementNotPositive, AnswerNotFinite}
 use Rattle.region.specs.Size.{float}
 use Rattle.region.specs.declared.Increments.{Increments}
@@ -31,4 +31,4 @@ flat x = finite x && le x zeros
 unfoldable pub wrong : Increments → Judgement
 wrong by =
     cond (flat by.0 || flat by.1) (Err IncrementNotPositive)
-    (cond (finite by.0 && finite by.1) (Ok tt) (Err AnswerNotFinite))
+    (cond (finite by.0 && finite by.1) accepted (Err AnswerNotFinite))

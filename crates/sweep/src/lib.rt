@@ -45,7 +45,7 @@ fn first_after(done: usize, first: usize, flag: bool) -> usize
 fn too_strict(strict: bool, flag: bool) -> bool
     ensures { result ≡ (strict && not flag) }
 {
-    if strict { !flag } else { false }
+    strict && !flag
 }
 
 // The progress after the sample that found `settled`.
@@ -53,17 +53,13 @@ fn sampled(at: Progress, settled: Settled) -> Progress
     requires { (at.done < 2 ^ 32) × (at.updates + settled.updates < 2 ^ 32) × (at.unsettled < 2 ^ 32) }
     ensures { result ≡ sampled at settled }
 {
-    let edges = border::edges_after(at.done, at.edges, settled.point);
-    let region = at.region;
-    let more = one_no(settled.flag);
-    let first = first_after(at.done, at.first, settled.flag);
     Progress {
         done: at.done + 1,
-        edges,
-        region,
+        edges: border::edges_after(at.done, at.edges, settled.point),
         updates: at.updates + settled.updates,
-        unsettled: at.unsettled + more,
-        first,
+        unsettled: at.unsettled + one_no(settled.flag),
+        first: first_after(at.done, at.first, settled.flag),
+        ..at
     }
 }
 
@@ -71,19 +67,9 @@ fn sampled(at: Progress, settled: Settled) -> Progress
 fn closed(width: usize, height: usize, at: Progress) -> Result<Progress, Refusal>
     ensures { told_swept result ≡ closed width height at }
 {
-    let edges = at.edges;
-    let region = border::doubled(edges);
-    match region::wrong(region::increments_of(region, width, height)) {
-        Err(refusal) => Err(refusal),
-        Ok(()) => Ok(Progress {
-            done: at.done,
-            edges,
-            region,
-            updates: at.updates,
-            unsettled: at.unsettled,
-            first: at.first,
-        }),
-    }
+    let region = border::doubled(at.edges);
+    region::wrong(region::increments_of(region, width, height))?;
+    Ok(Progress { region, ..at })
 }
 
 // One border unit of `all`.
@@ -100,19 +86,15 @@ fn sweep_one(
         × (at.unsettled < 2 ^ 32) }
     ensures { told_swept result ≡ swept (by_mark camera short width height strict) at }
 {
-    match engine::undistort(camera, short, border::border_pixel(width, height, at.done)) {
-        Err(refusal) => Err(refusal),
-        Ok(settled) => {
-            if too_strict(strict, settled.flag) {
-                return Err(Refusal::SampleUnsettled);
-            }
-            let next = sampled(at, settled);
-            if next.done < all {
-                return Ok(next);
-            }
-            closed(width, height, next)
-        }
+    let settled = engine::undistort(camera, short, border::border_pixel(width, height, at.done))?;
+    if too_strict(strict, settled.flag) {
+        return Err(Refusal::SampleUnsettled);
     }
+    let next = sampled(at, settled);
+    if next.done < all {
+        return Ok(next);
+    }
+    closed(width, height, next)
 }
 
 // So many border units of `all`, or fewer if one refuses.
@@ -131,20 +113,16 @@ fn units(
     ensures { told_stop result ≡ met (turn (swept (by_mark camera short width height strict)) count from) }
 {
     let mut at = from;
-    let mut left = count;
-    while 0 < left {
+    for _done in 0..count {
         match sweep_one(camera, short, width, height, strict, all, at) {
+            Ok(next) => at = next,
             Err(refusal) => {
                 return Stop {
                     at,
                     refusal: Err(refusal),
                 };
             }
-            Ok(next) => {
-                at = next;
-            }
         }
-        left -= 1;
     }
     Stop {
         at,
@@ -156,24 +134,14 @@ fn units(
 pub fn due(done: usize, all: usize, allowance: usize) -> usize
     ensures { result ≡ min allowance (all - done) }
 {
-    if all <= done {
-        return 0;
-    }
-    let left = all - done;
-    if allowance < left { allowance } else { left }
+    allowance.min(all.saturating_sub(done))
 }
 
 // Whether the size is taken and no sum of a run can wrap.
 fn roomy(width: usize, height: usize, from: Progress) -> bool
     ensures { result ≡ roomy width height from }
 {
-    if !region::sized(width, height) {
-        return false;
-    }
-    if MANY <= from.updates as usize {
-        return false;
-    }
-    from.unsettled < MANY
+    region::sized(width, height) && (from.updates as usize) < MANY && from.unsettled < MANY
 }
 
 // The border units of an allowance: as many as are left of the border, or fewer if one refuses. 13 for a progress whose

@@ -9,7 +9,7 @@ use borrow.Author.Tests.{eq-eqb, eqb-true}
 use lib.Dec.{eqb}
 use lib.Ieee.Scale.{finite}
 use Rattle.lens.specs.Refusal.{number}
-use Rattle.lens.specs.Judgement.{Judgement}
+use Rattle.lens.specs.Judgement.{Judgement, accepted}
 use Rattle.lens.specs.declared.Pixel.{Pixel}
 use Rattle.lens.specs.declared.Refusal.{Refusal}
 use Rattle.lens.specs.declared.Refusal.TheVariants.{IncrementNotPositive, AnswerNotFinite}
@@ -105,7 +105,7 @@ module _ (refusal : ℕ) (strict : Bool) where
   unfolding wrong
   wrong_known by = go (flat by.0 || flat by.1) (finite by.0 && finite by.1)
     where
-      go : (f g : Bool) → JudgedKnown (cond f (Err IncrementNotPositive) (cond g (Ok tt) (Err AnswerNotFinite)))
+      go : (f g : Bool) → JudgedKnown (cond f (Err IncrementNotPositive) (cond g accepted (Err AnswerNotFinite)))
       go true g = refl
       go false true = tt
       go false false = refl

@@ -16,7 +16,7 @@ use Rattle.lens.specs.Finite.{all_finite}
 use Rattle.lens.specs.Refusal.{number}
 use Rattle.lens.specs.Undistorted.{told}
 use Rattle.lens.specs.Distorted.{Distorted}
-use Rattle.lens.specs.Judgement.{Judgement}
+use Rattle.lens.specs.Judgement.{Judgement, accepted}
 use Rattle.lens.specs.declared.Pixel.{Pixel}
 use Rattle.lens.specs.declared.Point.{Point}
 use Rattle.lens.specs.declared.Refusal.TheVariants.{NotFinite, ZeroFocalLength, WrongSize, AnswerNotFinite}
@@ -131,7 +131,7 @@ module _ {X : Type 0} (engine : Engine) (kind : Kind X) (t : Fit kind) where
 
 module _ (camera : Camera) (width height : ℕ) where
   abbrev by_tests : Bool → Bool → Bool → Judgement
-  by_tests g z s = cond g (cond z (Err ZeroFocalLength) (cond s (Ok tt) (Err WrongSize))) (Err NotFinite)
+  by_tests g z s = cond g (cond z (Err ZeroFocalLength) (cond s accepted (Err WrongSize))) (Err NotFinite)
 
   opens_alike : (q r : Region) → all_finite (four q) ≡ true → all_finite (four r) ≡ true → opens_for camera width height q ≡ opens_for camera width height r
   unfolding opens_for
@@ -144,13 +144,13 @@ module _ (camera : Camera) (width height : ℕ) where
     pub taken_size : sized width height ≡ true
     pub size : Sized width height
 
-  passed : (g z s : Bool) → by_tests g z s ≡ Ok tt → (g ≡ true) × (z ≡ false) × (s ≡ true)
+  passed : (g z s : Bool) → by_tests g z s ≡ accepted → (g ≡ true) × (z ≡ false) × (s ≡ true)
   passed true false true h = (refl, refl, refl)
   passed true false false h = let z : ◌≡◌ {A = ℕ} 0 1 = cc in absurd (omega arith)
   passed true true s h = let z : ◌≡◌ {A = ℕ} 0 1 = cc in absurd (omega arith)
   passed false z s h = let z : ◌≡◌ {A = ℕ} 0 1 = cc in absurd (omega arith)
 
-  pub opened : (region : Region) → opens_for camera width height region ≡ Ok tt → Opened region
+  pub opened : (region : Region) → opens_for camera width height region ≡ accepted → Opened region
   unfolding opens_for
   opened region h =
       let p = passed (all_finite (parameters camera) && all_finite (four region)) (zero_focal camera) (sized width height) h in

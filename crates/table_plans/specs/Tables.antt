@@ -1,8 +1,8 @@
 -- The plans of a camera's tables: an engine, a border, a strict mark and a kind of cell make one. Definitions only.
-use Rattle.std.specs.Prelude.{Bool, false, cond, ◌&&◌, ◌||◌, List, [], ◌∷◌, ℕ, eqb, ℤ, Float, get_or, Ok, Err}
+use Rattle.std.specs.Prelude.{Bool, false, cond, ◌&&◌, ◌||◌, List, [], ◌∷◌, ℕ, eqb, ℤ, Float, get_or, Err}
 use Rattle.lens.specs.Finite.{all_finite}
 use Rattle.lens.specs.Distorted.{Distorted}
-use Rattle.lens.specs.Judgement.{Judgement}
+use Rattle.lens.specs.Judgement.{Judgement, accepted}
 use Rattle.lens.specs.declared.Pixel.{Pixel}
 use Rattle.lens.specs.declared.Point.{Point}
 use Rattle.lens.specs.declared.Refusal.TheVariants.{NotFinite, ZeroFocalLength, WrongSize}
@@ -15,7 +15,8 @@ use Rattle.camera.specs.declared.Camera.{Camera}
 use Rattle.engine.specs.Engine.{short_for, distort, undistort}
 use Rattle.border.specs.Border.{outside, pixel, samples, border_at, border_twice, samples_twice}
 use Rattle.plans.specs.Plan.{Content, Sweep, Plan}
-use Rattle.cell.specs.Cell.{f32, i16, cell_by}
+use Rattle.cell.specs.Cell.{cell_by}
+pub use Rattle.cell.specs.Kind.{Kind, f32s, i16s}
 
 -- ---- engines: what finds the point of a pixel and the pixel of a point, and the most updates that it makes
 
@@ -67,7 +68,7 @@ unfoldable pub opens_for : Camera → ℕ → ℕ → Region → Judgement
 opens_for camera width height region =
     cond (all_finite (parameters camera) && all_finite (four region))
     (cond (zero_focal camera) (Err ZeroFocalLength)
-    (cond (sized width height) (Ok tt) (Err WrongSize)))
+    (cond (sized width height) accepted (Err WrongSize)))
     (Err NotFinite)
 
 -- ---- plans
@@ -102,19 +103,7 @@ full_sweep camera = sweep_with (full camera) camera
 abbrev pub sweep_of : Camera → ℕ → ℕ → Bool → Sweep
 sweep_of camera = sweep_with (picked camera) camera
 
--- ---- kinds of cell: what a cell holds of its pixel, and the number of the refusal where it can't
-
-pub record Kind (X : Type 0) : Type 0 where
-  pub holds : Pixel → Content X
-  pub refusal : ℕ
-
-abbrev pub f32s : Kind Float
-f32s = record { holds = f32; refusal = 12 }
-
-abbrev pub i16s : Kind ℤ
-i16s = record { holds = i16; refusal = 19 }
-
--- the table of a kind: as it is said, by the full engine, and as it is built. The law `built_full` has the two alike: a
+-- ---- the table of a kind: as it is said, by the full engine, and as it is built. The law `built_full` has the two alike: a
 -- zero's sign may differ in an edge that a record keeps, and nowhere else
 abbrev pub full_table : {X : Type 0} → Kind X → Camera → ℕ → ℕ → Bool → Plan X
 full_table kind camera width height strict =

@@ -12,7 +12,6 @@ ghost use Rattle.distortion_table.specs.Answer.{told_status};
 ghost use Rattle.job_bytes.specs.Places.{record_length};
 ghost use Rattle.job_bytes.specs.Bytes.{record_bytes, record_read};
 ghost use Rattle.job_bytes.specs.Check.{whole};
-ghost use Rattle.job_bytes.specs.declared.Found.TheVariants.{Of};
 ghost use Rattle.turn_bytes.specs.Turn.{handed, own, answer_length, status_number, report, answer_bytes, Starts};
 ghost use Rattle.turn_bytes.specs.Turn.{turn_bytes};
 

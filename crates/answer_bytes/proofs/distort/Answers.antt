@@ -1,5 +1,5 @@
 -- `answer_bytes::distort` meets its contract. Assumes nothing.
-use mathlib.Core.Path.{refl}
+use mathlib.Core.Path.{refl, ap}
 use Rattle.std.specs.declared.result.Result.{Result}
 use Rattle.camera.specs.declared.Camera.{Camera}
 use Rattle.lens.specs.declared.Refusal.{Refusal}
@@ -13,4 +13,4 @@ use Rattle.answer_bytes.proofs.distort.Goals as goal
 
 pub returns : goal.returns
 unfolding distort_bytes
-returns c = call told_pixel (λ (t : ToldPixel). t.number) (λ (t : ToldPixel). t.pixel) (λ (n : ℕ) (p : Pixel). give_pixel n p c.args.answer.now) (λ (a : Result Camera Refusal). distorted a record { 0 = c.args.x; 1 = c.args.y }) (read c.args.model c.args.params.now) _ _ c.distorted.result _ _ c.give_pixel.ensures c.told_pixel-told.ensures.0 c.told_pixel-told.ensures.1 c.distorted.ensures refl
+returns c = call told_pixel (λ (t : ToldPixel). t.number) (λ (t : ToldPixel). t.pixel) (λ (n : ℕ) (p : Pixel). give_pixel n p c.args.answer.now) (λ (a : Result Camera Refusal). distorted a record { 0 = c.args.x; 1 = c.args.y }) (read c.args.model c.args.params.now) _ _ c.distorted.result _ _ c.give_pixel.ensures c.told_pixel-told.ensures.0 c.told_pixel-told.ensures.1 (ap told_pixel c.distorted.ensures) refl

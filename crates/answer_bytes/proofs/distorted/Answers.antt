@@ -1,24 +1,27 @@
 -- `answer_bytes::distorted` meets its contract. Assumes nothing.
-use mathlib.Core.Path.{refl, sym, ◌∙◌}
+use mathlib.Core.Path.{refl}
+use Rattle.std.proofs.Common.{rules}
 use Rattle.std.specs.declared.result.Result.{Result}
 use Rattle.lens.specs.declared.Refusal.{Refusal}
-use Rattle.lens.specs.Distorted.{told_pixel}
+use Rattle.camera.specs.Camera.{distort_judged}
 use Rattle.camera.specs.declared.Camera.{Camera}
-use Rattle.camera.proofs.Known.{judged_not}
-use Rattle.camera_bytes.specs.Reading.{read}
 use Rattle.answer_bytes.specs.Answer.{distorted}
-use Rattle.answer_bytes.proofs.Counted.{passed, answers}
+use Rattle.answer_bytes.proofs.Counted.{unread, unplaced, answered}
 use Rattle.answer_bytes.proofs.distorted.Goals as goal
 
-pub distorted_by-requires : goal.distorted_by-requires
-distorted_by-requires c = let a = c.args in passed (read a.model a.params.now) (sym c.read_finite.ensures ∙ c.in-Ok.is)
-
-pub returns-in-Err : goal.returns-in-Err
-returns-in-Err c =
+pub returns-in_err-camera : goal.returns-in_err-camera
+returns-in_err-camera c =
     let a = c.args in
-    answers (λ (q : Result Camera Refusal). told_pixel (distorted q a.point)) (λ (camera : Camera) e. rw (judged_not camera a.point.0 a.point.1 e) refl) a.model a.params.now c.read_finite.ensures c.in-Err.is refl
+    let e = unread (λ (q : Result Camera Refusal). distorted q a.point) (λ (camera : Camera). distort_judged camera a.point) a.point.0 a.point.1 (λ camera. refl) (λ r. refl) a.model a.params.now c.read_finite.ensures _ c.in_err-camera.was in
+    search rules
 
-pub returns-in-Ok : goal.returns-in-Ok
-returns-in-Ok c =
+pub returns-in_err-placed : goal.returns-in_err-placed
+returns-in_err-placed c =
     let a = c.args in
-    answers (λ (q : Result Camera Refusal). told_pixel (distorted q a.point)) (λ (camera : Camera) e. rw (judged_not camera a.point.0 a.point.1 e) refl) a.model a.params.now c.read_finite.ensures c.in-Ok.is c.distorted_by.ensures
+    let e = unplaced (λ (q : Result Camera Refusal). distorted q a.point) (λ (camera : Camera). distort_judged camera a.point) a.point.0 a.point.1 (λ camera. refl) (λ r. refl) a.model a.params.now c.read_finite.ensures c.in_ok-camera.was c.placed.ensures _ c.in_err-placed.was in
+    search rules
+
+pub returns : goal.returns
+returns c =
+    let a = c.args in
+    answered (λ (q : Result Camera Refusal). distorted q a.point) (λ (camera : Camera). distort_judged camera a.point) a.point.0 a.point.1 (λ camera. refl) (λ r. refl) a.model a.params.now c.read_finite.ensures c.in_ok-camera.was c.placed.ensures c.in_ok-placed.was c.distort_judged.ensures

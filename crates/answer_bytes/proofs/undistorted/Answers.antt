@@ -1,24 +1,27 @@
 -- `answer_bytes::undistorted` meets its contract. Assumes nothing.
-use mathlib.Core.Path.{refl, sym, ◌∙◌}
+use mathlib.Core.Path.{refl}
+use Rattle.std.proofs.Common.{rules}
 use Rattle.std.specs.declared.result.Result.{Result}
 use Rattle.lens.specs.declared.Refusal.{Refusal}
-use Rattle.lens.specs.Undistorted.{told}
+use Rattle.camera.specs.Camera.{undistort_judged}
 use Rattle.camera.specs.declared.Camera.{Camera}
-use Rattle.camera.proofs.Known.{judged_not}
-use Rattle.camera_bytes.specs.Reading.{read}
 use Rattle.answer_bytes.specs.Answer.{undistorted}
-use Rattle.answer_bytes.proofs.Counted.{passed, answers}
+use Rattle.answer_bytes.proofs.Counted.{unread, unplaced, answered}
 use Rattle.answer_bytes.proofs.undistorted.Goals as goal
 
-pub undistorted_by-requires : goal.undistorted_by-requires
-undistorted_by-requires c = let a = c.args in passed (read a.model a.params.now) (sym c.read_finite.ensures ∙ c.in-Ok.is)
-
-pub returns-in-Err : goal.returns-in-Err
-returns-in-Err c =
+pub returns-in_err-camera : goal.returns-in_err-camera
+returns-in_err-camera c =
     let a = c.args in
-    answers (λ (q : Result Camera Refusal). told (undistorted q a.pixel)) (λ (camera : Camera) e. rw (judged_not camera a.pixel.0 a.pixel.1 e) refl) a.model a.params.now c.read_finite.ensures c.in-Err.is refl
+    let e = unread (λ (q : Result Camera Refusal). undistorted q a.pixel) (λ (camera : Camera). undistort_judged camera a.pixel) a.pixel.0 a.pixel.1 (λ camera. refl) (λ r. refl) a.model a.params.now c.read_finite.ensures _ c.in_err-camera.was in
+    search rules
 
-pub returns-in-Ok : goal.returns-in-Ok
-returns-in-Ok c =
+pub returns-in_err-placed : goal.returns-in_err-placed
+returns-in_err-placed c =
     let a = c.args in
-    answers (λ (q : Result Camera Refusal). told (undistorted q a.pixel)) (λ (camera : Camera) e. rw (judged_not camera a.pixel.0 a.pixel.1 e) refl) a.model a.params.now c.read_finite.ensures c.in-Ok.is c.undistorted_by.ensures
+    let e = unplaced (λ (q : Result Camera Refusal). undistorted q a.pixel) (λ (camera : Camera). undistort_judged camera a.pixel) a.pixel.0 a.pixel.1 (λ camera. refl) (λ r. refl) a.model a.params.now c.read_finite.ensures c.in_ok-camera.was c.placed.ensures _ c.in_err-placed.was in
+    search rules
+
+pub returns : goal.returns
+returns c =
+    let a = c.args in
+    answered (λ (q : Result Camera Refusal). undistorted q a.pixel) (λ (camera : Camera). undistort_judged camera a.pixel) a.pixel.0 a.pixel.1 (λ camera. refl) (λ r. refl) a.model a.params.now c.read_finite.ensures c.in_ok-camera.was c.placed.ensures c.in_ok-placed.was c.undistort_judged.ensures

@@ -1,5 +1,5 @@
 -- `arctan::low` meets its contract (proofs/Wide.antt). Assumes nothing.
-use Rattle.std.proofs.Common.{ℕ, ◌*◌, ◌/◌, ◌%◌, ◌^◌, ◌≤◌, ◌∙◌, mul-le-mul, arith}
+use Rattle.std.proofs.Common.{ℕ, ◌*◌, ◌/◌, ◌%◌, ◌^◌, ◌≤◌, mul-le-mul, arith}
 use Rattle.arctan.proofs.Wide.{fits, lower}
 use Rattle.arctan.proofs.low.Goals as goal
 
@@ -23,8 +23,8 @@ overflow_mul-middle-2 c = omega (arith, small c.requires)
 pub overflow_add-middle : goal.overflow_add-middle
 overflow_add-middle c = omega (arith, small c.requires)
 
-pub overflow_mul-a0 : goal.overflow_mul-a0
-overflow_mul-a0 c = omega (arith, small c.requires)
+pub overflow_mul-result-2 : goal.overflow_mul-result-2
+overflow_mul-result-2 c = omega (arith, small c.requires)
 
 pub returns : goal.returns
-returns c = c.wrapping_add_u64.ensures.value ∙ lower c.args.a c.args.b
+returns c = lower c.args.a c.args.b

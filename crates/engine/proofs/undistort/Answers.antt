@@ -1,7 +1,6 @@
 -- `engine::undistort` meets its contract: each call gives its definition's answer. Assumes nothing.
 use mathlib.Core.Path.{◌≡◌, sym, ap, ◌∙◌}
 use Rattle.std.specs.declared.result.Result.TheVariants.{Ok}
-use Rattle.lens.specs.Undistorted.{told}
 use Rattle.lens.specs.declared.Pixel.{Pixel}
 use Rattle.lens.specs.declared.Settled.{Settled}
 use Rattle.lens.specs.Undistorted.{Undistorted}
@@ -19,7 +18,7 @@ by_short pixel params = finite_point (Ok (short.undistort params pixel))
 pub returns-in-BrownConrady : goal.returns-in-BrownConrady
 returns-in-BrownConrady c =
     let m = c in
-    rw (m.in-BrownConrady.is, m.if-short.true) (ap told (c.finite.ensures ∙ ap (λ (s : Settled). finite_point (Ok s)) c.undistort.ensures))
+    rw (m.in-BrownConrady.is, m.if-short.true) (c.finite_point.ensures ∙ ap (λ (s : Settled). finite_point (Ok s)) c.undistort.ensures)
 
 pub returns : goal.returns
 returns c =
@@ -29,4 +28,4 @@ returns c =
       | then-short+in_default w ↦ with_mark (by_short a.pixel) own a.camera w.if-short.true w.in_default.not-BrownConrady
       | else-short w ↦ without (by_short a.pixel) own a.camera w.if-short.false
     ] in
-    c.undistort_judged.ensures ∙ ap told (sym is)
+    c.undistort_judged.ensures ∙ sym is

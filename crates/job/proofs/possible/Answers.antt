@@ -57,14 +57,14 @@ few-requires c =
     let a = c.args in
     let p = c.requires in
     let m = min-le_right a.at.done c.samples-all.result in
-    (omega (arith, c.limit.ensures, limit_most a.camera), omega (arith, c.least-samples.ensures, m, c.samples-all.ensures, p.not_wider, p.not_higher))
+    (omega (arith, c.limit.ensures, limit_most a.camera), omega (arith, c.min-samples.ensures, m, c.samples-all.ensures, p.not_wider, p.not_higher))
 
 pub returns-then-not-few : goal.returns-then-not-few
 returns-then-not-few c =
     let a = c.args in
     let n = c.samples-all.ensures in
     let e = le-leb a.at.done (all_units a.width a.height) (omega (arith, n, c.if-all-width.false)) in
-    let seen = seen_so _ a.at.done _ a.width a.height c.least-samples.ensures n in
+    let seen = seen_so _ a.at.done _ a.width a.height c.min-samples.ensures n in
     let f = few_so _ _ _ a.camera _ c.few.ensures c.limit.ensures seen ∙ c.if-not-few.true in
     judged_so a.camera a.width a.height a.strict a.at e f refl refl refl
 
@@ -73,7 +73,7 @@ returns-then-not-finite_region c =
     let a = c.args in
     let n = c.samples-all.ensures in
     let e = le-leb a.at.done (all_units a.width a.height) (omega (arith, n, c.if-all-width.false)) in
-    let seen = seen_so _ a.at.done _ a.width a.height c.least-samples.ensures n in
+    let seen = seen_so _ a.at.done _ a.width a.height c.min-samples.ensures n in
     let f = few_so _ _ _ a.camera _ c.few.ensures c.limit.ensures seen ∙ c.if-not-few.false in
     judged_so a.camera a.width a.height a.strict a.at e f (sym c.finite_region.ensures ∙ c.if-not-finite_region.true) refl refl
 
@@ -82,7 +82,7 @@ returns-then-not-fine c =
     let a = c.args in
     let n = c.samples-all.ensures in
     let e = le-leb a.at.done (all_units a.width a.height) (omega (arith, n, c.if-all-width.false)) in
-    let seen = seen_so _ a.at.done _ a.width a.height c.least-samples.ensures n in
+    let seen = seen_so _ a.at.done _ a.width a.height c.min-samples.ensures n in
     let f = few_so _ _ _ a.camera _ c.few.ensures c.limit.ensures seen ∙ c.if-not-few.false in
     let g = sym c.finite_region.ensures ∙ c.if-not-finite_region.false in
     judged_so a.camera a.width a.height a.strict a.at e f g (fine_so a.at a.width a.height _ c.fine.ensures n ∙ c.if-not-fine.true) refl
@@ -92,7 +92,7 @@ returns c =
     let a = c.args in
     let n = c.samples-all.ensures in
     let e = le-leb a.at.done (all_units a.width a.height) (omega (arith, n, c.if-all-width.false)) in
-    let seen = seen_so _ a.at.done _ a.width a.height c.least-samples.ensures n in
+    let seen = seen_so _ a.at.done _ a.width a.height c.min-samples.ensures n in
     let f = few_so _ _ _ a.camera _ c.few.ensures c.limit.ensures seen ∙ c.if-not-few.false in
     let g = sym c.finite_region.ensures ∙ c.if-not-finite_region.false in
     let h = fine_so a.at a.width a.height _ c.fine.ensures n ∙ c.if-not-fine.false in

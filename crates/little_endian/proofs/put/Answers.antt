@@ -1,23 +1,34 @@
 -- `little_endian::put` meets its contract. Assumes nothing.
-use mathlib.Core.Path.{refl}
+use mathlib.Core.Path.{◌∙◌, ap, sym}
+use Prim.Native.Nat.{ℕ}
 use native.Mathlib.Omega.{arith}
+use lib.ListN.{take}
 use Rattle.little_endian.specs.Bytes.{bytes}
-use Rattle.little_endian.proofs.Writing.{length_bytes, not_fitting, counted}
+use Rattle.little_endian.proofs.Writing.{length_bytes, not_fitting, put_there, put_each, eight_bytes, four_bytes}
 use Rattle.little_endian.proofs.put.Goals as goal
+use Rattle.little_endian.proofs.put.Goals.{else-at-out-via-then-at-out+else-count-out, else-at-out-via-else-at-out}
 
-pub returns-then-count-eq8 : goal.returns-then-count-eq8
-returns-then-count-eq8 c = counted 8 c.args.at c.args.count c.args.number c.args.out.now _ c.if-count-eq8.true c.write_eight.ensures (omega (arith, c.if-count-out.true, c.if-at-out.true))
+pub returns-in-8 : goal.returns-in-8
+returns-in-8 c =
+    put_there c.args.at c.args.count c.args.number c.args.out.now c.if-count-out.true c.if-at-out.true _
+    (c.copy_from_slice.ensures.after ∙ c.to_le_bytes.ensures ∙ eight_bytes c.args.number ∙ ap (λ (k : ℕ). bytes k c.args.number) (sym c.in-8.is))
 
-pub returns-then-count-eq4 : goal.returns-then-count-eq4
-returns-then-count-eq4 c = counted 4 c.args.at c.args.count c.args.number c.args.out.now _ c.if-count-eq4.true c.write_four.ensures (omega (arith, c.if-count-out.true, c.if-at-out.true))
+pub returns-in-4 : goal.returns-in-4
+returns-in-4 c =
+    put_there c.args.at c.args.count c.args.number c.args.out.now c.if-count-out.true c.if-at-out.true _
+    (c.copy_from_slice-in-4.ensures.after
+    ∙ ap (take 4) c.to_le_bytes-in-4.ensures
+    ∙ four_bytes c.args.number
+    ∙ ap (λ (k : ℕ). bytes k c.args.number) (sym c.in-4.is))
 
-pub returns-else-count-eq4 : goal.returns-else-count-eq4
-returns-else-count-eq4 c = counted c.args.count c.args.at c.args.count c.args.number c.args.out.now _ refl c.write.ensures (omega (arith, c.if-count-out.true, c.if-at-out.true))
-
-pub returns-else-count-out : goal.returns-else-count-out
-returns-else-count-out c =
-    not_fitting c.args.at (bytes c.args.count c.args.number) c.args.out.now (omega (arith, length_bytes c.args.count c.args.number, c.if-count-out.false, c.if-at-out.true))
+pub returns-in_default : goal.returns-in_default
+returns-in_default c = put_each c.args.at c.args.count c.args.number c.args.out.now c.if-count-out.true c.if-at-out.true _ c.write.ensures
 
 pub returns-else-at-out : goal.returns-else-at-out
 returns-else-at-out c =
-    not_fitting c.args.at (bytes c.args.count c.args.number) c.args.out.now (omega (arith, length_bytes c.args.count c.args.number, c.if-at-out.false))
+    elim c.else-at-out.branch [
+      | else-at-out-via-then-at-out+else-count-out w ↦
+          not_fitting c.args.at (bytes c.args.count c.args.number) c.args.out.now (omega (arith, length_bytes c.args.count c.args.number, w.if-count-out.false, w.if-at-out.true))
+      | else-at-out-via-else-at-out w ↦
+          not_fitting c.args.at (bytes c.args.count c.args.number) c.args.out.now (omega (arith, length_bytes c.args.count c.args.number, w.if-at-out.false))
+    ]

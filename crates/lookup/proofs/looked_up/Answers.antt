@@ -1,7 +1,6 @@
 -- `lookup::looked_up` meets its contract. Assumes nothing.
 use Rattle.std.proofs.Common.{sym, refl, ap, ◌∙◌, ap₂}
 use Rattle.lens.specs.Distorted.{finite_pixel}
-use Rattle.lens.proofs.Laws.{told_pixel_one_to_one}
 use Rattle.lookup.specs.Lookup.{pixel_at}
 use Rattle.lookup.proofs.Steps.{looked_up_so, inside_wide, inside_high, reaches}
 use Rattle.lookup.proofs.looked_up.Goals as goal
@@ -35,9 +34,8 @@ pixel_at-requires c =
 pub returns : goal.returns
 returns c =
     let a = c.args in
-    let at = c.pixel_at.result in
     looked_up_so _ _ _ _ _
     (sym c.if-outside.false ∙ c.outside.ensures)
     (sym c.if-outside-2.false ∙ c.outside-else-outside.ensures)
-    (told_pixel_one_to_one c.finite_pixel.result (finite_pixel at) c.finite_pixel.ensures
+    (c.finite_pixel.ensures
     ∙ ap finite_pixel (c.pixel_at.ensures ∙ ap₂ (pixel_at a.table.now a.width) c.spot_of.ensures c.spot_of-2.ensures))

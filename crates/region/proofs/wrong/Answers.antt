@@ -1,6 +1,7 @@
 -- `region::wrong` meets its contract. Assumes nothing.
+use Rattle.lens.specs.Judgement.{accepted}
 use Rattle.std.proofs.Common.{◌≡◌, Bool, cond, ◌&&◌, ◌||◌, sym, refl, ◌∙◌}
-use Rattle.std.specs.declared.result.Result.TheVariants.{Ok, Err}
+use Rattle.std.specs.declared.result.Result.TheVariants.{Err}
 use lib.Ieee.Scale.{finite}
 use Rattle.lens.specs.declared.Refusal.TheVariants.{IncrementNotPositive, AnswerNotFinite}
 use Rattle.region.specs.Region.{flat, wrong}
@@ -10,7 +11,7 @@ use Rattle.region.proofs.wrong.Goals.{then-flat-via-then-flat, then-flat-via-els
 
 -- by what the tests say
 judged_so : (by : Increments) {f g b : Bool} → f ≡ flat by.0 → g ≡ flat by.1 → b ≡ (finite by.0 && finite by.1)
-    → cond (f || g) (Err IncrementNotPositive) (cond b (Ok tt) (Err AnswerNotFinite)) ≡ wrong by
+    → cond (f || g) (Err IncrementNotPositive) (cond b accepted (Err AnswerNotFinite)) ≡ wrong by
 unfolding wrong
 judged_so by f g b = rw (f, g, b) refl
 
