@@ -17,6 +17,9 @@ use std::array;
 // The most bytes that a text has.
 pub const LONGEST: usize = 4096;
 
+// The most bytes that a name has.
+const NAME: usize = 16;
+
 // What a camera file asks for: a camera, and the size of its table.
 #[derive(Clone, Copy)]
 pub struct Asked {
@@ -57,7 +60,7 @@ fn all_letters(field: &[u8]) -> bool
 fn is_name(field: &[u8]) -> bool
     ensures { result ≡ is_name field.now }
 {
-    if field.is_empty() || field.len() > 16 {
+    if field.is_empty() || field.len() > NAME {
         return false;
     }
     all_letters(field)

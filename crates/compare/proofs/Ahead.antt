@@ -67,12 +67,11 @@ more_ahead (suc room) (b ∷ s) t = by_end (eqb b 10) (complete room s) (more_ah
 -- ---- the loop of `line_end`
 
 pub record Passed (room : ℕ) (text : List ℕ) (i : ℕ) : Type 0 where
-  pub within : i ≤ length text
   pub inside : i ≤ room
   pub rest : i + line_end (room - i) (drop i text) ≡ line_end room text
 
 pub none_passed : (room : ℕ) (text : List ℕ) → Passed room text 0
-none_passed room text = record { within = omega arith; inside = omega arith; rest = zero-add (line_end (room - 0) text) ∙ ap (λ (n : ℕ). line_end n text) (omega arith) }
+none_passed room text = record { inside = omega arith; rest = zero-add (line_end (room - 0) text) ∙ ap (λ (n : ℕ). line_end n text) (omega arith) }
 
 module _ (room : ℕ) (text : List ℕ) (i : ℕ) (p : Passed room text i) where
   pub full : i ≡ room → i ≡ line_end room text
@@ -102,12 +101,12 @@ module _ (room : ℕ) (text : List ℕ) (i : ℕ) (p : Passed room text i) where
       at_byte (room - i - 1) (get_or text i 0) false (ne_eqb (get_or text i 0) 10 e) k (drop-cons text i 0 h) in
       let b : line_end (room - (i + 1)) (drop (i + 1) text) ≡ line_end (room - i - 1) (drop (suc i) text) =
       ap₂ line_end (omega arith) (ap (λ (n : ℕ). drop n text) (add-one i)) in
-      record { within = omega arith; inside = omega (arith, ne, p.inside); rest = omega (arith, a, b) }
+      record { inside = omega (arith, ne, p.inside); rest = omega (arith, a, b) }
 
-  pub all_passed : length text ≤ i → i ≡ line_end room text
+  pub all_passed : i ≤ length text → length text ≤ i → length text ≡ line_end room text
   unfolding line_end
-  all_passed h = ends (room - i) refl
+  all_passed l h = ends (room - i) refl
     where
-      ends : (k : ℕ) → room - i ≡ k → i ≡ line_end room text
+      ends : (k : ℕ) → room - i ≡ k → length text ≡ line_end room text
       ends zero e = omega (arith, p.rest, ap₂ line_end e (drop_of_length-le text h))
       ends (suc k) e = omega (arith, p.rest, ap₂ line_end e (drop_of_length-le text h))

@@ -2,18 +2,20 @@
 use mathlib.Core.Path.{◌≡◌, refl, sym, ap, ap₂, ◌∙◌}
 use mathlib.Core.Bool.{Bool, true, false, cond, ◌&&◌}
 use mathlib.Core.List.{List, [], ◌∷◌, ◌++◌, append_assoc, append-nil}
-use mathlib.Core.Option.{none, some-injective}
+use Rattle.std.proofs.Common.{None}
 use Prim.Native.Nat.{ℕ, zero, suc, ◌+◌, ◌*◌, ◌^◌, ◌≤◌, ◌<◌}
 use native.Mathlib.Nat.{mul-le-mul_right, zero-add}
 use native.Mathlib.Omega.{arith}
 use borrow.Author.Tests.{eqb-true, eqb-false, lt-ltb}
 use lib.Dec.{eqb}
 use lib.ListN.{length}
+use Rattle.std.proofs.lemmas.Option.{same_Some}
 use Rattle.decimal.specs.Text.{same}
 use Rattle.decimal.proofs.Bytes.{same_self, same_true}
 use Rattle.put_text.specs.Placed.{joined}
 use Rattle.listing_lines.specs.Line.{cell_text, difference_line, count_line}
-use Rattle.listing_lines.specs.Read.{single, header_text, edges_text, Cell, fair_cell, read_cell}
+use Rattle.listing_lines.specs.declared.CellLine.{CellLine}
+use Rattle.listing_lines.specs.Read.{single, header_text, edges_text, fair_cell, read_cell}
 use Rattle.listing_lines.proofs.Reading.{both_true}
 use Rattle.listing_lines.proofs.Laws.{cell_read}
 use Rattle.listing_lines.proofs.Others.{table_no_cell, region_no_cell}
@@ -29,7 +31,7 @@ use Rattle.compare.specs.declared.Difference.TheVariants.{Same, Lines, Cells}
 
 -- ---- two lines that are no cells'
 
-module _ (s t : List ℕ) (e : read_cell s ≡ none) where
+module _ (s t : List ℕ) (e : read_cell s ≡ None) where
   by_same : (b : Bool) → same s t ≡ b → told s t ≡ cond b Same Lines
   unfolding told
   by_same true f = simp f
@@ -53,16 +55,16 @@ module _ (s t : List ℕ) (e : read_cell s ≡ none) where
 -- ---- two cells' lines
 
 module _ (u v a b c d : ℕ) (f : fair_cell (record { u = u; v = v; a = a; b = b }) ≡ true) (g : fair_cell (record { u = u; v = v; a = c; b = d }) ≡ true) where
-  abbrev old : Cell
+  abbrev old : CellLine
   old = record { u = u; v = v; a = a; b = b }
 
-  abbrev new : Cell
+  abbrev new : CellLine
   new = record { u = u; v = v; a = c; b = d }
 
   cell_same : cell_text u v a b ≡ cell_text u v c d → (a ≡ c) × (b ≡ d)
   cell_same e =
-      let h : old ≡ new = some-injective old new (sym (cell_read old f) ∙ ap read_cell e ∙ cell_read new g) in
-      (ap (λ (x : Cell). x.a) h, ap (λ (x : Cell). x.b) h)
+      let h : old ≡ new = same_Some old new (sym (cell_read old f) ∙ ap read_cell e ∙ cell_read new g) in
+      (ap (λ (x : CellLine). x.a) h, ap (λ (x : CellLine). x.b) h)
 
   cell_compared : told (cell_text u v a b) (cell_text u v c d) ≡ cond (eqb a c && eqb b d) Same (Cells u v a b c d)
   unfolding told

@@ -2,7 +2,7 @@
 use mathlib.Core.Path.{◌≡◌, refl, sym, ap, ap₂, ◌∙◌}
 use mathlib.Core.Bool.{Bool, true, false, cond, ◌&&◌}
 use mathlib.Core.List.{List, [], ◌∷◌, ◌++◌, append_assoc}
-use mathlib.Core.Option.{Option, none, some}
+use Rattle.std.proofs.Common.{Option, Some, None}
 use Prim.Native.Nat.{ℕ, ◌*◌, ◌-◌}
 use native.Mathlib.Omega.{arith}
 use borrow.Author.Tests.{eqb-true}
@@ -33,7 +33,6 @@ unfolding count_line line
 begins text e = ap (λ (t : List ℕ). get_or t 0 0) e
 
 digits_other : (s t : List ℕ) → all digit s ≡ true → Other (s ++ 9 ∷ t)
-unfolding all
 digits_other [] t e f = omega (arith, f)
 digits_other (x ∷ s) t e f = omega (arith, f, (digit_range x (and_left (digit x) (all digit s) e)).1)
 
@@ -135,7 +134,7 @@ module _ (old new : List ℕ) where
   equal_texts e = by_read (read_listing old) (read_listing new) refl refl e
     where
       by_size :
-          (l m : Listed) → read_listing old ≡ some l → read_listing new ≡ some m →
+          (l m : Listed) → read_listing old ≡ Some l → read_listing new ≡ Some m →
           (t : Bool) → one_size l.header m.header ≡ t → joined (cond t (report l m) (refused_line 15 ∷ [])) ≡ count_line 0 → old ≡ new
       by_size l m p q true s g =
           let x = only_listing old l p in
@@ -146,18 +145,18 @@ module _ (old new : List ℕ) where
       by_read :
           (o p : Option Listed) → read_listing old ≡ o → read_listing new ≡ p →
           joined (report_or_refusal o p) ≡ count_line 0 → old ≡ new
-      by_read none p x y g = never 14 g
-      by_read (some l) none x y g = never 14 g
-      by_read (some l) (some m) x y g = by_size l m x y (one_size l.header m.header) refl g
+      by_read None p x y g = never 14 g
+      by_read (Some l) None x y g = never 14 g
+      by_read (Some l) (Some m) x y g = by_size l m x y (one_size l.header m.header) refl g
 
 -- ---- a refusal is no listing
 
-pub refused_unread : (n : ℕ) → read_listing (refused_line n) ≡ none
+pub refused_unread : (n : ℕ) → read_listing (refused_line n) ≡ None
 unfolding refused_line line listed_text listed_lines joined table_line
 refused_unread n = by_read (read_listing (refused_line n)) refl
   where
-    by_read : (o : Option Listed) → read_listing (refused_line n) ≡ o → o ≡ none
-    by_read none e = refl
-    by_read (some l) e =
+    by_read : (o : Option Listed) → read_listing (refused_line n) ≡ o → o ≡ None
+    by_read None e = refl
+    by_read (Some l) e =
         let first : ◌≡◌ {A = ℕ} 114 116 = ap (λ (t : List ℕ). get_or t 0 0) (only_listing (refused_line n) l e).0 in
         absurd (omega arith)

@@ -10,7 +10,10 @@ use lib.ListN.{length}
 use Rattle.decimal.specs.Decimal.{decimal}
 use Rattle.decimal.proofs.Digits.{decimal_short}
 use Rattle.listing_lines.specs.Line.{hex, word_table, word_region, word_cell, table_line, region_text, cell_text}
-use Rattle.listing_lines.specs.Read.{Header, header_text, Edges, edges_text, Cell, text_of_cell}
+use Rattle.listing_lines.specs.declared.TableLine.{TableLine}
+use Rattle.listing_lines.specs.declared.RegionLine.{RegionLine}
+use Rattle.listing_lines.specs.declared.CellLine.{CellLine}
+use Rattle.listing_lines.specs.Read.{header_text, edges_text, text_of_cell}
 use Rattle.listing_lines.proofs.Back.{table_plain, region_plain, cell_plain, plains_of_table, plains_of_region, plains_of_cell}
 use Rattle.listing_lines.proofs.Length.{table_length, region_length, cell_length}
 use Rattle.listing.specs.Listing.{across, down, cell_texts}
@@ -20,21 +23,21 @@ use Rattle.listing.proofs.Grid.{next}
 use Rattle.compare.specs.Judged.{longest}
 use Rattle.compare.proofs.Cutting.{Ended, Held, line_ended}
 
-table_held : (h : Header) → h.width ≤ 4096 → h.height ≤ 4096 → h.updates < 2 ^ 32 → Ended (header_text h) × (length (header_text h) ≤ longest)
+table_held : (h : TableLine) → h.width ≤ 4096 → h.height ≤ 4096 → h.updates < 2 ^ 32 → Ended (header_text h) × (length (header_text h) ≤ longest)
 unfolding table_line
 table_held h w k u = (
   line_ended word_table (decimal h.width ∷ decimal h.height ∷ decimal h.updates ∷ []) table_plain (plains_of_table h.width h.height h.updates),
   omega (arith, table_length h.width h.height h.updates, decimal_short h.width 3 (omega arith), decimal_short h.height 3 (omega arith), decimal_short h.updates 9 (omega arith)),
 )
 
-region_held : (e : Edges) → Ended (edges_text e) × (length (edges_text e) ≤ longest)
+region_held : (e : RegionLine) → Ended (edges_text e) × (length (edges_text e) ≤ longest)
 unfolding region_text
 region_held e = (
   line_ended word_region (hex 16 e.left ∷ hex 16 e.top ∷ hex 16 e.right ∷ hex 16 e.bottom ∷ []) region_plain (plains_of_region e),
   omega (arith, region_length e.left e.top e.right e.bottom),
 )
 
-cell_held : (c : Cell) → c.u ≤ 4096 → c.v ≤ 4096 → Ended (text_of_cell c) × (length (text_of_cell c) ≤ longest)
+cell_held : (c : CellLine) → c.u ≤ 4096 → c.v ≤ 4096 → Ended (text_of_cell c) × (length (text_of_cell c) ≤ longest)
 unfolding cell_text
 cell_held c u v = (
   line_ended word_cell (decimal c.u ∷ decimal c.v ∷ hex 8 c.a ∷ hex 8 c.b ∷ []) cell_plain (plains_of_cell c),

@@ -2,7 +2,7 @@
 use mathlib.Core.Path.{◌≡◌, refl, sym, ap, ap₂, ◌∙◌}
 use mathlib.Core.Bool.{Bool, true, false, cond, ◌&&◌, false≢true}
 use mathlib.Core.List.{List, [], ◌∷◌}
-use mathlib.Core.Option.{Option, none, some}
+use Rattle.std.proofs.Common.{Option, Some, None}
 use Prim.Native.Nat.{ℕ, suc, ◌+◌, ◌*◌, ◌^◌, ◌≤◌, ◌<◌}
 use native.Mathlib.Nat.{mul_comm, mul-le-mul_right, suc-mul}
 use native.Mathlib.Omega.{arith}
@@ -13,13 +13,13 @@ use Rattle.decimal.proofs.Bytes.{both}
 use Rattle.region.proofs.Size.{is_sized}
 use Rattle.region.specs.Size.{sized, Sized}
 use Rattle.listing_lines.specs.Line.{cell_text}
-use Rattle.listing_lines.specs.Read.{single, Header, fair_numbers, read_table, table_told, Edges, edges_text, read_region, region_told, Cell, read_cell, cell_told}
 use Rattle.listing_lines.specs.declared.TableLine.{TableLine}
-use Rattle.listing_lines.specs.declared.TableLine.TheVariants.{Table, NoTable}
 use Rattle.listing_lines.specs.declared.RegionLine.{RegionLine}
-use Rattle.listing_lines.specs.declared.RegionLine.TheVariants.{Region, NoRegion}
 use Rattle.listing_lines.specs.declared.CellLine.{CellLine}
-use Rattle.listing_lines.specs.declared.CellLine.TheVariants as line
+use Rattle.listing_lines.specs.Read.{single, fair_numbers, read_table, edges_text, read_region, read_cell}
+use Rattle.listing_lines.specs.declared.TableLine.{TableLine}
+use Rattle.listing_lines.specs.declared.RegionLine.{RegionLine}
+use Rattle.listing_lines.specs.declared.CellLine.{CellLine}
 use Rattle.listing_lines.proofs.Reading.{both_true}
 use Rattle.listing_lines.proofs.Laws.{table_read, only_table, region_read, only_region, cell_read, only_cell}
 use Rattle.listing.specs.Listing.{across, down, cell_texts}
@@ -55,34 +55,6 @@ past_the_last w h u v l e = by_row (ltb v h) (ltb h v) refl refl
         let i : v ≡ h = omega (arith, ltb-false v h f, ltb-false h v g) in
         (omega (arith, e, ap (λ (k : ℕ). k * w) i, mul_comm w h), i)
 
--- ---- what a line tells is what was read of it
-
-told_cell : (o : Option Cell) (x y a b : ℕ) → cell_told o ≡ line.Cell x y a b → o ≡ some (record { u = x; v = y; a = a; b = b })
-told_cell none x y a b e = let z : ◌≡◌ {A = ℕ} 0 1 = cc in absurd (omega arith)
-told_cell (some c) x y a b e =
-    let eu : c.u ≡ x = cc in
-    let ev : c.v ≡ y = cc in
-    let ea : c.a ≡ a = cc in
-    let eb : c.b ≡ b = cc in
-    ap some (rw (← eu, ← ev, ← ea, ← eb) refl)
-
-told_table : (o : Option Header) (w h n : ℕ) → table_told o ≡ Table w h n → o ≡ some (record { width = w; height = h; updates = n })
-told_table none w h n e = let z : ◌≡◌ {A = ℕ} 0 1 = cc in absurd (omega arith)
-told_table (some c) w h n e =
-    let ew : c.width ≡ w = cc in
-    let eh : c.height ≡ h = cc in
-    let en : c.updates ≡ n = cc in
-    ap some (rw (← ew, ← eh, ← en) refl)
-
-told_region : (o : Option Edges) (l t r b : ℕ) → region_told o ≡ Region l t r b → o ≡ some (record { left = l; top = t; right = r; bottom = b })
-told_region none l t r b e = let z : ◌≡◌ {A = ℕ} 0 1 = cc in absurd (omega arith)
-told_region (some c) l t r b e =
-    let el : c.left ≡ l = cc in
-    let et : c.top ≡ t = cc in
-    let er : c.right ≡ r = cc in
-    let eb : c.bottom ≡ b = cc in
-    ap some (rw (← el, ← et, ← er, ← eb) refl)
-
 -- ---- one cell's line
 
 next_only :
@@ -110,7 +82,7 @@ next_taken w h u v i j = simp (eq-eqb u u refl, eq-eqb v v refl, lt-ltb u w i, l
 
 -- ---- the cells' lines
 
--- some lines are those of the cells from a place on to the last
+-- Some lines are those of the cells from a place on to the last
 record Rest (w h u v : ℕ) (lines : List (List ℕ)) : Type 0 where
   cells : List ℕ
   singles : all_single cells ≡ true
@@ -123,27 +95,27 @@ module _ (w h : ℕ) where
   cells_only [] u v l m e =
       let f : v ≡ h = eqb-true v h e in
       record { cells = []; singles = refl; is = refl; count = omega (arith, m, ap (λ (k : ℕ). k * w) f, mul_comm w h) }
-  cells_only (text ∷ lines) u v l m e = by_line (λ u' v'. cells_only lines u' v') (cell_told (read_cell text)) refl e
+  cells_only (text ∷ lines) u v l m e = by_line (λ u' v'. cells_only lines u' v') (read_cell text) refl e
     where
       by_line :
           ((u' v' : ℕ) → u' < w → v' * w + u' ≤ w * h → whole (judged (at.Cells w h u' v') lines) ≡ true → Rest w h u' v' lines) →
-          (r : CellLine) → cell_told (read_cell text) ≡ r → whole (judged (after_cell w h u v r) lines) ≡ true → Rest w h u v (text ∷ lines)
-      by_line more line.NoCell f g = never lines g
-      by_line more (line.Cell x y a b) f g =
-          let n = next_only w h u v x y lines g in
-          let o = only_cell text (record { u = x; v = y; a = a; b = b }) (told_cell (read_cell text) x y a b f) in
-          let s = (both_true (single x && single y) _ o.1).1 in
-          let t = both_true (single a) (single b) s in
+          (r : Option CellLine) → read_cell text ≡ r → whole (judged (after_cell w h u v r) lines) ≡ true → Rest w h u v (text ∷ lines)
+      by_line more None f g = never lines g
+      by_line more (Some c) f g =
+          let n = next_only w h u v c.u c.v lines g in
+          let o = only_cell text c f in
+          let s = (both_true (single c.u && single c.v) _ o.1).1 in
+          let t = both_true (single c.a) (single c.b) s in
           let k = next w u v l in
           let i : v * w + u < w * h = before_end w h u v l n.1.0 in
-          let c = more (across w u) (down w u v) k.0 (omega (arith, k.1, i)) n.1.1 in
+          let r = more (across w u) (down w u v) k.0 (omega (arith, k.1, i)) n.1.1 in
           record {
-            cells = a ∷ b ∷ c.cells;
-            singles = both t.0 (both t.1 c.singles);
+            cells = c.a ∷ c.b ∷ r.cells;
+            singles = both t.0 (both t.1 r.singles);
             is =
-                ap₂ (λ (p : List ℕ) (q : List (List ℕ)). p ∷ q) (o.0 ∙ ap₂ (λ (p q : ℕ). cell_text p q a b) n.0.0 n.0.1) c.is
-                ∙ sym (ap (λ (t : Bool). cond t (cell_text u v a b ∷ cell_texts w h (across w u) (down w u v) c.cells) []) (lt-ltb v h n.1.0));
-            count = omega (arith, c.count, k.1);
+                ap₂ (λ (p : List ℕ) (q : List (List ℕ)). p ∷ q) (o.0 ∙ ap₂ (λ (p q : ℕ). cell_text p q c.a c.b) n.0.0 n.0.1) r.is
+                ∙ sym (ap (λ (t : Bool). cond t (cell_text u v c.a c.b ∷ cell_texts w h (across w u) (down w u v) r.cells) []) (lt-ltb v h n.1.0));
+            count = omega (arith, r.count, k.1);
           }
 
   cells_back :
@@ -166,31 +138,31 @@ module _ (w h : ℕ) where
 
 -- ---- the table's line and the region's
 
--- some lines are those of a listing
+-- Some lines are those of a listing
 pub record Listing (lines : List (List ℕ)) : Type 0 where
   pub told : Listed
   pub fair : Fair told
   pub is : lines ≡ listed_lines told
 
-module _ (first second : List ℕ) (w h n : ℕ) (f : read_table first ≡ some (record { width = w; height = h; updates = n })) (s : Sized w h) where
+module _ (first second : List ℕ) (header : TableLine) (f : read_table first ≡ Some header) (s : Sized header.width header.height) where
   by_region :
-      (lines : List (List ℕ)) (r : RegionLine) →
-      region_told (read_region second) ≡ r →
-      whole (judged (after_region w h r) lines) ≡ true →
+      (lines : List (List ℕ)) (r : Option RegionLine) →
+      read_region second ≡ r →
+      whole (judged (after_region header.width header.height r) lines) ≡ true →
       Listing (first ∷ second ∷ lines)
   unfolding listed_lines
-  by_region lines NoRegion e g = never lines g
-  by_region lines (Region l t r b) e g =
-      let header : Header = record { width = w; height = h; updates = n } in
-      let edges : Edges = record { left = l; top = t; right = r; bottom = b } in
+  by_region lines None e g = never lines g
+  by_region lines (Some edges) e g =
+      let w = header.width in
+      let h = header.height in
       let c = cells_only w h lines 0 0 (omega (arith, s.wide)) (omega arith) g in
       let o = only_table first header f in
-      let q = only_region second edges (told_region (read_region second) l t r b e) in
+      let q = only_region second edges e in
       record {
         told = record { header = header; edges = edges; cells = c.cells };
         fair = record {
           size = s;
-          updates = ltb-true n (2 ^ 32) (both_true (single h) _ (both_true (single w) _ o.1).1).1;
+          updates = ltb-true header.updates (2 ^ 32) (both_true (single h) _ (both_true (single w) _ o.1).1).1;
           edges = q.1;
           count = omega (arith, c.count);
           singles = c.singles;
@@ -200,24 +172,24 @@ module _ (first second : List ℕ) (w h n : ℕ) (f : read_table first ≡ some 
 
 module _ (first : List ℕ) where
   by_size :
-      (lines : List (List ℕ)) (w h n : ℕ) → table_told (read_table first) ≡ Table w h n →
-      (t : Bool) → sized w h ≡ t → whole (judged (cond t (at.Sized w h) at.Bad) lines) ≡ true → Listing (first ∷ lines)
+      (lines : List (List ℕ)) (header : TableLine) → read_table first ≡ Some header →
+      (t : Bool) → sized header.width header.height ≡ t → whole (judged (cond t (at.Sized header.width header.height) at.Bad) lines) ≡ true → Listing (first ∷ lines)
   unfolding judged step
-  by_size lines w h n e false f g = never lines g
-  by_size [] w h n e true f g = absurd (false≢true g)
-  by_size (second ∷ lines) w h n e true f g =
-      by_region first second w h n (told_table (read_table first) w h n e) (is_sized w h f) lines (region_told (read_region second)) refl g
+  by_size lines header e false f g = never lines g
+  by_size [] header e true f g = absurd (false≢true g)
+  by_size (second ∷ lines) header e true f g =
+      by_region first second header e (is_sized header.width header.height f) lines (read_region second) refl g
 
-  by_table : (lines : List (List ℕ)) (r : TableLine) → table_told (read_table first) ≡ r → whole (judged (after_table r) lines) ≡ true → Listing (first ∷ lines)
-  by_table lines NoTable e g = never lines g
-  by_table lines (Table w h n) e g = by_size lines w h n e (sized w h) refl g
+  by_table : (lines : List (List ℕ)) (r : Option TableLine) → read_table first ≡ r → whole (judged (after_table r) lines) ≡ true → Listing (first ∷ lines)
+  by_table lines None e g = never lines g
+  by_table lines (Some header) e g = by_size lines header e (sized header.width header.height) refl g
 
 -- ---- both ways
 
 pub whole_only : (lines : List (List ℕ)) → whole (judged at.Start lines) ≡ true → Listing lines
 unfolding judged step
 whole_only [] e = absurd (false≢true e)
-whole_only (first ∷ lines) e = by_table first lines (table_told (read_table first)) refl e
+whole_only (first ∷ lines) e = by_table first lines (read_table first) refl e
 
 pub whole_back : (l : Listed) → Fair l → judged at.Start (listed_lines l) ≡ at.Cells l.header.width l.header.height 0 l.header.height
 unfolding judged step listed_lines
@@ -228,7 +200,7 @@ whole_back l f =
     both (lt-ltb h.width (2 ^ 32) (omega (arith, s.not_wider))) (both (lt-ltb h.height (2 ^ 32) (omega (arith, s.not_higher))) (lt-ltb h.updates (2 ^ 32) f.updates)) in
     let second = edges_text l.edges in
     let cells = cell_texts h.width h.height 0 0 l.cells in
-    ap (λ (o : Option Header). judged (step (after_table (table_told o)) second) cells) (table_read h g)
+    ap (λ (o : Option TableLine). judged (step (after_table o) second) cells) (table_read h g)
     ∙ ap (λ (t : Bool). judged (step (cond t (at.Sized h.width h.height) at.Bad) second) cells) (of_size h.width h.height s)
-    ∙ ap (λ (o : Option Edges). judged (after_region h.width h.height (region_told o)) cells) (region_read l.edges f.edges)
+    ∙ ap (λ (o : Option RegionLine). judged (after_region h.width h.height o) cells) (region_read l.edges f.edges)
     ∙ cells_back h.width h.height s.not_wider s.not_higher l.cells 0 0 (omega (arith, s.wide)) f.singles (omega (arith, f.count))

@@ -2,7 +2,7 @@
 use mathlib.Core.Path.{◌≡◌, refl, sym, ap, ap₂, ◌∙◌}
 use mathlib.Core.Bool.{true, false, cond}
 use mathlib.Core.List.{List, [], ◌∷◌, ◌++◌, append-nil}
-use mathlib.Core.Option.{Option, none, some}
+use Rattle.std.proofs.Common.{Option, Some, None, is_some}
 use Prim.Native.Nat.{ℕ, ◌+◌, ◌*◌, ◌-◌}
 use native.Mathlib.Omega.{arith}
 use borrow.Author.Tests.{eq-eqb, eqb-true}
@@ -21,7 +21,7 @@ use Rattle.listing.specs.Read.{Listed, listed_text, fair, read_listing}
 use Rattle.listing.proofs.Fair.{is_fair}
 use Rattle.listing.proofs.Laws.{listing_read, only_listing}
 use Rattle.compare.specs.Report.{both_lines, differing, told_at, one_size, report, report_or_refusal, compared}
-use Rattle.compare.specs.Judged.{longest, line_end, complete, cut, judged, whole, is_some}
+use Rattle.compare.specs.Judged.{longest, line_end, complete, cut, judged, whole}
 use Rattle.compare.specs.Told.{by_lines}
 use Rattle.compare.specs.declared.Judging.TheVariants.{Start}
 use Rattle.compare.proofs.Ahead as ahead
@@ -51,11 +51,11 @@ judge_exactly = whole_exactly
 -- So the judge takes what is written of anything that a listing may tell: with `printed_read`, all that the printer
 -- prints of a finished table.
 pub printed_taken : (l : Listed) → fair l ≡ true → whole (judged Start (cut longest (listed_text l))) ≡ true
-printed_taken l f = whole_exactly (listed_text l) ∙ ap is_some (listing_read l f)
+printed_taken l f = whole_exactly (listed_text l) ∙ ap (λ (o : Option Listed). is_some o) (listing_read l f)
 
 -- ---- the report
 
-module _ (old new : List ℕ) (l m : Listed) (e : read_listing old ≡ some l) (f : read_listing new ≡ some m) where
+module _ (old new : List ℕ) (l m : Listed) (e : read_listing old ≡ Some l) (f : read_listing new ≡ Some m) where
   -- Of two listings of other sizes there is only the line that says 15.
   pub sizes_differ : one_size l.header m.header ≡ false → compared old new ≡ refused_line 15
   unfolding compared joined
@@ -90,7 +90,7 @@ module _ (old new : List ℕ) (l m : Listed) (e : read_listing old ≡ some l) (
       (both_lines (edges_text l.edges) (edges_text m.edges) ++ (cells ++ (count_line (length cells) ∷ []))))) d)
 
 -- A listing compared with itself: `count`, tab, 0, and nothing else.
-pub equal_listings : (text : List ℕ) (l : Listed) → read_listing text ≡ some l → compared text text ≡ count_line 0
+pub equal_listings : (text : List ℕ) (l : Listed) → read_listing text ≡ Some l → compared text text ≡ count_line 0
 unfolding compared report joined
 equal_listings text l e =
     simp (
@@ -108,21 +108,21 @@ pub equal_only : (old new : List ℕ) → compared old new ≡ count_line 0 → 
 equal_only = equal_texts
 
 -- Where the old text is no listing, there is only the line that says 14,
-pub refusal_alone : (old new : List ℕ) → read_listing old ≡ none → compared old new ≡ refused_line 14
+pub refusal_alone : (old new : List ℕ) → read_listing old ≡ None → compared old new ≡ refused_line 14
 unfolding compared joined
 refusal_alone old new e = simp e (append-nil (refused_line 14))
 
--- whatever the new one is; and so where the new one is none, though the sizes should differ.
-pub refusal_alone_new : (old new : List ℕ) → read_listing new ≡ none → compared old new ≡ refused_line 14
+-- whatever the new one is; and so where the new one is None, though the sizes should differ.
+pub refusal_alone_new : (old new : List ℕ) → read_listing new ≡ None → compared old new ≡ refused_line 14
 unfolding compared joined
 refusal_alone_new old new e = by_old (read_listing old)
   where
     by_old : (o : Option Listed) → joined (report_or_refusal o (read_listing new)) ≡ refused_line 14
-    by_old none = append-nil (refused_line 14)
-    by_old (some l) = simp e (append-nil (refused_line 14))
+    by_old None = append-nil (refused_line 14)
+    by_old (Some l) = simp e (append-nil (refused_line 14))
 
 -- The line of a refusal, which the printer prints where there is no table, is no listing.
-pub refused_no_listing : (n : ℕ) → read_listing (refused_line n) ≡ none
+pub refused_no_listing : (n : ℕ) → read_listing (refused_line n) ≡ None
 refused_no_listing = refused_unread
 
 -- `count`, tab, `0`, line end

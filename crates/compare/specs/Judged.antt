@@ -1,18 +1,14 @@
 -- A text cut into lines as they are held, and judged line by line. Definitions only.
 use Rattle.std.specs.Prelude.{Bool, true, false, cond, ◌&&◌, List, [], ◌∷◌, ℕ, zero, suc, eqb, ltb}
-use Rattle.std.proofs.Math.Option.{Option, none, some}
+use Rattle.std.specs.Prelude.{Option, Some, None, Ok, Err}
 use Rattle.decimal.specs.Text.{newline}
-use Rattle.lens.specs.declared.Judgement.{Judgement}
-use Rattle.lens.specs.declared.Judgement.TheVariants.{Taken, Refused}
+use Rattle.lens.specs.Judgement.{Judgement}
 use Rattle.lens.specs.declared.Refusal.TheVariants.{NotTheForm, SizesDiffer}
 use Rattle.region.specs.Size.{sized}
-use Rattle.listing_lines.specs.Read.{onto, read_table, table_told, read_region, region_told, read_cell, cell_told}
+use Rattle.listing_lines.specs.Read.{onto, read_table, read_region, read_cell}
 use Rattle.listing_lines.specs.declared.TableLine.{TableLine}
-use Rattle.listing_lines.specs.declared.TableLine.TheVariants.{Table, NoTable}
 use Rattle.listing_lines.specs.declared.RegionLine.{RegionLine}
-use Rattle.listing_lines.specs.declared.RegionLine.TheVariants.{Region, NoRegion}
 use Rattle.listing_lines.specs.declared.CellLine.{CellLine}
-use Rattle.listing_lines.specs.declared.CellLine.TheVariants.{Cell, NoCell}
 use Rattle.listing.specs.Listing.{across, down}
 use Rattle.compare.specs.declared.Judging.{Judging}
 use Rattle.compare.specs.declared.Judging.TheVariants.{Start, Sized, Cells, Bad}
@@ -44,13 +40,13 @@ cut (suc (suc room)) (b ∷ text) = cond (eqb b newline) ((b ∷ []) ∷ cut lon
 
 -- ---- judging
 
-abbrev pub after_table : TableLine → Judging
-after_table (Table width height updates) = cond (sized width height) (Sized width height) Bad
-after_table NoTable = Bad
+abbrev pub after_table : Option TableLine → Judging
+after_table (Some t) = cond (sized t.width t.height) (Sized t.width t.height) Bad
+after_table None = Bad
 
-abbrev pub after_region : ℕ → ℕ → RegionLine → Judging
-after_region width height (Region l t r b) = Cells width height 0 0
-after_region width height NoRegion = Bad
+abbrev pub after_region : ℕ → ℕ → Option RegionLine → Judging
+after_region width height (Some r) = Cells width height 0 0
+after_region width height None = Bad
 
 -- the line tells of (x, y); the next cell is (u, v)
 unfoldable pub next_cell : ℕ → ℕ → ℕ → ℕ → ℕ → ℕ → Judging
@@ -59,14 +55,14 @@ next_cell width height u v x y =
     (Cells width height (across width u) (down width u v))
     Bad
 
-abbrev pub after_cell : ℕ → ℕ → ℕ → ℕ → CellLine → Judging
-after_cell width height u v (Cell x y a b) = next_cell width height u v x y
-after_cell width height u v NoCell = Bad
+abbrev pub after_cell : ℕ → ℕ → ℕ → ℕ → Option CellLine → Judging
+after_cell width height u v (Some c) = next_cell width height u v c.u c.v
+after_cell width height u v None = Bad
 
 unfoldable pub step : Judging → List ℕ → Judging
-step Start text = after_table (table_told (read_table text))
-step (Sized width height) text = after_region width height (region_told (read_region text))
-step (Cells width height u v) text = after_cell width height u v (cell_told (read_cell text))
+step Start text = after_table (read_table text)
+step (Sized width height) text = after_region width height (read_region text)
+step (Cells width height u v) text = after_cell width height u v (read_cell text)
 step Bad text = Bad
 
 -- line by line
@@ -80,11 +76,6 @@ whole (Cells width height u v) = eqb v height
 whole Start = false
 whole (Sized width height) = false
 whole Bad = false
-
--- whether something was read
-abbrev pub is_some : {A : Type 0} → Option A → Bool
-is_some none = false
-is_some (some x) = true
 
 abbrev pub is_size : ℕ → ℕ → Judging → Bool
 is_size width height (Cells w h u v) = eqb width w && eqb height h
@@ -100,4 +91,4 @@ same_size Bad t = false
 
 -- of two texts
 unfoldable pub verdict : Judging → Judging → Judgement
-verdict s t = cond (whole s && whole t) (cond (same_size s t) Taken (Refused SizesDiffer)) (Refused NotTheForm)
+verdict s t = cond (whole s && whole t) (cond (same_size s t) (Ok tt) (Err SizesDiffer)) (Err NotTheForm)

@@ -1,13 +1,14 @@
 -- What is printed of two texts (docs/RULES.md, 16): the cells that differ between two listings of one size, or one line
 -- that says which refusal. Definitions only.
 use Rattle.std.specs.Prelude.{Bool, cond, ◌&&◌, List, [], ◌∷◌, ◌++◌, ℕ, ◌+◌, ◌*◌, ◌/◌, ◌%◌, eqb, length, get_or}
-use Rattle.std.proofs.Math.Option.{Option, none, some}
+use Rattle.std.specs.Prelude.{Option, Some, None}
 use Rattle.decimal.specs.Text.{same}
 use Rattle.lens.specs.Refusal.{number}
 use Rattle.lens.specs.declared.Refusal.TheVariants.{NotTheForm, SizesDiffer}
 use Rattle.put_text.specs.Placed.{joined}
 use Rattle.listing_lines.specs.Line.{difference_line, count_line, refused_line}
-use Rattle.listing_lines.specs.Read.{Header, header_text, edges_text}
+use Rattle.listing_lines.specs.declared.TableLine.{TableLine}
+use Rattle.listing_lines.specs.Read.{header_text, edges_text}
 use Rattle.listing.specs.Listing.{across, down}
 use Rattle.listing.specs.Read.{Listed, read_listing}
 
@@ -46,15 +47,15 @@ report l m =
 
 -- ---- two texts
 
-abbrev pub one_size : Header → Header → Bool
+abbrev pub one_size : TableLine → TableLine → Bool
 one_size g h = eqb g.width h.width && eqb g.height h.height
 
 -- 14 where either is no listing, then 15 where their sizes differ
 abbrev pub report_or_refusal : Option Listed → Option Listed → List (List ℕ)
-report_or_refusal (some l) (some m) =
+report_or_refusal (Some l) (Some m) =
     cond (one_size l.header m.header) (report l m) (refused_line (number SizesDiffer) ∷ [])
-report_or_refusal (some l) none = refused_line (number NotTheForm) ∷ []
-report_or_refusal none m = refused_line (number NotTheForm) ∷ []
+report_or_refusal (Some l) None = refused_line (number NotTheForm) ∷ []
+report_or_refusal None m = refused_line (number NotTheForm) ∷ []
 
 unfoldable pub compared : List ℕ → List ℕ → List ℕ
 compared old new = joined (report_or_refusal (read_listing old) (read_listing new))

@@ -1,13 +1,12 @@
 -- What is told of two lines, one of each text, and of two texts line by line. Definitions only.
-use Rattle.std.specs.Prelude.{cond, List, [], ◌∷◌, ◌++◌, ℕ, ◌+◌, ◌^◌, ltb}
+use Rattle.std.specs.Prelude.{cond, Option, Some, None, List, [], ◌∷◌, ◌++◌, ℕ, ◌+◌, ◌^◌, ltb}
 use Rattle.decimal.specs.Text.{same}
 use Rattle.lens.specs.Judgement.{decided}
 use Rattle.lens.specs.Refusal.{number}
 use Rattle.put_text.specs.Placed.{joined}
 use Rattle.listing_lines.specs.Line.{difference_line, count_line, refused_line}
-use Rattle.listing_lines.specs.Read.{read_cell, cell_told}
+use Rattle.listing_lines.specs.Read.{read_cell}
 use Rattle.listing_lines.specs.declared.CellLine.{CellLine}
-use Rattle.listing_lines.specs.declared.CellLine.TheVariants.{Cell, NoCell}
 use Rattle.compare.specs.Judged.{longest, cut, judged, verdict}
 use Rattle.compare.specs.declared.Difference.{Difference}
 use Rattle.compare.specs.declared.Difference.TheVariants.{Same, Lines, Cells}
@@ -15,13 +14,13 @@ use Rattle.compare.specs.declared.Judging.TheVariants.{Start}
 
 -- ---- two lines
 
-abbrev pub cells_told : CellLine → CellLine → Difference
-cells_told (Cell u v a b) (Cell x y c d) = Cells u v a b c d
-cells_told (Cell u v a b) NoCell = Lines
-cells_told NoCell new = Lines
+abbrev pub cells_told : Option CellLine → Option CellLine → Difference
+cells_told (Some c) (Some d) = Cells c.u c.v c.a c.b d.a d.b
+cells_told (Some c) None = Lines
+cells_told None new = Lines
 
 unfoldable pub told : List ℕ → List ℕ → Difference
-told old new = cond (same old new) Same (cells_told (cell_told (read_cell old)) (cell_told (read_cell new)))
+told old new = cond (same old new) Same (cells_told (read_cell old) (read_cell new))
 
 -- how many cells differ, with one answer more
 unfoldable pub counted : ℕ → Difference → ℕ

@@ -8,14 +8,17 @@ ghost use Rattle.compare.specs.Judged.{is_size, same_size, verdict};
 ghost use Rattle.compare.specs.declared.Judging.TheVariants.{Start};
 ghost use Rattle.compare.specs.Told.{cells_told, told, counted, told_lines};
 
-use lens::{Judgement, Refusal};
+use lens::Refusal;
 use listing_lines::{CellLine, RegionLine, TableLine};
 
 // As many bytes of a line as are held. The longest of a listing has 75; of a longer one the first piece is no line.
 pub const LINE: usize = 96;
 
+// 2^32, where counting stops: no listing has so many cells.
+const MOST: u64 = 4294967296;
+
 // How far a text is judged.
-#[derive(Clone, Copy)]
+#[derive(Clone, Copy, Debug, PartialEq, Eq)]
 pub enum Judging {
     // the table's line comes next
     Start,
@@ -37,7 +40,7 @@ pub enum Judging {
 
 // What is told of two lines that stand at one place of two listings: nothing, both lines, or a cell whose bits differ,
 // with its old pair and its new.
-#[derive(Clone, Copy)]
+#[derive(Clone, Copy, Debug, PartialEq, Eq)]
 pub enum Difference {
     Same,
     Lines,
@@ -55,17 +58,15 @@ pub enum Difference {
 pub fn line_end(text: &[u8], room: usize) -> usize
     ensures { result ≡ line_end room text.now }
 {
-    let mut i = 0;
-    while i < text.len() {
+    for (i, b) in text.iter().enumerate() {
         if i == room {
             return i;
         }
-        if text[i] == b'\n' {
+        if *b == b'\n' {
             return i + 1;
         }
-        i += 1;
     }
-    i
+    text.len()
 }
 
 // Before the first line.
@@ -76,42 +77,29 @@ pub fn start() -> Judging
 }
 
 // After the first line.
-fn after_table(told: TableLine) -> Judging
+fn after_table(told: Option<TableLine>) -> Judging
     ensures { result ≡ after_table told }
 {
-    let TableLine::Table {
-        width,
-        height,
-        updates: _,
-    } = told
-    else {
-        return Judging::Bad;
-    };
-    if region::sized(width as usize, height as usize) {
-        Judging::Sized { width, height }
-    } else {
-        Judging::Bad
+    match told {
+        Some(TableLine { width, height, .. }) if region::sized(width as usize, height as usize) => {
+            Judging::Sized { width, height }
+        }
+        _ => Judging::Bad,
     }
 }
 
 // After the second.
-fn after_region(width: u32, height: u32, told: RegionLine) -> Judging
+fn after_region(width: u32, height: u32, told: Option<RegionLine>) -> Judging
     ensures { result ≡ after_region width height told }
 {
-    let RegionLine::Region {
-        left: _,
-        top: _,
-        right: _,
-        bottom: _,
-    } = told
-    else {
-        return Judging::Bad;
-    };
-    Judging::Cells {
-        width,
-        height,
-        u: 0,
-        v: 0,
+    match told {
+        Some(_) => Judging::Cells {
+            width,
+            height,
+            u: 0,
+            v: 0,
+        },
+        None => Judging::Bad,
     }
 }
 
@@ -119,16 +107,7 @@ fn after_region(width: u32, height: u32, told: RegionLine) -> Judging
 fn next_cell(width: u32, height: u32, u: u32, v: u32, x: u32, y: u32) -> Judging
     ensures { result ≡ next_cell width height u v x y }
 {
-    if x != u {
-        return Judging::Bad;
-    }
-    if y != v {
-        return Judging::Bad;
-    }
-    if u >= width {
-        return Judging::Bad;
-    }
-    if v >= height {
+    if x != u || y != v || u >= width || v >= height {
         return Judging::Bad;
     }
     if u + 1 == width {
@@ -149,19 +128,13 @@ fn next_cell(width: u32, height: u32, u: u32, v: u32, x: u32, y: u32) -> Judging
 }
 
 // After a line from the third on.
-fn after_cell(width: u32, height: u32, u: u32, v: u32, told: CellLine) -> Judging
+fn after_cell(width: u32, height: u32, u: u32, v: u32, told: Option<CellLine>) -> Judging
     ensures { result ≡ after_cell width height u v told }
 {
-    let CellLine::Cell {
-        u: x,
-        v: y,
-        a: _,
-        b: _,
-    } = told
-    else {
-        return Judging::Bad;
-    };
-    next_cell(width, height, u, v, x, y)
+    match told {
+        Some(cell) => next_cell(width, height, u, v, cell.u, cell.v),
+        None => Judging::Bad,
+    }
 }
 
 // The judgement with one line more.
@@ -189,40 +162,14 @@ pub fn step(s: Judging, line: &[u8]) -> Judging
 pub fn whole(s: Judging) -> bool
     ensures { result ≡ whole s }
 {
-    match s {
-        Judging::Start => false,
-        Judging::Sized {
-            width: _,
-            height: _,
-        } => false,
-        Judging::Cells {
-            width: _,
-            height,
-            u: _,
-            v,
-        } => v == height,
-        Judging::Bad => false,
-    }
+    matches!(s, Judging::Cells { height, v, .. } if v == height)
 }
 
 // Whether a listing is of this size,
 fn is_size(width: u32, height: u32, t: Judging) -> bool
     ensures { result ≡ is_size width height t }
 {
-    match t {
-        Judging::Start => false,
-        Judging::Sized {
-            width: _,
-            height: _,
-        } => false,
-        Judging::Cells {
-            width: w,
-            height: h,
-            u: _,
-            v: _,
-        } => { if width == w { height == h } else { false } }
-        Judging::Bad => false,
-    }
+    matches!(t, Judging::Cells { width: w, height: h, .. } if width == w && height == h)
 }
 
 // and whether two are of one size.
@@ -230,82 +177,59 @@ fn same_size(s: Judging, t: Judging) -> bool
     ensures { result ≡ same_size s t }
 {
     match s {
-        Judging::Start => false,
-        Judging::Sized {
-            width: _,
-            height: _,
-        } => false,
-        Judging::Cells {
-            width,
-            height,
-            u: _,
-            v: _,
-        } => is_size(width, height, t),
-        Judging::Bad => false,
+        Judging::Cells { width, height, .. } => is_size(width, height, t),
+        _ => false,
     }
 }
 
 // Whether two texts that are judged to the end are compared: 14 where either is no listing, then 15 where their sizes
 // differ.
-pub fn verdict(s: Judging, t: Judging) -> Judgement
+pub fn verdict(s: Judging, t: Judging) -> Result<(), Refusal>
     ensures { result ≡ verdict s t }
 {
-    if whole(s) {
-        if whole(t) {
-            if same_size(s, t) {
-                return Judgement::Taken;
-            }
-            return Judgement::Refused(Refusal::SizesDiffer);
-        }
-        return Judgement::Refused(Refusal::NotTheForm);
+    if !whole(s) || !whole(t) {
+        return Err(Refusal::NotTheForm);
     }
-    Judgement::Refused(Refusal::NotTheForm)
+    if !same_size(s, t) {
+        return Err(Refusal::SizesDiffer);
+    }
+    Ok(())
 }
 
 // What is told of two lines that are not the same.
-fn cells_told(old: CellLine, new: CellLine) -> Difference
+fn cells_told(old: Option<CellLine>, new: Option<CellLine>) -> Difference
     ensures { result ≡ cells_told old new }
 {
-    let CellLine::Cell { u, v, a, b } = old else {
+    let (Some(old), Some(new)) = (old, new) else {
         return Difference::Lines;
     };
-    let CellLine::Cell {
-        u: _,
-        v: _,
-        a: c,
-        b: d,
-    } = new
-    else {
-        return Difference::Lines;
-    };
-    Difference::Cells { u, v, a, b, c, d }
+    Difference::Cells {
+        u: old.u,
+        v: old.v,
+        a: old.a,
+        b: old.b,
+        c: new.a,
+        d: new.b,
+    }
 }
 
 // What is told of two lines.
 pub fn compare(old: &[u8], new: &[u8]) -> Difference
     ensures { result ≡ told old.now new.now }
 {
-    if check::same(old, new) {
+    if old == new {
         return Difference::Same;
     }
     cells_told(listing_lines::read_cell(old), listing_lines::read_cell(new))
 }
 
-// How many cells differ, with what is told of one more pair of lines. It stops at 2^32, which no listing has.
+// How many cells differ, with what is told of one more pair of lines. It stops at MOST.
 pub fn counted(count: u64, told: Difference) -> u64
     ensures { result ≡ counted count told }
 {
     match told {
-        Difference::Same => count,
-        Difference::Lines => count,
-        Difference::Cells {
-            u: _,
-            v: _,
-            a: _,
-            b: _,
-            c: _,
-            d: _,
-        } => { if count < 4294967296 { count + 1 } else { count } }
+        Difference::Same | Difference::Lines => count,
+        Difference::Cells { .. } => if count < MOST { count + 1 } else { count },
     }
 }
 

@@ -3,7 +3,7 @@
 use mathlib.Core.Path.{◌≡◌, refl, sym, ap, ap₂, subst, ◌∙◌}
 use mathlib.Core.Bool.{Bool, true, false, cond, ◌&&◌}
 use mathlib.Core.List.{List, [], ◌∷◌, ◌++◌, append-nil}
-use mathlib.Core.Option.{Option, none, some}
+use Rattle.std.proofs.Common.{Option, Some, None}
 use Prim.Native.Nat.{ℕ, zero, suc, ◌+◌, ◌*◌, ◌/◌, ◌%◌, ◌<◌}
 use native.Mathlib.Omega.{arith}
 use borrow.Author.Tests.{eq-eqb, eqb-true}
@@ -13,7 +13,8 @@ use lib.ListN.{length, get_or}
 use Rattle.decimal.proofs.Bytes.{both}
 use Rattle.put_text.specs.Placed.{joined}
 use Rattle.listing_lines.specs.Line.{cell_text, differs_line}
-use Rattle.listing_lines.specs.Read.{single, header_text, edges_text, Cell}
+use Rattle.listing_lines.specs.declared.CellLine.{CellLine}
+use Rattle.listing_lines.specs.Read.{single, header_text, edges_text}
 use Rattle.listing_lines.proofs.Reading.{both_true}
 use Rattle.listing.specs.Listing.{cell_texts, each}
 use Rattle.listing.specs.Read.{lines, Listed, listed_lines, listed_text}
@@ -29,29 +30,29 @@ use Rattle.mending.proofs.Numbered.{cell_by_cell, single_at, cell_of_number, lin
 
 -- ---- one cell
 
-pub one_line : (o : Option Cell) (u v a b : ℕ) → mended_cell o u v a b ≡ cell_text u v (a_of o a) (b_of o b) ∷ []
-one_line none u v a b = refl
-one_line (some c) u v a b = refl
+pub one_line : (o : Option CellLine) (u v a b : ℕ) → mended_cell o u v a b ≡ cell_text u v (a_of o a) (b_of o b) ∷ []
+one_line None u v a b = refl
+one_line (Some c) u v a b = refl
 
 -- what is told of a cell that is given as it was mended
-module _ (o : Option Cell) (u v a b : ℕ) where
-  abbrev as_mended : Cell
+module _ (o : Option CellLine) (u v a b : ℕ) where
+  abbrev as_mended : CellLine
   as_mended = record { u = u; v = v; a = a_of o a; b = b_of o b }
 
-  same_line : mended_cell (some as_mended) u v a b ≡ mended_cell o u v a b
+  same_line : mended_cell (Some as_mended) u v a b ≡ mended_cell o u v a b
   same_line = sym (one_line o u v a b)
 
-  same_differs : differing_cell (some as_mended) u v a b ≡ differing_cell o u v a b
+  same_differs : differing_cell (Some as_mended) u v a b ≡ differing_cell o u v a b
   same_differs = by_given o
     where
-      by_given : (p : Option Cell) → differing_cell (some (record { u = u; v = v; a = a_of p a; b = b_of p b })) u v a b ≡ differing_cell p u v a b
-      by_given none = ap (λ (t : Bool). cond t [] (differs_line u v ∷ [])) (both (eq-eqb a a refl) (eq-eqb b b refl))
-      by_given (some c) = refl
+      by_given : (p : Option CellLine) → differing_cell (Some (record { u = u; v = v; a = a_of p a; b = b_of p b })) u v a b ≡ differing_cell p u v a b
+      by_given None = ap (λ (t : Bool). cond t [] (differs_line u v ∷ [])) (both (eq-eqb a a refl) (eq-eqb b b refl))
+      by_given (Some c) = refl
 
 -- one of which nothing is told differs nowhere
-fresh_line : (o : Option Cell) (u v a b : ℕ) → differing_cell o u v a b ≡ [] → mended_cell o u v a b ≡ cell_text u v a b ∷ []
-fresh_line none u v a b e = refl
-fresh_line (some c) u v a b e = by_test (eqb c.a a && eqb c.b b) refl e
+fresh_line : (o : Option CellLine) (u v a b : ℕ) → differing_cell o u v a b ≡ [] → mended_cell o u v a b ≡ cell_text u v a b ∷ []
+fresh_line None u v a b e = refl
+fresh_line (Some c) u v a b e = by_test (eqb c.a a && eqb c.b b) refl e
   where
     by_test :
         (t : Bool) → (eqb c.a a && eqb c.b b) ≡ t → cond t [] (differs_line u v ∷ []) ≡ [] →
@@ -85,7 +86,7 @@ module _ (l : Listed) (f : Fair l) where
   some_wide = omega (arith, f.size.wide)
 
   module _ (texts : List (List ℕ)) where
-    abbrev pub here : ℕ → Option Cell
+    abbrev pub here : ℕ → Option CellLine
     here k = given texts (k % w) (k / w)
 
     pub listing_by_number :
@@ -160,7 +161,7 @@ module _ (l : Listed) (f : Fair l) where
     abbrev pub again : List (List ℕ)
     again = lines (joined (mended_listing l texts) ++ rest)
 
-    pub given_again : (k : ℕ) → k < w * h → given again (k % w) (k / w) ≡ some (cell_of_number w (kept_a texts) (kept_b texts) k)
+    pub given_again : (k : ℕ) → k < w * h → given again (k % w) (k / w) ≡ Some (cell_of_number w (kept_a texts) (kept_b texts) k)
     given_again k i =
         ap (λ (t : List (List ℕ)). given (lines (joined t ++ rest)) (k % w) (k / w)) (mended_numbered texts)
         ∙ ap (λ (t : List (List ℕ)). given t (k % w) (k / w)) (numbered_cut l.header l.edges (kept_a texts) (kept_b texts) rest)
@@ -168,14 +169,14 @@ module _ (l : Listed) (f : Fair l) where
 
     -- what is told of the cells, told again
     same_again :
-        (tell more : Option Cell → ℕ → ℕ → ℕ → ℕ → List (List ℕ)) →
-        ((o : Option Cell) (u v a b : ℕ) → tell (some (as_mended o u v a b)) u v a b ≡ more o u v a b) →
+        (tell more : Option CellLine → ℕ → ℕ → ℕ → ℕ → List (List ℕ)) →
+        ((o : Option CellLine) (u v a b : ℕ) → tell (Some (as_mended o u v a b)) u v a b ≡ more o u v a b) →
         each (λ k. tell (given again (k % w) (k / w)) (k % w) (k / w) (fresh_a k) (fresh_b k)) 0 (w * h)
         ≡ each (λ k. more (given texts (k % w) (k / w)) (k % w) (k / w) (fresh_a k) (fresh_b k)) 0 (w * h)
     same_again tell more e =
         each_same (λ k. tell (given again (k % w) (k / w)) (k % w) (k / w) (fresh_a k) (fresh_b k))
         (λ k. more (given texts (k % w) (k / w)) (k % w) (k / w) (fresh_a k) (fresh_b k)) 0 (w * h)
-        (λ k p q. ap (λ (o : Option Cell). tell o (k % w) (k / w) (fresh_a k) (fresh_b k)) (given_again k (omega arith))
+        (λ k p q. ap (λ (o : Option CellLine). tell o (k % w) (k / w) (fresh_a k) (fresh_b k)) (given_again k (omega arith))
         ∙ e (given texts (k % w) (k / w)) (k % w) (k / w) (fresh_a k) (fresh_b k))
 
     pub listing_again : mended_listing l again ≡ mended_listing l texts
@@ -226,7 +227,7 @@ module _ (l : Listed) (f : Fair l) where
     is_again : again [] rest ≡ fresh_lines
     is_again = ap (λ (t : List ℕ). lines (t ++ rest)) fresh_text
 
-    pub given_fresh : (k : ℕ) → k < w * h → given fresh_lines (k % w) (k / w) ≡ some (cell_of_number w fresh_a fresh_b k)
+    pub given_fresh : (k : ℕ) → k < w * h → given fresh_lines (k % w) (k / w) ≡ Some (cell_of_number w fresh_a fresh_b k)
     unfolding given
     given_fresh k i = ap (λ (t : List (List ℕ)). given t (k % w) (k / w)) (sym is_again) ∙ given_again [] rest k i
 
@@ -283,13 +284,13 @@ module _ (l : Listed) (f : Fair l) where
 -- ---- another table's listing, of the same size
 
 module _ (l m : Listed) (f : Fair l) (g : Fair m) (p : m.header.width ≡ l.header.width) (q : m.header.height ≡ l.header.height) (rest : List ℕ) where
-  abbrev cells_of : ℕ → ℕ → Cell
+  abbrev cells_of : ℕ → ℕ → CellLine
   cells_of width k = cell_of_number width (fresh_a m g) (fresh_b m g) k
 
-  others_given : (k : ℕ) → k < l.header.width * l.header.height → given (lines (listed_text m ++ rest)) (k % l.header.width) (k / l.header.width) ≡ some (cells_of l.header.width k)
+  others_given : (k : ℕ) → k < l.header.width * l.header.height → given (lines (listed_text m ++ rest)) (k % l.header.width) (k / l.header.width) ≡ Some (cells_of l.header.width k)
   others_given k i =
       let size : m.header.width * m.header.height ≡ l.header.width * l.header.height = ap₂ (λ (x y : ℕ). x * y) p q in
-      subst (λ (x : ℕ). given (lines (listed_text m ++ rest)) (k % x) (k / x) ≡ some (cells_of x k)) p
+      subst (λ (x : ℕ). given (lines (listed_text m ++ rest)) (k % x) (k / x) ≡ Some (cells_of x k)) p
       (given_fresh m g rest k (omega arith))
 
   pub others_kept :
@@ -304,5 +305,5 @@ module _ (l m : Listed) (f : Fair l) (g : Fair m) (p : m.header.width ≡ l.head
       ∙ ap (λ (t : List (List ℕ)). header_text l.header ∷ edges_text l.edges ∷ t)
       (each_same (λ k. mended_cell (given texts (k % width) (k / width)) (k % width) (k / width) (fresh_a l f k) (fresh_b l f k))
       (λ k. cell_text (k % width) (k / width) (fresh_a m g k) (fresh_b m g k) ∷ []) 0 (width * height)
-      (λ k i j. ap (λ (o : Option Cell). mended_cell o (k % width) (k / width) (fresh_a l f k) (fresh_b l f k)) (others_given k (omega arith)))
+      (λ k i j. ap (λ (o : Option CellLine). mended_cell o (k % width) (k / width) (fresh_a l f k) (fresh_b l f k)) (others_given k (omega arith)))
       ∙ sym (cells_by_number width height m.cells long (some_wide l f)))

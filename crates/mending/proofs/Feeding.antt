@@ -2,7 +2,7 @@
 use mathlib.Core.Path.{◌≡◌, refl, sym, ap, ap₂, subst, ◌∙◌}
 use mathlib.Core.Bool.{Bool, true, false, cond, not, ◌&&◌}
 use mathlib.Core.List.{List, [], ◌∷◌, ◌++◌, append_assoc, append-nil}
-use mathlib.Core.Option.{Option, none, some}
+use Rattle.std.proofs.Common.{Option, Some, None}
 use Prim.Native.Nat.{ℕ, ◌+◌, ◌^◌, ◌≤◌, ◌<◌}
 use native.Mathlib.Numerals.{add-one}
 use native.Mathlib.Omega.{arith}
@@ -14,7 +14,8 @@ use Rattle.decimal.specs.Text.{all}
 use Rattle.decimal.proofs.Bytes.{both}
 use Rattle.decimal.proofs.Digits.{decimal_short}
 use Rattle.put_text.specs.Placed.{joined}
-use Rattle.listing_lines.specs.Read.{onto, single, Cell, read_cell}
+use Rattle.listing_lines.specs.declared.CellLine.{CellLine}
+use Rattle.listing_lines.specs.Read.{onto, single, read_cell}
 use Rattle.listing_lines.proofs.Length.{cell_length}
 use Rattle.listing_lines.proofs.Laws.{only_cell}
 use Rattle.listing_lines.proofs.Others.{goes_on, endless_no_cell}
@@ -39,12 +40,12 @@ fed_each width height s (piece ∷ pieces) =
 -- ---- texts that are no cell's line
 
 -- no cell's line has more than 45 bytes
-long_none : (text : List ℕ) → 45 < length text → read_cell text ≡ none
+long_none : (text : List ℕ) → 45 < length text → read_cell text ≡ None
 long_none text h = go (read_cell text) refl
   where
-    go : (o : Option Cell) → read_cell text ≡ o → o ≡ none
-    go none e = refl
-    go (some c) e =
+    go : (o : Option CellLine) → read_cell text ≡ o → o ≡ None
+    go None e = refl
+    go (Some c) e =
         let w = only_cell text c e in
         let x = both_true (single c.u) _ (both_true (single c.u && single c.v) _ w.1).0 in
         let u : c.u < 2 ^ 32 = ltb-true c.u (2 ^ 32) x.0 in
@@ -67,8 +68,7 @@ open_more : (s : List ℕ) (b : ℕ) → Open s → (b ≡ 10 → ⊥) → Open 
 open_more [] b o ne = (ne, tt)
 open_more (x ∷ s) b o ne = (o.0, open_more s b o.1 ne)
 
-open_none : (text : List ℕ) → Open text → read_cell text ≡ none
-unfolding all
+open_none : (text : List ℕ) → Open text → read_cell text ≡ None
 open_none text o = endless_no_cell text (endless text o)
   where
     endless : (s : List ℕ) → Open s → all goes_on s ≡ true
@@ -76,7 +76,7 @@ open_none text o = endless_no_cell text (endless text o)
     endless (b ∷ s) p = both (ap not (ne_eqb b 10 p.0)) (endless s p.1)
 
 module _ (width height : ℕ) where
-  keep_none : (map text : List ℕ) → read_cell text ≡ none → keep width height map text ≡ map
+  keep_none : (map text : List ℕ) → read_cell text ≡ None → keep width height map text ≡ map
   unfolding keep
   keep_none map text e = ap (keep_read width height map) e
 

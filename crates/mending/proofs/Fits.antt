@@ -3,7 +3,7 @@
 use mathlib.Core.Path.{◌≡◌, ap, ◌∙◌}
 use mathlib.Core.Bool.{Bool, true, false, cond, ◌&&◌}
 use mathlib.Core.List.{List, [], ◌∷◌, ◌++◌}
-use mathlib.Core.Option.{Option, none, some}
+use Rattle.std.proofs.Common.{Option, Some, None}
 use Prim.Native.Nat.{ℕ, ◌+◌, ◌*◌, ◌^◌, ◌≤◌, ◌<◌}
 use native.Mathlib.Omega.{arith}
 use lib.Dec.{eqb}
@@ -12,7 +12,8 @@ use Rattle.region.specs.Size.{Sized}
 use Rattle.decimal.proofs.Digits.{decimal_short}
 use Rattle.put_text.specs.Placed.{joined}
 use Rattle.listing_lines.specs.Line.{cell_text, filled_line, differs_line}
-use Rattle.listing_lines.specs.Read.{Cell, header_text, edges_text}
+use Rattle.listing_lines.specs.declared.CellLine.{CellLine}
+use Rattle.listing_lines.specs.Read.{header_text, edges_text}
 use Rattle.listing_lines.proofs.Length.{table_length, region_length, cell_length, filled_length, differs_length}
 use Rattle.listing.specs.Listing.{across, down}
 use Rattle.listing.specs.Read.{Listed}
@@ -25,12 +26,12 @@ use Rattle.mending.specs.declared.Kind.TheVariants.{Line, Filled, Differs}
 
 -- a cell has its line, and one of the report at most
 one_cell :
-    (o : Option Cell) (u v a b : ℕ) →
+    (o : Option CellLine) (u v a b : ℕ) →
     u < 10 ^ 4 →
     v < 10 ^ 4 →
     length (joined (mended_cell o u v a b)) + length (joined (filled_cell o u v a b)) + length (joined (differing_cell o u v a b)) ≤ 51
 unfolding joined
-one_cell none u v a b h k =
+one_cell None u v a b h k =
     omega (
       arith,
       length-append (cell_text u v a b) [],
@@ -40,7 +41,7 @@ one_cell none u v a b h k =
       decimal_short u 3 h,
       decimal_short v 3 k,
     )
-one_cell (some c) u v a b h k = go (eqb c.a a && eqb c.b b)
+one_cell (Some c) u v a b h k = go (eqb c.a a && eqb c.b b)
   where
     go : (t : Bool) → length (cell_text u v c.a c.b ++ []) + 0 + length (joined (cond t [] (differs_line u v ∷ []))) ≤ 51
     go true = omega (arith, length-append (cell_text u v c.a c.b) [], cell_length u v c.a c.b, decimal_short u 3 h, decimal_short v 3 k)
@@ -55,7 +56,7 @@ one_cell (some c) u v a b h k = go (eqb c.a a && eqb c.b b)
           decimal_short v 3 k,
         )
 
-module _ (given : ℕ → ℕ → Option Cell) (width height : ℕ) (h : width < 10 ^ 4) (k : height < 10 ^ 4) where
+module _ (given : ℕ → ℕ → Option CellLine) (width height : ℕ) (h : width < 10 ^ 4) (k : height < 10 ^ 4) where
   abbrev from : Kind → ℕ → ℕ → List ℕ → List (List ℕ)
   from kind u v cells = each_cell (λ x y. told kind (given x y) x y) width u v cells
 
@@ -79,7 +80,7 @@ module _ (given : ℕ → ℕ → Option Cell) (width height : ℕ) (h : width <
       omega (arith, more, one_cell o u v a b (omega arith) (omega arith), both Line, both Filled, both Differs)
 
 pub lines_short :
-    (given : ℕ → ℕ → Option Cell) (fresh : Listed) →
+    (given : ℕ → ℕ → Option CellLine) (fresh : Listed) →
     Sized fresh.header.width fresh.header.height →
     fresh.header.width * fresh.header.height ≤ 4096 →
     fresh.header.updates < 10 ^ 10 →

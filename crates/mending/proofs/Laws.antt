@@ -3,7 +3,7 @@
 use mathlib.Core.Path.{◌≡◌, sym, ap, ap₂, ◌∙◌, refl}
 use mathlib.Core.Bool.{true, not}
 use mathlib.Core.List.{List, [], ◌∷◌, ◌++◌}
-use mathlib.Core.Option.{Option, none, some}
+use Rattle.std.proofs.Common.{Option, Some, None}
 use Prim.Native.Nat.{ℕ, ◌+◌, ◌*◌, ◌/◌, ◌%◌, ◌<◌, ◌≤◌}
 use lib.Arith.{digits_div, digits_mod}
 use lib.Dec.{eqb}
@@ -16,7 +16,8 @@ use Rattle.region.specs.declared.Region.{Region}
 use Rattle.put_text.specs.Placed.{joined, written, with_text}
 use Rattle.put_text.proofs.Laws.{both}
 use Rattle.listing_lines.specs.Line.{cell_text, refused_line, filled_line, differs_line}
-use Rattle.listing_lines.specs.Read.{header_text, edges_text, Cell, text_of_cell, read_cell}
+use Rattle.listing_lines.specs.declared.CellLine.{CellLine}
+use Rattle.listing_lines.specs.Read.{header_text, edges_text, text_of_cell, read_cell}
 use Rattle.listing_lines.proofs.Others.{filled_no_cell, differs_no_cell, endless_no_cell}
 use Rattle.listing.specs.Listing.{cell_texts, each}
 use Rattle.listing.specs.Read.{lines, Listed, listed_lines, listed_text, fair, listed_of, read_listing}
@@ -91,19 +92,19 @@ module _ (input : List ℕ) where
 -- ---- what the lines of a text give
 
 -- What is given of a cell is what its first line says, wherever that stands,
-pub first_line_given : (texts : List (List ℕ)) (u v : ℕ) (c : Cell) → First texts u v c → given texts u v ≡ some c
+pub first_line_given : (texts : List (List ℕ)) (u v : ℕ) (c : CellLine) → First texts u v c → given texts u v ≡ Some c
 first_line_given = first_given
 
 -- and only then.
-pub only_first_given : (texts : List (List ℕ)) (u v : ℕ) (c : Cell) → given texts u v ≡ some c → First texts u v c
+pub only_first_given : (texts : List (List ℕ)) (u v : ℕ) (c : CellLine) → given texts u v ≡ Some c → First texts u v c
 only_first_given = given_first
 
 -- The report's lines are bad lines.
-pub report_bad : (u v : ℕ) → (read_cell (filled_line u v) ≡ none) × (read_cell (differs_line u v) ≡ none)
+pub report_bad : (u v : ℕ) → (read_cell (filled_line u v) ≡ None) × (read_cell (differs_line u v) ≡ None)
 report_bad u v = (filled_no_cell u v, differs_no_cell u v)
 
 -- So is what stands behind the last line's end.
-pub endless_bad : (text : List ℕ) → all (λ b. not (eqb b newline)) text ≡ true → read_cell text ≡ none
+pub endless_bad : (text : List ℕ) → all (λ b. not (eqb b newline)) text ≡ true → read_cell text ≡ None
 endless_bad = endless_no_cell
 
 -- ---- a fresh table that a listing may tell of, and any lines
@@ -146,7 +147,7 @@ module _ (fresh : Listed) (f : fair fresh ≡ true) where
     differs_exactly = again.differs_by_number fresh (is_fair fresh f) texts
 
     -- The listing is a whole one: it is read as a listing,
-    pub mended_read : read_listing (joined (mended_listing fresh texts)) ≡ some (listed_of (mended_listing fresh texts))
+    pub mended_read : read_listing (joined (mended_listing fresh texts)) ≡ Some (listed_of (mended_listing fresh texts))
     mended_read = printed_whole fresh (is_fair fresh f) texts
 
     -- and has a line for each cell behind its first two.
@@ -161,30 +162,30 @@ module _ (fresh : Listed) (f : fair fresh ≡ true) where
       -- No kept cell is altered: where a line stood that is the first of the cell (u, v), that line is printed, byte
       -- for byte, as line v·w + u behind the first two.
       pub kept_unaltered :
-          (c : Cell) → First texts u v c → get_or (mended_listing fresh texts) (2 + (v * w + u)) [] ≡ text_of_cell c
+          (c : CellLine) → First texts u v c → get_or (mended_listing fresh texts) (2 + (v * w + u)) [] ≡ text_of_cell c
       kept_unaltered c g =
           again.printed_at fresh (is_fair fresh f) texts u v i j
-          ∙ ap (λ (o : Option Cell). cell_text u v (a_of o (a_at (v * w + u))) (b_of o (b_at (v * w + u))))
+          ∙ ap (λ (o : Option CellLine). cell_text u v (a_of o (a_at (v * w + u))) (b_of o (b_at (v * w + u))))
           (first_given texts u v c g)
           ∙ ap₂ (λ (x y : ℕ). cell_text x y c.a c.b) (sym g.column) (sym g.row)
 
       -- A missing cell is filled with the fresh table's bits.
       pub missing_filled :
-          given texts u v ≡ none →
+          given texts u v ≡ None →
           get_or (mended_listing fresh texts) (2 + (v * w + u)) [] ≡ cell_text u v (a_at (v * w + u)) (b_at (v * w + u))
       missing_filled e =
           again.printed_at fresh (is_fair fresh f) texts u v i j
-          ∙ ap (λ (o : Option Cell). cell_text u v (a_of o (a_at (v * w + u))) (b_of o (b_at (v * w + u)))) e
+          ∙ ap (λ (o : Option CellLine). cell_text u v (a_of o (a_at (v * w + u))) (b_of o (b_at (v * w + u)))) e
 
   module _ (before after : List (List ℕ)) (text : List ℕ) where
     -- A bad line changes nothing, wherever it stands,
     pub bad_line :
-        read_cell text ≡ none → mended_lines fresh (before ++ text ∷ after) ≡ mended_lines fresh (before ++ after)
+        read_cell text ≡ None → mended_lines fresh (before ++ text ∷ after) ≡ mended_lines fresh (before ++ after)
     bad_line e =
         again.same_lines fresh (is_fair fresh f) (before ++ text ∷ after) (before ++ after)
         (λ u v i j. nothing_of_it before after text u v (bad_alone text u v e))
 
-    module _ (c : Cell) (e : read_cell text ≡ some c) where
+    module _ (c : CellLine) (e : read_cell text ≡ Some c) where
       -- nor does a line of a cell that the table doesn't have,
       pub outside_line :
           (c.u < w → c.v < h → ⊥) → mended_lines fresh (before ++ text ∷ after) ≡ mended_lines fresh (before ++ after)
@@ -194,8 +195,8 @@ module _ (fresh : Listed) (f : fair fresh ≡ true) where
 
       -- nor one of a cell that was given before.
       pub later_line :
-          (d : Cell) →
-          given before c.u c.v ≡ some d →
+          (d : CellLine) →
+          given before c.u c.v ≡ Some d →
           mended_lines fresh (before ++ text ∷ after) ≡ mended_lines fresh (before ++ after)
       later_line d g =
           again.same_lines fresh (is_fair fresh f) (before ++ text ∷ after) (before ++ after)
@@ -207,14 +208,14 @@ module _ (fresh : Listed) (f : fair fresh ≡ true) where
       u < w →
       v < h →
       given (lines (listed_text fresh ++ rest)) u v
-      ≡ some (record { u = u; v = v; a = a_at (v * w + u); b = b_at (v * w + u) })
+      ≡ Some (record { u = u; v = v; a = a_at (v * w + u); b = b_at (v * w + u) })
   told_back rest u v i j =
       let k = v * w + u in
       let q : k / w ≡ v = digits_div v i in
       let r : k % w ≡ u = digits_mod v i in
       ap₂ (given (lines (listed_text fresh ++ rest))) (sym r) (sym q)
       ∙ again.given_fresh fresh (is_fair fresh f) rest k (before_end w h u v i j)
-      ∙ ap₂ (λ (x y : ℕ). some (record { u = x; v = y; a = a_at k; b = b_at k })) r q
+      ∙ ap₂ (λ (x y : ℕ). Some (record { u = x; v = y; a = a_at k; b = b_at k })) r q
 
   -- A whole fresh listing comes back as it went in, with no report line.
   pub fresh_comes_back : mended_lines fresh (lines (listed_text fresh)) ≡ listed_lines fresh
@@ -285,7 +286,7 @@ pieces_mended = mended_by_pieces
 -- ---- the map
 
 -- An empty map with room for the table has, once lines are kept in it, of each cell of the table exactly what the
--- lines give of it: the first line of the cell, and nothing where there is none.
+-- lines give of it: the first line of the cell, and nothing where there is None.
 pub kept_given :
     (width height u v : ℕ) →
     sized width height ≡ true →

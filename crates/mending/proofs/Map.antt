@@ -2,7 +2,7 @@
 use mathlib.Core.Path.{◌≡◌, refl, sym, ap, ap₂, ◌∙◌}
 use mathlib.Core.Bool.{Bool, true, false, cond, ◌&&◌}
 use mathlib.Core.List.{List, [], ◌∷◌}
-use mathlib.Core.Option.{Option, none, some}
+use Rattle.std.proofs.Common.{Option, Some, None}
 use Prim.Native.Nat.{ℕ, ◌+◌, ◌*◌, ◌/◌, ◌%◌, ◌≤◌, ◌<◌}
 use native.Mathlib.Omega.{arith}
 use borrow.Author.Tests.{lt-ltb, ltb-true, ltb-false, le-leb, eqb-true, eqb-false}
@@ -11,20 +11,21 @@ use lib.Dec.{eqb, ltb}
 use lib.ListN.{length, get_or, set, length-set, replicate, get_or-replicate, length-replicate, get_or-eq_default}
 use lib.Seq.{get_or-set_same, get_or-set_other}
 use Rattle.region.specs.Size.{sized}
-use Rattle.listing_lines.specs.Read.{Cell, read_cell}
+use Rattle.listing_lines.specs.declared.CellLine.{CellLine}
+use Rattle.listing_lines.specs.Read.{read_cell}
 use Rattle.listing.proofs.Grid.{before_end}
 use Rattle.mending.specs.Mended.{or_later, given}
 use Rattle.mending.specs.Kept.{spot, kept_from, kept, free, keep_first, keep_cell, keep_read, keep, keep_all}
 use Rattle.mending.specs.Written.{given_as}
 
 -- what is there, or else what comes
-abbrev pub or_else : Option Cell → Option Cell → Option Cell
-or_else (some c) later = some c
-or_else none later = later
+abbrev pub or_else : Option CellLine → Option CellLine → Option CellLine
+or_else (Some c) later = Some c
+or_else None later = later
 
-else_none : (o : Option Cell) → or_else o none ≡ o
-else_none none = refl
-else_none (some c) = refl
+else_none : (o : Option CellLine) → or_else o None ≡ o
+else_none None = refl
+else_none (Some c) = refl
 
 -- ---- as long as before
 
@@ -48,9 +49,9 @@ pub keep_long : (width height : ℕ) (map text : List ℕ) → length (keep widt
 unfolding keep
 keep_long width height map text = go (read_cell text)
   where
-    go : (o : Option Cell) → length (keep_read width height map o) ≡ length map
-    go none = refl
-    go (some c) = keep_cell_long map width height c.u c.v c.a c.b
+    go : (o : Option CellLine) → length (keep_read width height map o) ≡ length map
+    go None = refl
+    go (Some c) = keep_cell_long map width height c.u c.v c.a c.b
 
 pub keep_all_long : (width height : ℕ) (map : List ℕ) (texts : List (List ℕ)) → length (keep_all width height map texts) ≡ length map
 unfolding keep_all
@@ -84,7 +85,7 @@ module _ (map : List ℕ) (p a b u v : ℕ) where
           )
       go false = refl
 
-  -- it itself is kept if none was
+  -- it itself is kept if None was
   kept_first : 3 * p + 3 ≤ length map → kept_from (keep_first map (3 * p) a b) (3 * p) u v ≡ or_else (kept_from map (3 * p) u v) (given_as u v a b)
   unfolding keep_first kept_from
   kept_first h = simp (le-leb (3 * p + 3) (length map) h) (go (eqb (get_or map (3 * p) 0) 0) refl)
@@ -112,7 +113,7 @@ module _ (map : List ℕ) (p a b u v : ℕ) where
           (t : Bool) →
           eqb (get_or map (3 * p) 0) 0 ≡ t →
           kept_from (cond t three map) (3 * p) u v
-          ≡ or_else (cond t none (given_as u v (get_or map (3 * p + 1) 0) (get_or map (3 * p + 2) 0))) (given_as u v a b)
+          ≡ or_else (cond t None (given_as u v (get_or map (3 * p + 1) 0) (get_or map (3 * p + 2) 0))) (given_as u v a b)
       go true e = simp (mark, one, two)
       go false e = simp e
 
@@ -154,14 +155,14 @@ module _ (width height u v : ℕ) (s : sized width height ≡ true) (i : u < wid
         simp (s, lt-ltb u width i, lt-ltb v height j)
         (kept_first map (v * width + u) a b u v (omega (arith, before_end width height u v i j)))
 
-    kept_one : (c : Cell) → kept (keep_cell map width height c.u c.v c.a c.b) width u v ≡ or_else (kept map width u v) (or_later u v (some c) none)
+    kept_one : (c : CellLine) → kept (keep_cell map width height c.u c.v c.a c.b) width u v ≡ or_else (kept map width u v) (or_later u v (Some c) None)
     kept_one c = go (eqb c.u u) (eqb c.v v) refl refl
       where
         go :
             (r t : Bool) →
             eqb c.u u ≡ r →
             eqb c.v v ≡ t →
-            kept (keep_cell map width height c.u c.v c.a c.b) width u v ≡ or_else (kept map width u v) (cond (r && t) (some c) none)
+            kept (keep_cell map width height c.u c.v c.a c.b) width u v ≡ or_else (kept map width u v) (cond (r && t) (Some c) None)
         go true true e f =
             let x : c.u ≡ u = eqb-true c.u u e in
             let y : c.v ≡ v = eqb-true c.v v f in
@@ -171,22 +172,22 @@ module _ (width height u v : ℕ) (s : sized width height ≡ true) (i : u < wid
         go true false e f = kept_apart c.u c.v c.a c.b (λ x y. eqb-false c.v v f y) ∙ sym (else_none (kept map width u v))
         go false t e f = kept_apart c.u c.v c.a c.b (λ x y. eqb-false c.u u e x) ∙ sym (else_none (kept map width u v))
 
-    kept_line : (text : List ℕ) → kept (keep width height map text) width u v ≡ or_else (kept map width u v) (or_later u v (read_cell text) none)
+    kept_line : (text : List ℕ) → kept (keep width height map text) width u v ≡ or_else (kept map width u v) (or_later u v (read_cell text) None)
     unfolding keep
     kept_line text = go (read_cell text)
       where
-        go : (o : Option Cell) → kept (keep_read width height map o) width u v ≡ or_else (kept map width u v) (or_later u v o none)
-        go none = sym (else_none (kept map width u v))
-        go (some c) = kept_one c
+        go : (o : Option CellLine) → kept (keep_read width height map o) width u v ≡ or_else (kept map width u v) (or_later u v o None)
+        go None = sym (else_none (kept map width u v))
+        go (Some c) = kept_one c
 
   -- ---- all lines kept
 
-  later_else : (o p later : Option Cell) → or_else (or_else o (or_later u v p none)) later ≡ or_else o (or_later u v p later)
-  later_else (some c) p later = refl
-  later_else none none later = refl
-  later_else none (some c) later = go (eqb c.u u && eqb c.v v)
+  later_else : (o p later : Option CellLine) → or_else (or_else o (or_later u v p None)) later ≡ or_else o (or_later u v p later)
+  later_else (Some c) p later = refl
+  later_else None None later = refl
+  later_else None (Some c) later = go (eqb c.u u && eqb c.v v)
     where
-      go : (t : Bool) → or_else (cond t (some c) none) later ≡ cond t (some c) later
+      go : (t : Bool) → or_else (cond t (Some c) None) later ≡ cond t (Some c) later
       go true = refl
       go false = refl
 
@@ -198,10 +199,10 @@ module _ (width height u v : ℕ) (s : sized width height ≡ true) (i : u < wid
   kept_after map [] long = sym (else_none (kept map width u v))
   kept_after map (text ∷ texts) long =
       kept_after (keep width height map text) texts (omega (arith, keep_long width height map text))
-      ∙ ap (λ (o : Option Cell). or_else o (given texts u v)) (kept_line map long text)
+      ∙ ap (λ (o : Option CellLine). or_else o (given texts u v)) (kept_line map long text)
       ∙ later_else (kept map width u v) (read_cell text) (given texts u v)
 
-  none_kept : (n : ℕ) → kept (replicate n 0) width u v ≡ none
+  none_kept : (n : ℕ) → kept (replicate n 0) width u v ≡ None
   unfolding kept_from
   none_kept n = simp (zero_at n (spot width u v))
 
@@ -209,4 +210,4 @@ module _ (width height u v : ℕ) (s : sized width height ≡ true) (i : u < wid
   pub kept_is_given : (n : ℕ) (texts : List (List ℕ)) → 3 * (width * height) ≤ n → kept (keep_all width height (replicate n 0) texts) width u v ≡ given texts u v
   kept_is_given n texts long =
       kept_after (replicate n 0) texts (omega (arith, length-replicate {A = ℕ} n 0))
-      ∙ ap (λ (o : Option Cell). or_else o (given texts u v)) (none_kept n)
+      ∙ ap (λ (o : Option CellLine). or_else o (given texts u v)) (none_kept n)

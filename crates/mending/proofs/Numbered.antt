@@ -2,7 +2,7 @@
 use mathlib.Core.Path.{◌≡◌, refl, sym, ap, ap₂, ◌∙◌}
 use mathlib.Core.Bool.{Bool, true, false, cond, ◌&&◌, true≢false}
 use mathlib.Core.List.{List, [], ◌∷◌, ◌++◌}
-use mathlib.Core.Option.{Option, some}
+use Rattle.std.proofs.Common.{Option, Some, None}
 use Prim.Native.Nat.{ℕ, zero, suc, ◌+◌, ◌*◌, ◌/◌, ◌%◌, ◌≤◌, ◌<◌}
 use native.Mathlib.Nat.{mod-lt, div-lt_iff_lt-mul, div-add-mod', mul_comm}
 use native.Mathlib.Omega.{arith}
@@ -13,7 +13,10 @@ use Rattle.decimal.proofs.Bytes.{both}
 use Rattle.put_text.specs.Placed.{joined}
 use Rattle.region.specs.Size.{Sized}
 use Rattle.listing_lines.specs.Line.{cell_text}
-use Rattle.listing_lines.specs.Read.{single, Header, header_text, Edges, edges_text, Cell, fair_cell}
+use Rattle.listing_lines.specs.declared.TableLine.{TableLine}
+use Rattle.listing_lines.specs.declared.RegionLine.{RegionLine}
+use Rattle.listing_lines.specs.declared.CellLine.{CellLine}
+use Rattle.listing_lines.specs.Read.{single, header_text, edges_text, fair_cell}
 use Rattle.listing_lines.proofs.Reading.{both_true}
 use Rattle.listing_lines.proofs.Laws.{cell_read}
 use Rattle.listing_lines.proofs.Others.{table_no_cell, region_no_cell}
@@ -60,7 +63,7 @@ single_at (a ∷ cells) (suc i) e = single_at cells i (both_true (single a) _ e)
 -- ---- a listing's lines by number
 
 module _ (w : ℕ) (a b : ℕ → ℕ) where
-  abbrev pub cell_of_number : ℕ → Cell
+  abbrev pub cell_of_number : ℕ → CellLine
   cell_of_number k = record { u = k % w; v = k / w; a = a k; b = b k }
 
   abbrev pub line_of_number : ℕ → List (List ℕ)
@@ -82,30 +85,30 @@ module _ (w : ℕ) (a b : ℕ → ℕ) where
   module _ (n : ℕ) (fair : (k : ℕ) → k < n → fair_cell (cell_of_number k) ≡ true) (rest : List (List ℕ)) (i : ℕ) where
     given_from :
         (m j : ℕ) → j ≤ i → i < j + m → j + m ≡ n →
-        given (each line_of_number j m ++ rest) (i % w) (i / w) ≡ some (cell_of_number i)
+        given (each line_of_number j m ++ rest) (i % w) (i / w) ≡ Some (cell_of_number i)
     unfolding given each
     given_from zero j p q r = absurd (omega arith)
     given_from (suc m) j p q r =
-        ap (λ (o : Option Cell). or_later (i % w) (i / w) o (given (each line_of_number (suc j) m ++ rest) (i % w) (i / w)))
+        ap (λ (o : Option CellLine). or_later (i % w) (i / w) o (given (each line_of_number (suc j) m ++ rest) (i % w) (i / w)))
         (cell_read (cell_of_number j) (fair j (omega arith)))
         ∙ by_place (eqb (j % w) (i % w) && eqb (j / w) (i / w)) refl (λ s. given_from m (suc j) s (omega arith) (omega arith))
       where
         by_place :
             (t : Bool) →
             (eqb (j % w) (i % w) && eqb (j / w) (i / w)) ≡ t →
-            (suc j ≤ i → given (each line_of_number (suc j) m ++ rest) (i % w) (i / w) ≡ some (cell_of_number i)) →
-            cond t (some (cell_of_number j)) (given (each line_of_number (suc j) m ++ rest) (i % w) (i / w)) ≡ some (cell_of_number i)
-        by_place true e more = ap (λ (k : ℕ). some (cell_of_number k)) (one_place i j e)
+            (suc j ≤ i → given (each line_of_number (suc j) m ++ rest) (i % w) (i / w) ≡ Some (cell_of_number i)) →
+            cond t (Some (cell_of_number j)) (given (each line_of_number (suc j) m ++ rest) (i % w) (i / w)) ≡ Some (cell_of_number i)
+        by_place true e more = ap (λ (k : ℕ). Some (cell_of_number k)) (one_place i j e)
         by_place false e more =
             let other : j ≡ i → ⊥ =
             λ s. true≢false
             (sym (both (eq-eqb (j % w) (i % w) (ap (λ (k : ℕ). k % w) s)) (eq-eqb (j / w) (i / w) (ap (λ (k : ℕ). k / w) s))) ∙ e) in
             more (omega arith)
 
-abbrev pub numbered : Header → Edges → (ℕ → ℕ) → (ℕ → ℕ) → List (List ℕ)
+abbrev pub numbered : TableLine → RegionLine → (ℕ → ℕ) → (ℕ → ℕ) → List (List ℕ)
 numbered h e a b = header_text h ∷ edges_text e ∷ each (line_of_number h.width a b) 0 (h.width * h.height)
 
-module _ (h : Header) (e : Edges) (a b : ℕ → ℕ) where
+module _ (h : TableLine) (e : RegionLine) (a b : ℕ → ℕ) where
   pub numbered_cut : (rest : List ℕ) → lines (joined (numbered h e a b) ++ rest) ≡ numbered h e a b ++ lines rest
   numbered_cut rest =
       joined_cut (numbered h e a b) rest
@@ -117,7 +120,7 @@ module _ (h : Header) (e : Edges) (a b : ℕ → ℕ) where
       ((k : ℕ) → k < h.width * h.height → (single (a k) ≡ true) × (single (b k) ≡ true)) →
       (rest : List (List ℕ)) (i : ℕ) →
       i < h.width * h.height →
-      given (numbered h e a b ++ rest) (i % h.width) (i / h.width) ≡ some (cell_of_number h.width a b i)
+      given (numbered h e a b ++ rest) (i % h.width) (i / h.width) ≡ Some (cell_of_number h.width a b i)
   numbered_given s f rest i l =
       let w = h.width in
       let cells = each (line_of_number w a b) 0 (w * h.height) ++ rest in

@@ -2,7 +2,7 @@
 use mathlib.Core.Path.{◌≡◌, refl, sym, ap, ap₂, ◌∙◌}
 use mathlib.Core.Bool.{true}
 use mathlib.Core.List.{List, [], ◌∷◌}
-use mathlib.Core.Option.{some}
+use Rattle.std.proofs.Common.{Option, Some, None}
 use Prim.Native.Nat.{ℕ, zero, suc, ◌+◌, ◌*◌, ◌/◌, ◌%◌, ◌≤◌, ◌<◌}
 use native.Mathlib.Omega.{arith}
 use lib.ListN.{length, get_or}
@@ -89,10 +89,10 @@ module _ (l : Listed) (f : Fair l) (texts : List (List ℕ)) where
       ap₂ (λ (x y : ℕ). cell_text (k % w) (k / w) x y ∷ []) (sym (g.0 ∙ ap a z)) (sym (g.1 ∙ ap b z)))
       ∙ sym (cells_by_number w h cells printed_fair.count (omega (arith, f.size.wide))))
 
-  pub printed_whole : read_listing (joined (mended_listing l texts)) ≡ some (listed_of (mended_listing l texts))
+  pub printed_whole : read_listing (joined (mended_listing l texts)) ≡ Some (listed_of (mended_listing l texts))
   unfolding listed_text
   printed_whole =
       let g = fair_is printed printed_fair in
       ap (λ (t : List (List ℕ)). read_listing (joined t)) printed_lines
       ∙ listing_read printed g
-      ∙ ap some (sym (listed_back printed g) ∙ ap listed_of (listed_cut printed ∙ sym printed_lines))
+      ∙ ap Some (sym (listed_back printed g) ∙ ap listed_of (listed_cut printed ∙ sym printed_lines))

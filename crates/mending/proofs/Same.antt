@@ -1,12 +1,13 @@
 -- What is told by the map of some lines is what is told by the lines. Assumes nothing.
 use mathlib.Core.Path.{◌≡◌, refl, ap, ap₂, ◌∙◌}
 use mathlib.Core.List.{List, [], ◌∷◌, ◌++◌}
-use mathlib.Core.Option.{Option}
+use Rattle.std.proofs.Common.{Option, Some, None}
 use Prim.Native.Nat.{ℕ, ◌+◌, ◌*◌, ◌≤◌, ◌<◌}
 use native.Mathlib.Omega.{arith}
 use lib.ListN.{length, replicate}
 use Rattle.region.specs.Size.{Sized}
-use Rattle.listing_lines.specs.Read.{Cell, header_text, edges_text}
+use Rattle.listing_lines.specs.declared.CellLine.{CellLine}
+use Rattle.listing_lines.specs.Read.{header_text, edges_text}
 use Rattle.listing.specs.Listing.{across, down}
 use Rattle.listing.specs.Read.{Listed}
 use Rattle.listing.proofs.Fair.{of_size}
@@ -20,7 +21,7 @@ use Rattle.mending.proofs.Map.{kept_is_given}
 
 -- ---- where the same is given of each cell of a table, the same is told
 
-module _ (width height : ℕ) (one two : ℕ → ℕ → Option Cell) (e : (u v : ℕ) → u < width → v < height → one u v ≡ two u v) where
+module _ (width height : ℕ) (one two : ℕ → ℕ → Option CellLine) (e : (u v : ℕ) → u < width → v < height → one u v ≡ two u v) where
   each_told :
       (kind : Kind) (u v : ℕ) (cells : List ℕ) →
       u < width →
@@ -32,11 +33,11 @@ module _ (width height : ℕ) (one two : ℕ → ℕ → Option Cell) (e : (u v 
   each_told kind u v (a ∷ b ∷ cells) h l =
       let n = next width u v h in
       ap₂ (λ (s t : List (List ℕ)). s ++ t)
-      (ap (λ (o : Option Cell). told kind o u v a b) (e u v h (in_a_row width height u v (omega arith))))
+      (ap (λ (o : Option CellLine). told kind o u v a b) (e u v h (in_a_row width height u v (omega arith))))
       (each_told kind (across width u) (down width u v) cells n.0 (omega (arith, n.1)))
 
 pub told_same :
-    (one two : ℕ → ℕ → Option Cell) (fresh : Listed) →
+    (one two : ℕ → ℕ → Option CellLine) (fresh : Listed) →
     ((u v : ℕ) → u < fresh.header.width → v < fresh.header.height → one u v ≡ two u v) →
     0 < fresh.header.width →
     length fresh.cells ≡ 2 * (fresh.header.width * fresh.header.height) →

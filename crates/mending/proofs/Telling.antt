@@ -1,7 +1,7 @@
 -- What is told of the cells one by one, and the lines put one after the other. Assumes nothing.
 use mathlib.Core.Path.{◌≡◌, refl, sym, ap, ap₂, ◌∙◌}
 use mathlib.Core.List.{List, [], ◌∷◌, ◌++◌}
-use mathlib.Core.Option.{Option}
+use Rattle.std.proofs.Common.{Option, Some, None}
 use Prim.Native.Nat.{ℕ, ◌+◌, ◌*◌, ◌/◌, ◌%◌, ◌≤◌, ◌<◌}
 use native.Mathlib.Nat.{mod-lt, div-add-mod', zero-div, zero-mod}
 use native.Mathlib.Omega.{arith}
@@ -10,10 +10,10 @@ use lib.Ieee.{Float, binary32, to_bits, nan}
 use lib.ListN.{length, get_or, drop, length-drop}
 use Rattle.put_text.specs.Placed.{Written, placed, each_placed}
 use Rattle.put_text.proofs.Whole.{each_more}
-use Rattle.listing_lines.specs.Read.{Cell}
+use Rattle.listing_lines.specs.declared.CellLine.{CellLine}
 use Rattle.listing.specs.Listing.{across, down}
 use Rattle.listing.proofs.Grid.{next}
-use Rattle.listing.proofs.Rows.{two}
+use Rattle.listing.proofs.Each.{pair}
 use Rattle.mending.specs.Mended.{each_cell}
 use Rattle.mending.specs.Kept.{kept_from, kept}
 use Rattle.mending.specs.Written.{told, bits_of}
@@ -59,7 +59,7 @@ module _ (tell : ℕ → ℕ → ℕ → ℕ → List (List ℕ)) (width : ℕ) 
       let n : 2 * k + 2 ≡ 2 * (k + 1) = omega arith in
       let a = to_bits binary32 (get_or table (2 * k) nan) in
       let b = to_bits binary32 (get_or table (2 * k + 1) nan) in
-      ap (λ (rest : List Float). each_cell tell width (k % width) (k / width) (bits_of rest)) (two table (2 * k) h)
+      ap (λ (rest : List Float). each_cell tell width (k % width) (k / width) (bits_of rest)) (pair nan table (2 * k) h)
       ∙ ap (λ (m : ℕ). tell (k % width) (k / width) a b ++ each_cell tell width (across width (k % width)) (down width (k % width) (k / width)) (bits_of (drop m table))) n
       ∙ ap₂ (λ (u v : ℕ). tell (k % width) (k / width) a b ++ each_cell tell width u v (bits_of (drop (2 * (k + 1)) table)))
       (sym (next_column width some k))
@@ -102,7 +102,7 @@ module _ (w₀ : Written) (kind : Kind) (width : ℕ) (table : List Float) (map 
         let here : kept_from map (3 * k) u v ≡ kept map width u v = ap (λ (n : ℕ). kept_from map (3 * n) u v) (sym (div-add-mod' k width)) in
         let more = from (by_map kind map width) width (k + 1) table in
         let is : told kind (kept_from map (3 * k) u v) u v a b ≡ by_map kind map width u v (to_bits binary32 (get_or table (2 * k) nan)) (to_bits binary32 (get_or table (2 * k + 1) nan)) =
-        ap (λ (o : Option Cell). told kind o u v a b) here ∙ ap₂ (λ (x y : ℕ). by_map kind map width u v x y) ea eb in
+        ap (λ (o : Option CellLine). told kind o u v a b) here ∙ ap₂ (λ (x y : ℕ). by_map kind map width u v x y) ea eb in
         record {
           within = omega arith;
           long = same ∙ p.long;

@@ -1,9 +1,10 @@
 -- A map of what the lines gave of a table's cells. It has three numbers for each cell, row by row: 1 where a line gave
 -- it, else 0, and its two bit patterns. Definitions only.
 use Rattle.std.specs.Prelude.{Bool, cond, ◌&&◌, List, [], ◌∷◌, ℕ, ◌+◌, ◌*◌, eqb, leb, ltb, length, get_or, set}
-use Rattle.std.proofs.Math.Option.{Option, none, some}
+use Rattle.std.specs.Prelude.{Option, Some, None}
 use Rattle.region.specs.Size.{sized}
-use Rattle.listing_lines.specs.Read.{Cell, read_cell}
+use Rattle.listing_lines.specs.declared.CellLine.{CellLine}
+use Rattle.listing_lines.specs.Read.{read_cell}
 
 -- where the three numbers of the cell (u, v) begin
 abbrev pub spot : ℕ → ℕ → ℕ → ℕ
@@ -12,14 +13,14 @@ spot width u v = 3 * (v * width + u)
 -- ---- what a map has
 
 -- of the cell (u, v), whose three numbers stand from place k on
-unfoldable pub kept_from : List ℕ → ℕ → ℕ → ℕ → Option Cell
+unfoldable pub kept_from : List ℕ → ℕ → ℕ → ℕ → Option CellLine
 kept_from map k u v =
     cond
     (eqb (get_or map k 0) 0)
-    none
-    (some (record { u = u; v = v; a = get_or map (k + 1) 0; b = get_or map (k + 2) 0 }))
+    None
+    (Some (record { u = u; v = v; a = get_or map (k + 1) 0; b = get_or map (k + 2) 0 }))
 
-abbrev pub kept : List ℕ → ℕ → ℕ → ℕ → Option Cell
+abbrev pub kept : List ℕ → ℕ → ℕ → ℕ → Option CellLine
 kept map width u v = kept_from map (spot width u v) u v
 
 -- ---- a line kept
@@ -37,9 +38,9 @@ unfoldable pub keep_cell : List ℕ → ℕ → ℕ → ℕ → ℕ → ℕ → 
 keep_cell map width height u v a b =
     cond (sized width height && (ltb u width && ltb v height)) (keep_first map (spot width u v) a b) map
 
-abbrev pub keep_read : ℕ → ℕ → List ℕ → Option Cell → List ℕ
-keep_read width height map none = map
-keep_read width height map (some c) = keep_cell map width height c.u c.v c.a c.b
+abbrev pub keep_read : ℕ → ℕ → List ℕ → Option CellLine → List ℕ
+keep_read width height map None = map
+keep_read width height map (Some c) = keep_cell map width height c.u c.v c.a c.b
 
 -- what a line gives, if it is a line of a cell
 unfoldable pub keep : ℕ → ℕ → List ℕ → List ℕ → List ℕ

@@ -1,31 +1,32 @@
 -- What is printed of a table and the lines of a listing of it that may be damaged (docs/RULES.md, 16): the whole
 -- listing, then the cells that were filled, then those that differ from the table. Definitions only.
 use Rattle.std.specs.Prelude.{◌≡◌, true, cond, ◌&&◌, List, [], ◌∷◌, ◌++◌, ℕ, eqb}
-use Rattle.std.proofs.Math.Option.{Option, none, some}
+use Rattle.std.specs.Prelude.{Option, Some, None}
 use Rattle.listing_lines.specs.Line.{cell_text, filled_line, differs_line}
-use Rattle.listing_lines.specs.Read.{header_text, edges_text, Cell, text_of_cell, fair_cell, read_cell}
+use Rattle.listing_lines.specs.declared.CellLine.{CellLine}
+use Rattle.listing_lines.specs.Read.{header_text, edges_text, text_of_cell, fair_cell, read_cell}
 use Rattle.listing.specs.Listing.{across, down}
 use Rattle.listing.specs.Read.{Listed}
 
 -- ---- what the lines give
 
 -- what is read of a line, if it is a line of the cell (u, v); else what the later ones give
-abbrev pub or_later : ℕ → ℕ → Option Cell → Option Cell → Option Cell
-or_later u v (some c) later = cond (eqb c.u u && eqb c.v v) (some c) later
-or_later u v none later = later
+abbrev pub or_later : ℕ → ℕ → Option CellLine → Option CellLine → Option CellLine
+or_later u v (Some c) later = cond (eqb c.u u && eqb c.v v) (Some c) later
+or_later u v None later = later
 
--- the first of the lines that is one of the cell (u, v), wherever it stands; a line that is none of a cell's gives
+-- the first of the lines that is one of the cell (u, v), wherever it stands; a line that is None of a cell's gives
 -- nothing
-unfoldable pub given : List (List ℕ) → ℕ → ℕ → Option Cell
-given [] u v = none
+unfoldable pub given : List (List ℕ) → ℕ → ℕ → Option CellLine
+given [] u v = None
 given (text ∷ texts) u v = or_later u v (read_cell text) (given texts u v)
 
 -- where that is: the line stands at its place, and no line of the cell before it
-pub record First (texts : List (List ℕ)) (u v : ℕ) (c : Cell) : Type 0 where
+pub record First (texts : List (List ℕ)) (u v : ℕ) (c : CellLine) : Type 0 where
   pub before : List (List ℕ)
   pub after : List (List ℕ)
   pub is : texts ≡ before ++ text_of_cell c ∷ after
-  pub none_before : given before u v ≡ none
+  pub none_before : given before u v ≡ None
   pub column : c.u ≡ u
   pub row : c.v ≡ v
   pub fair : fair_cell c ≡ true
@@ -33,19 +34,19 @@ pub record First (texts : List (List ℕ)) (u v : ℕ) (c : Cell) : Type 0 where
 -- ---- what is printed of the cell (u, v), which has the patterns a and b in the fresh table
 
 -- its line: as it was given, or else filled
-abbrev pub mended_cell : Option Cell → ℕ → ℕ → ℕ → ℕ → List (List ℕ)
-mended_cell (some c) u v a b = cell_text u v c.a c.b ∷ []
-mended_cell none u v a b = cell_text u v a b ∷ []
+abbrev pub mended_cell : Option CellLine → ℕ → ℕ → ℕ → ℕ → List (List ℕ)
+mended_cell (Some c) u v a b = cell_text u v c.a c.b ∷ []
+mended_cell None u v a b = cell_text u v a b ∷ []
 
 -- whether it was filled
-abbrev pub filled_cell : Option Cell → ℕ → ℕ → ℕ → ℕ → List (List ℕ)
-filled_cell (some c) u v a b = []
-filled_cell none u v a b = filled_line u v ∷ []
+abbrev pub filled_cell : Option CellLine → ℕ → ℕ → ℕ → ℕ → List (List ℕ)
+filled_cell (Some c) u v a b = []
+filled_cell None u v a b = filled_line u v ∷ []
 
 -- whether what was given differs
-abbrev pub differing_cell : Option Cell → ℕ → ℕ → ℕ → ℕ → List (List ℕ)
-differing_cell (some c) u v a b = cond (eqb c.a a && eqb c.b b) [] (differs_line u v ∷ [])
-differing_cell none u v a b = []
+abbrev pub differing_cell : Option CellLine → ℕ → ℕ → ℕ → ℕ → List (List ℕ)
+differing_cell (Some c) u v a b = cond (eqb c.a a && eqb c.b b) [] (differs_line u v ∷ [])
+differing_cell None u v a b = []
 
 -- ---- of all cells
 
@@ -57,7 +58,7 @@ each_cell tell width u v [] = []
 
 -- of a fresh table and the lines of a text
 module _ (fresh : Listed) (texts : List (List ℕ)) where
-  abbrev of_all : (Option Cell → ℕ → ℕ → ℕ → ℕ → List (List ℕ)) → List (List ℕ)
+  abbrev of_all : (Option CellLine → ℕ → ℕ → ℕ → ℕ → List (List ℕ)) → List (List ℕ)
   of_all tell = each_cell (λ u v. tell (given texts u v) u v) fresh.header.width 0 0 fresh.cells
 
   -- header and region are the fresh table's

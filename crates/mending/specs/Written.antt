@@ -1,12 +1,13 @@
 -- What is written of a fresh table and a map of what was given of its cells. Definitions only.
 use Rattle.std.specs.Prelude.{Bool, cond, ◌&&◌, List, ◌∷◌, ◌++◌, map, ℕ, ◌*◌, leb, Float, length, take}
-use Rattle.std.proofs.Math.Option.{Option, some}
+use Rattle.std.specs.Prelude.{Option, Some, None}
 use Rattle.std.specs.Float.{binary32}
 use Rattle.std.specs.Float.Ieee.{to_bits}
 use Rattle.region.specs.Size.{sized}
 use Rattle.region.specs.declared.Region.{Region}
 use Rattle.put_text.specs.Placed.{Written, written, with_text, joined}
-use Rattle.listing_lines.specs.Read.{Cell, header_text, edges_text}
+use Rattle.listing_lines.specs.declared.CellLine.{CellLine}
+use Rattle.listing_lines.specs.Read.{header_text, edges_text}
 use Rattle.listing.specs.Read.{Listed, listed}
 use Rattle.printer.specs.Made.{most_cells}
 use Rattle.mending.specs.Mended.{mended_cell, filled_cell, differing_cell, each_cell}
@@ -15,17 +16,17 @@ use Rattle.mending.specs.declared.Kind.{Kind}
 use Rattle.mending.specs.declared.Kind.TheVariants.{Line, Filled, Differs}
 
 -- what is told of a cell
-abbrev pub told : Kind → Option Cell → ℕ → ℕ → ℕ → ℕ → List (List ℕ)
+abbrev pub told : Kind → Option CellLine → ℕ → ℕ → ℕ → ℕ → List (List ℕ)
 told Line = mended_cell
 told Filled = filled_cell
 told Differs = differing_cell
 
 -- of all cells of a fresh table, where `given u v` is what was given of the cell (u, v)
-abbrev pub cells_told : Kind → (ℕ → ℕ → Option Cell) → ℕ → List ℕ → List (List ℕ)
+abbrev pub cells_told : Kind → (ℕ → ℕ → Option CellLine) → ℕ → List ℕ → List (List ℕ)
 cells_told kind given width cells = each_cell (λ u v. told kind (given u v) u v) width 0 0 cells
 
 -- the listing, the cells that were filled, those that differ
-unfoldable pub lines_told : (ℕ → ℕ → Option Cell) → Listed → List (List ℕ)
+unfoldable pub lines_told : (ℕ → ℕ → Option CellLine) → Listed → List (List ℕ)
 lines_told given fresh =
     let cells : Kind → List (List ℕ) = λ kind. cells_told kind given fresh.header.width fresh.cells in
     header_text fresh.header ∷ edges_text fresh.edges ∷ cells Line ++ (cells Filled ++ cells Differs)
@@ -33,8 +34,8 @@ lines_told given fresh =
 -- ---- as the code has it
 
 -- a cell that was given, and a table's bit patterns
-abbrev pub given_as : ℕ → ℕ → ℕ → ℕ → Option Cell
-given_as u v a b = some (record { u = u; v = v; a = a; b = b })
+abbrev pub given_as : ℕ → ℕ → ℕ → ℕ → Option CellLine
+given_as u v a b = Some (record { u = u; v = v; a = a; b = b })
 
 abbrev pub bits_of : List Float → List ℕ
 bits_of table = map (to_bits binary32) table

@@ -2,7 +2,6 @@
 #![tactic(auto)]
 
 ghost use Rattle.std.specs.Prelude.{◌≡◌, ◌+◌, ◌*◌, ◌<◌, ◌≤◌, ◌^◌, length};
-ghost use Rattle.std.proofs.Math.Option.{none};
 ghost use Rattle.io.specs.Counts.{IsPrefixLen};
 ghost use Rattle.region.specs.Size.{Sized};
 ghost use Rattle.put_text.specs.Placed.{written, with_text, each_placed};
@@ -16,7 +15,7 @@ ghost use Rattle.mending.specs.Written.{ready, most_mended, written_mended};
 ghost use Rattle.mending.specs.Parts.{Matched};
 ghost use Rattle.mending.specs.Texts.{mended_text, mend};
 
-use listing_lines::CellLine;
+use lens::Refusal;
 use printer::{Built, NUMBERS};
 use region::Region;
 
@@ -32,7 +31,7 @@ pub const LINE: usize = 64;
 pub const OUTPUT: usize = 212992;
 
 // What is told of a cell: its line, whether it was filled, whether what was given differs.
-#[derive(Clone, Copy)]
+#[derive(Clone, Copy, Debug, PartialEq, Eq)]
 enum Kind {
     Line,
     Filled,
@@ -44,10 +43,7 @@ fn keep_first(map: &mut [u32], k: usize, a: u32, b: u32)
     requires { k < 2 ^ 32 }
     ensures { map.new ≡ keep_first map.old k a b }
 {
-    if map.len() < k + 3 {
-        return;
-    }
-    if map[k] != 0 {
+    if map.len() < k + 3 || map[k] != 0 {
         return;
     }
     map[k] = 1;
@@ -59,13 +55,7 @@ fn keep_first(map: &mut [u32], k: usize, a: u32, b: u32)
 fn keep_cell(map: &mut [u32], width: usize, height: usize, u: usize, v: usize, a: u32, b: u32)
     ensures { map.new ≡ keep_cell map.old width height u v a b }
 {
-    if !region::sized(width, height) {
-        return;
-    }
-    if u >= width {
-        return;
-    }
-    if v >= height {
+    if !region::sized(width, height) || u >= width || v >= height {
         return;
     }
     keep_first(map, 3 * (v * width + u), a, b);
@@ -75,9 +65,16 @@ fn keep_cell(map: &mut [u32], width: usize, height: usize, u: usize, v: usize, a
 pub fn keep(map: &mut [u32], width: usize, height: usize, line: &[u8])
     ensures { map.new ≡ keep width height map.old line.now }
 {
-    let told = listing_lines::read_cell(line);
-    if let CellLine::Cell { u, v, a, b } = told {
-        keep_cell(map, width, height, u as usize, v as usize, a, b);
+    if let Some(cell) = listing_lines::read_cell(line) {
+        keep_cell(
+            map,
+            width,
+            height,
+            cell.u as usize,
+            cell.v as usize,
+            cell.a,
+            cell.b,
+        );
     }
 }
 
@@ -119,10 +116,8 @@ pub fn feed(
         feed width height (fed map.old line.old n) piece.now }
 {
     let mut held = n;
-    let mut i = 0;
-    while i < piece.len() {
-        held = feed_byte(map, line, held, width, height, piece[i]);
-        i += 1;
+    for b in piece {
+        held = feed_byte(map, line, held, width, height, *b);
     }
     held
 }
@@ -141,10 +136,7 @@ fn tell_differing(
     ensures { written out.new result ≡
         each_placed (written out.old at) (differing_cell (given_as u v c d) u v a b) }
 {
-    if c != a {
-        return listing_lines::differs_line(out, at, u, v);
-    }
-    if d != b {
+    if c != a || d != b {
         return listing_lines::differs_line(out, at, u, v);
     }
     at
@@ -175,7 +167,7 @@ fn tell_given(
 // and where it was not.
 fn tell_missing(out: &mut [u8], at: usize, kind: Kind, u: usize, v: usize, a: u32, b: u32) -> usize
     ensures { written out.new result ≡
-        each_placed (written out.old at) (told kind none u v a b) }
+        each_placed (written out.old at) (told kind None u v a b) }
 {
     match kind {
         Kind::Line => listing_lines::cell_text(out, at, u, v, a, b),
@@ -222,12 +214,10 @@ fn tell_all(
         (cells_told kind (kept map.now width) width (bits_of table.now)) }
 {
     let mut next = at;
-    let mut k = 0;
-    while 2 * k + 1 < table.len() {
+    for k in 0..table.len() / 2 {
         let a = exact::to_bits32(table[2 * k]);
         let b = exact::to_bits32(table[2 * k + 1]);
         next = tell(out, next, kind, map, 3 * k, k % width, k / width, a, b);
-        k += 1;
     }
     next
 }
@@ -263,10 +253,7 @@ fn ready(width: usize, height: usize, numbers: usize, places: usize) -> bool
         return false;
     }
     let cells = width * height;
-    if printer::CELLS < cells {
-        return false;
-    }
-    if numbers < 2 * cells {
+    if printer::CELLS < cells || numbers < 2 * cells {
         return false;
     }
     3 * cells <= places
@@ -322,7 +309,7 @@ fn mend_table(
 }
 
 // The same of what the printer built; of a refusal its line alone.
-fn mend_built(out: &mut [u8], built: Built, table: &[f32], text: &[u8]) -> usize
+fn mend_built(out: &mut [u8], built: Result<Built, Refusal>, table: &[f32], text: &[u8]) -> usize
     requires has_room { HasRoom (told_built built) }
     requires table_len { (length table.now ≡ 2 * most_cells) × (most_mended ≤ length out.old) }
     ensures { written out.new result ≡
@@ -331,13 +318,15 @@ fn mend_built(out: &mut [u8], built: Built, table: &[f32], text: &[u8]) -> usize
         (mended_text (held (told_built built) table.now) (lines text.now)) }
 {
     match built {
-        Built::Refused(refusal) => listing_lines::refused_line(out, 0, refusal),
-        Built::Table {
-            width,
-            height,
-            updates,
-            region,
-        } => mend_table(out, width, height, updates, region, table, text),
+        Err(refusal) => listing_lines::refused_line(out, 0, refusal),
+        Ok(
+            Built {
+                width,
+                height,
+                updates,
+                region,
+            },
+        ) => mend_table(out, width, height, updates, region, table, text),
     }
 }
 

@@ -3,7 +3,6 @@ use mathlib.Core.Path.{◌≡◌, sym, ap, ◌∙◌}
 use mathlib.Core.Bool.{Bool, true, false, not, cond, ◌&&◌, ◌||◌}
 use mathlib.Core.List.{List}
 use Prim.Native.Nat.{ℕ}
-use borrow.Author.Tests.{not-true, not-false}
 use Rattle.lens.specs.Rows.{first}
 use Rattle.opencv.specs.Text.{theirs}
 use Rattle.opencv.specs.Moved.{zero_bits, of_theirs, plain, number_rows, rows}
@@ -34,14 +33,7 @@ past {t} x {y} e f = f ∙ sym (ap (λ (b : Bool). cond b x y) e)
 pub seventeen_first : (m c : List ℕ) → plain m c ≡ false → first (rows (theirs m c)) ≡ 17
 seventeen_first m c e = ap (λ (t : Bool). cond (not t) 17 (first (number_rows (of_theirs m c)))) e
 
--- ---- a call's answer b, of which the code tests the opposite
+-- ---- whether the number read is a zero
 
-pub said_no : {b t : Bool} → b ≡ t → not b ≡ true → t ≡ false
-said_no {b} e n = sym e ∙ not-true b n
-
-pub said_yes : {b t : Bool} → b ≡ t → not b ≡ false → t ≡ true
-said_yes {b} e n = sym e ∙ not-false b n
-
--- whether the number read is a zero
-pub zero_read : {b : Bool} {x y : ℕ} → b ≡ zero_bits x → x ≡ y → b ≡ zero_bits y
-zero_read e f = e ∙ ap zero_bits f
+pub zero_told : {b t : Bool} {x y : ℕ} → b ≡ zero_bits x → x ≡ y → b ≡ t → zero_bits y ≡ t
+zero_told e f g = sym (e ∙ ap zero_bits f) ∙ g

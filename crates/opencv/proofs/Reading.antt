@@ -23,7 +23,6 @@ glyph_free d true = ap not (ne_eqb (48 + d) 10 (λ e. omega arith))
 glyph_free d false = ap not (ne_eqb (87 + d) 10 (λ e. omega arith))
 
 digits_free : (k n : ℕ) → all (lacks newline) (last_digits 16 k n) ≡ true
-unfolding all
 digits_free zero n = refl
 digits_free (suc k) n =
     all_append (lacks newline) (last_digits 16 k (n / 16)) (hex_digit_ascii (n % 16) ∷ []) (digits_free k (n / 16)) (both (glyph_free (n % 16) (ltb (n % 16) 10)) refl)
@@ -34,7 +33,7 @@ tabbed [] = []
 tabbed (n ∷ numbers) = (tab ∷ last_digits 16 16 n) ++ tabbed numbers
 
 tabbed_free : (numbers : List ℕ) → all (lacks newline) (tabbed numbers) ≡ true
-unfolding all tabbed
+unfolding tabbed
 tabbed_free [] = refl
 tabbed_free (n ∷ numbers) = all_append (lacks newline) (tab ∷ last_digits 16 16 n) (tabbed numbers) (digits_free 16 n) (tabbed_free numbers)
 
@@ -79,11 +78,10 @@ and_false false = refl
 
 -- a matrix line is no params line
 not_params : (matrix rest : List ℕ) → is_params (word_line matrix_word matrix ++ rest) ≡ false
-unfolding is_line word_line same
+unfolding is_line word_line
 not_params matrix rest = and_false (ltb 0 (many (word_line matrix_word matrix ++ rest)))
 
 free_matrix : all (lacks newline) matrix_word ≡ true
-unfolding all
 free_matrix = refl
 
 pub lines_there : (lines : Lines) → Form lines → (is_lines (text_of lines) ≡ true) × (lines_of (text_of lines) ≡ lines)

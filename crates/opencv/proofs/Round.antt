@@ -38,7 +38,6 @@ pub whole : (n : ℕ) (l : List ℕ) → length l ≡ n → heads n (λ k. get_o
 whole n l e = heads_take n l (omega arith) ∙ take_all n l (omega arith)
 
 pattern_at : (l : List ℕ) → all pattern l ≡ true → (k : ℕ) → pattern (get_or l k 0) ≡ true
-unfolding all
 pattern_at [] e k = refl
 pattern_at (x ∷ l) e zero = and_left (pattern x) (all pattern l) e
 pattern_at (x ∷ l) e (suc k) = pattern_at l (and_right (pattern x) (all pattern l) e) k
@@ -53,7 +52,7 @@ pub record Patterns (n : Twelve) : Type 0 where
   pub rest : all pattern (their_coeffs n) ≡ true
 
 eight : (f : ℕ → ℕ) → ((k : ℕ) → pattern (f k) ≡ true) → (n : ℕ) → all pattern (heads n f) ≡ true
-unfolding all heads
+unfolding heads
 eight f h zero = refl
 eight f h (suc n) = both (h 0) (eight (λ k. f (suc k)) (λ k. h (suc k)) n)
 
@@ -79,11 +78,11 @@ their_patterns m c e f = record {
 
 module _ (n : Twelve) (h : Patterns n) where
   form_ours : Form (ours (our_params n))
-  unfolding our_params their_coeffs all
+  unfolding our_params their_coeffs
   form_ours = ((omega arith, both h.fx (both h.fy (both h.cx (both h.cy h.rest)))), omega (arith, line_long params_word (our_params n)))
 
   form_theirs : Form (theirs (their_matrix n) (their_coeffs n))
-  unfolding their_matrix their_coeffs all
+  unfolding their_matrix their_coeffs
   form_theirs = (
     (omega arith, both h.fx (both refl (both h.cx (both refl (both h.fy (both h.cy refl)))))),
     (omega arith, h.rest),
@@ -107,7 +106,7 @@ module _ (n : Twelve) (h : first (number_rows n) ≡ 0) where
   rows_ours = h
 
   rows_theirs : first (rows (theirs (their_matrix n) (their_coeffs n))) ≡ 0
-  unfolding their_matrix their_coeffs of_theirs plain fixed counted all is_zero of_bits
+  unfolding their_matrix their_coeffs of_theirs plain fixed counted is_zero of_bits
   rows_theirs = h
 
 -- ---- a camera that is taken

@@ -15,7 +15,7 @@ ghost use Rattle.opencv.specs.Moved.{finite_bits, zero_bits, of_ours, of_theirs,
 ghost use Rattle.opencv.specs.Moved.{their_coeffs, fixed, counted, plain, number_rows, rows, moved, answered};
 ghost use Rattle.opencv.specs.Moved.{lines_moved, converted};
 
-use lens::{Judgement, Refusal};
+use lens::Refusal;
 
 // The most bytes that a text has.
 pub const LONGEST: usize = 4096;
@@ -27,7 +27,7 @@ pub const OUTPUT: usize = 303;
 const ONE: u64 = 0x3ff0_0000_0000_0000;
 
 // A camera's numbers as bit patterns, by the names that both sides have for them.
-#[derive(Clone, Copy)]
+#[derive(Clone, Copy, Debug, PartialEq, Eq)]
 pub struct Twelve {
     pub fx: u64,
     pub fy: u64,
@@ -61,14 +61,7 @@ fn is_zero(bits: u64) -> bool
 fn all_finite(numbers: &[u64]) -> bool
     ensures { result ≡ all finite_bits numbers.now }
 {
-    let mut i = 0;
-    while i < numbers.len() {
-        if !is_finite(numbers[i]) {
-            return false;
-        }
-        i += 1;
-    }
-    true
+    numbers.iter().all(|n| is_finite(*n))
 }
 
 // The numbers of a params line: ours.
@@ -135,60 +128,41 @@ fn put_matrix(out: &mut [u8], n: Twelve) -> usize
 }
 
 // 4, 5.
-fn judge_numbers(n: Twelve) -> Judgement
+fn judge_numbers(n: Twelve) -> Result<(), Refusal>
     ensures { verdict result ≡ first (number_rows n) }
 {
     let params = [
         n.fx, n.fy, n.cx, n.cy, n.k1, n.k2, n.p1, n.p2, n.k3, n.k4, n.k5, n.k6,
     ];
     if !all_finite(&params) {
-        return Judgement::Refused(Refusal::NotFinite);
+        return Err(Refusal::NotFinite);
     }
-    if is_zero(n.fx) {
-        return Judgement::Refused(Refusal::ZeroFocalLength);
+    if is_zero(n.fx) || is_zero(n.fy) {
+        return Err(Refusal::ZeroFocalLength);
     }
-    if is_zero(n.fy) {
-        return Judgement::Refused(Refusal::ZeroFocalLength);
-    }
-    Judgement::Taken
+    Ok(())
 }
 
 // Whether a matrix has zeros for its skew and its lower entries, and 1 last.
 fn is_fixed(matrix: &[u8]) -> bool
     ensures { result ≡ fixed (params_of matrix.now) }
 {
-    if !is_zero(params_line::bits_at(matrix, 1)) {
-        return false;
-    }
-    if !is_zero(params_line::bits_at(matrix, 3)) {
-        return false;
-    }
-    if !is_zero(params_line::bits_at(matrix, 6)) {
-        return false;
-    }
-    if !is_zero(params_line::bits_at(matrix, 7)) {
+    if !is_zero(params_line::bits_at(matrix, 1))
+        || !is_zero(params_line::bits_at(matrix, 3))
+        || !is_zero(params_line::bits_at(matrix, 6))
+        || !is_zero(params_line::bits_at(matrix, 7))
+    {
         return false;
     }
     params_line::bits_at(matrix, 8) == ONE
 }
 
 // Whether so many coefficients are taken.
+#[tactic(auto, unfolding(crate::specs::Moved::counted))]
 fn is_counted(n: usize) -> bool
     ensures { result ≡ counted n }
 {
-    if n == 4 {
-        return true;
-    }
-    if n == 5 {
-        return true;
-    }
-    if n == 8 {
-        return true;
-    }
-    if n == 12 {
-        return true;
-    }
-    n == 14
+    matches!(n, 4 | 5 | 8 | 12 | 14)
 }
 
 // Whether the coefficients past the eighth are zeros.
@@ -196,12 +170,10 @@ fn are_zeros(coeffs: &[u8]) -> bool
     ensures { result ≡ all zero_bits (drop 8 (params_of coeffs.now)) }
 {
     let n = params_line::many(coeffs);
-    let mut k = 8;
-    while k < n {
+    for k in 8..n {
         if !is_zero(params_line::bits_at(coeffs, k)) {
             return false;
         }
-        k += 1;
     }
     true
 }
@@ -210,39 +182,35 @@ fn are_zeros(coeffs: &[u8]) -> bool
 fn is_plain(matrix: &[u8], coeffs: &[u8]) -> bool
     ensures { result ≡ plain (params_of matrix.now) (params_of coeffs.now) }
 {
-    if params_line::many(matrix) != 9 {
+    if params_line::many(matrix) != 9
+        || !is_fixed(matrix)
+        || !is_counted(params_line::many(coeffs))
+    {
         return false;
     }
-    if !is_fixed(matrix) {
-        return false;
-    }
-    if is_counted(params_line::many(coeffs)) {
-        are_zeros(coeffs)
-    } else {
-        false
-    }
+    are_zeros(coeffs)
 }
 
 // 3, and then 4 and 5.
-fn judge_params(line: &[u8]) -> Judgement
+fn judge_params(line: &[u8]) -> Result<(), Refusal>
     ensures { verdict result ≡ first (rows (ours (params_of line.now))) }
 {
     if params_line::many(line) == 12 {
         judge_numbers(from_params(line))
     } else {
-        Judgement::Refused(Refusal::WrongCount)
+        Err(Refusal::WrongCount)
     }
 }
 
 // 17, and then 4 and 5.
-fn judge_matrix(matrix: &[u8], coeffs: &[u8]) -> Judgement
+fn judge_matrix(matrix: &[u8], coeffs: &[u8]) -> Result<(), Refusal>
     ensures { verdict result ≡
         first (rows (theirs (params_of matrix.now) (params_of coeffs.now))) }
 {
     if is_plain(matrix, coeffs) {
         judge_numbers(from_matrix(matrix, coeffs))
     } else {
-        Judgement::Refused(Refusal::NotOurs)
+        Err(Refusal::NotOurs)
     }
 }
 
@@ -252,10 +220,9 @@ fn move_ours(line: &[u8], out: &mut [u8]) -> usize
     ensures { written out.new result ≡
         placed (written out.old 0) (moved (ours (params_of line.now))) }
 {
-    let judgement = judge_params(line);
-    match judgement {
-        Judgement::Taken => put_matrix(out, from_params(line)),
-        Judgement::Refused(refusal) => listing_lines::refused_line(out, 0, refusal),
+    match judge_params(line) {
+        Ok(()) => put_matrix(out, from_params(line)),
+        Err(refusal) => listing_lines::refused_line(out, 0, refusal),
     }
 }
 
@@ -266,10 +233,9 @@ fn move_theirs(matrix: &[u8], coeffs: &[u8], out: &mut [u8]) -> usize
         (written out.old 0)
         (moved (theirs (params_of matrix.now) (params_of coeffs.now))) }
 {
-    let judgement = judge_matrix(matrix, coeffs);
-    match judgement {
-        Judgement::Taken => put_params(out, from_matrix(matrix, coeffs)),
-        Judgement::Refused(refusal) => listing_lines::refused_line(out, 0, refusal),
+    match judge_matrix(matrix, coeffs) {
+        Ok(()) => put_params(out, from_matrix(matrix, coeffs)),
+        Err(refusal) => listing_lines::refused_line(out, 0, refusal),
     }
 }
 
@@ -277,11 +243,7 @@ fn move_theirs(matrix: &[u8], coeffs: &[u8], out: &mut [u8]) -> usize
 fn are_theirs(matrix: &[u8], coeffs: &[u8]) -> bool
     ensures { result ≡ are_theirs matrix.now coeffs.now }
 {
-    if params_line::is_line(b"matrix", matrix) {
-        params_line::is_line(b"coeffs", coeffs)
-    } else {
-        false
-    }
+    params_line::is_line(b"matrix", matrix) && params_line::is_line(b"coeffs", coeffs)
 }
 
 // Where the first line ends, behind its newline.

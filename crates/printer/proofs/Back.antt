@@ -8,8 +8,8 @@ use lib.Ieee.{Float, binary32, fits, of_bits}
 use lib.Ieee.Bits.{of_bits-fits}
 use lib.Ieee.Scale.{finite}
 use lib.ListN.{set, take, replicate}
-use Rattle.lens.specs.declared.Distorted.{Distorted}
-use Rattle.lens.specs.declared.Distorted.TheVariants as pixels
+use Rattle.std.proofs.Common.{Result, Ok, Err}
+use Rattle.lens.specs.Distorted.{Distorted}
 use Rattle.region.specs.Region.{increments}
 use Rattle.region.specs.declared.Increments.{Increments}
 use Rattle.region.specs.declared.Region.{Region}
@@ -40,8 +40,8 @@ ContentFit (none n) = Unit {0}
 ContentFit (numbers a b) = T (fits binary32 a) × T (fits binary32 b)
 
 pixel_fit : (d : Distorted) → ContentFit (of_pixel f32 d)
-pixel_fit (pixels.Refused r) = tt
-pixel_fit (pixels.At p) = go (finite (narrowed p.0) && finite (narrowed p.1))
+pixel_fit (Err r) = tt
+pixel_fit (Ok p) = go (finite (narrowed p.0) && finite (narrowed p.1))
   where
     go : (b : Bool) → ContentFit (cond b (numbers (narrowed p.0) (narrowed p.1)) (none 12))
     go true = (narrow_fits p.0, narrow_fits p.1)

@@ -8,7 +8,7 @@ use native.Mathlib.Nat.{mul-le-mul_right, min-le_right}
 use native.Mathlib.Omega.{arith}
 use lib.Ieee.{Float}
 use lib.ListN.{length}
-use Rattle.lens.specs.declared.Judgement.TheVariants.{Taken}
+use Rattle.std.proofs.Common.{Result, Ok, Err}
 use Rattle.region.specs.Size.{Sized}
 use Rattle.camera.specs.Camera.{limit}
 use Rattle.camera.specs.declared.Camera.{Camera}
@@ -23,15 +23,14 @@ use Rattle.table_plans.specs.Tables.{opens_for, f32s, f32_table}
 use Rattle.table_plans.proofs.Sound.{opened, f32_fit, f32_sound}
 use Rattle.job.specs.Job.{fresh_job, fresh}
 use Rattle.job.specs.declared.Job.{Job}
-use Rattle.job.specs.declared.Started.TheVariants as begun
 use Rattle.distortion_table.specs.Answer.{Answer, answer, whole_table, enough}
 use Rattle.distortion_table.proofs.Calls.{fresh_opens, answer_is}
 
-module _ (camera : Camera) (width height : ℕ) (job : Job) (begin : fresh camera width height false ≡ begun.With job) where
+module _ (camera : Camera) (width height : ℕ) (job : Job) (begin : fresh camera width height false ≡ Ok job) where
   abbrev pub the_plan : Plan Float
   the_plan = f32_table camera width height false
 
-  opens : opens_for camera width height nowhere ≡ Taken
+  opens : opens_for camera width height nowhere ≡ Ok tt
   opens = (fresh_opens camera width height false job begin).0
 
   pub size : Sized width height

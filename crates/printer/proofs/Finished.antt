@@ -9,12 +9,13 @@ use borrow.Author.Tests.{le-ltb}
 use lib.Ieee.{Float, binary32, of_bits}
 use lib.ListN.{length, take, drop, length-replicate}
 use lib.Seq.{length-take-le, take_at}
+use Rattle.std.proofs.Common.{Result, Ok, Err}
+use Rattle.lens.specs.declared.Refusal.{Refusal}
 use Rattle.lens.specs.Refusal.{number}
 use Rattle.lens.specs.declared.Refusal.TheVariants.{WrongSize}
 use Rattle.region.specs.Fits.{FourFit}
 use Rattle.camera.specs.declared.Camera.{Camera}
 use Rattle.camera_file.specs.Asked.{parsed}
-use Rattle.camera_file.specs.declared.Parsed.TheVariants as file
 use Rattle.engine.specs.Engine.{short_for}
 use Rattle.engine.proofs.Laws.{points_fit}
 use Rattle.listing.specs.Read.{Listed, listed, listed_text, fair}
@@ -25,8 +26,6 @@ use Rattle.plans.specs.Plan as plan
 use Rattle.plans.proofs.Fits.{start_numbers_fit, turn_numbers_fit}
 use Rattle.job.specs.Job.{fresh_job, fresh}
 use Rattle.job.specs.declared.Job.{Job}
-use Rattle.job.specs.declared.Started.{Started}
-use Rattle.job.specs.declared.Started.TheVariants as begun
 use Rattle.distortion_table.specs.Answer.{Answer, answer, whole_table, enough}
 use Rattle.printer.specs.Made.{most_cells, outcome_of, unbuilt, build_whole, build_sized, started, build_asked, build_parsed, build}
 use Rattle.printer.specs.Made.{Made, table, no_table, held, made_in, blank_room, made}
@@ -77,7 +76,7 @@ Good (no_table n) = n ≤ 19
 
 -- ---- a table that is begun
 
-module _ (camera : Camera) (width height : ℕ) (job : Job) (begin : fresh camera width height false ≡ begun.With job)
+module _ (camera : Camera) (width height : ℕ) (job : Job) (begin : fresh camera width height false ≡ Ok job)
     (cells-few : width * height ≤ most_cells) where
   abbrev start : List Float
   start = take (2 * (width * height)) blank_room
@@ -135,11 +134,11 @@ module _ (camera : Camera) (width height : ℕ) (job : Job) (begin : fresh camer
   good_whole = subst Good (sym whole_made) (good_answer built.said told)
 
   -- what a text comes to that asks for it
-  pub asked_made : (input : List ℕ) → parsed input ≡ file.Asked camera width height → made input ≡ answered built.said built
+  pub asked_made : (input : List ℕ) → parsed input ≡ Ok record { camera = camera; width = width; height = height } → made input ≡ answered built.said built
   unfolding made build build_asked build_sized
   asked_made input asks =
       ap (λ (p : _). made_in (build_parsed blank_room p)) asks
-      ∙ ap (λ (b : Started). made_in (started blank_room b (build_sized blank_room camera width height))) begin
+      ∙ ap (λ (b : Result Job Refusal). made_in (started blank_room b (build_sized blank_room camera width height))) begin
       ∙ ap
       (λ (b : Bool). made_in (cond b (unbuilt blank_room (number WrongSize)) (build_whole blank_room camera width height)))
       (le-ltb most_cells (width * height) cells-few)

@@ -2,7 +2,8 @@
 use mathlib.Core.Path.{◌≡◌, sym, ap, ◌∙◌, subst}
 use mathlib.Core.Bool.{true, false}
 use mathlib.Core.List.{List}
-use mathlib.Core.Option.{some}
+use Rattle.std.proofs.Common.{Result, Ok, Err, Option, Some, None}
+use Rattle.lens.specs.declared.Refusal.{Refusal}
 use Prim.Native.Nat.{ℕ, ◌*◌, ◌≤◌}
 use native.Mathlib.Omega.{arith}
 use lib.Ieee.{Float}
@@ -12,7 +13,6 @@ use Rattle.lens.specs.Rows.{first}
 use Rattle.lens.proofs.Laws.{number_one_to_one}
 use Rattle.camera.specs.declared.Camera.{Camera}
 use Rattle.camera_file.specs.Asked.{parsed}
-use Rattle.camera_file.specs.declared.Parsed.TheVariants as file
 use Rattle.put_text.proofs.Laws.{both}
 use Rattle.listing_lines.specs.Line.{refused_line}
 use Rattle.listing.specs.Listing.{listing}
@@ -21,7 +21,6 @@ use Rattle.listing.proofs.Laws.{listing_is, listing_read}
 use Rattle.turns.specs.Turns.{Said, finished, refused, running}
 use Rattle.job.specs.Job.{fresh}
 use Rattle.job.specs.declared.Job.{Job}
-use Rattle.job.specs.declared.Started.TheVariants as begun
 use Rattle.distortion_table.specs.Answer.{Answer, whole_table}
 use Rattle.distortion_table.proofs.Laws.{at_once_ends}
 use Rattle.printer.specs.Made.{most_cells, told_built, InRoom, build}
@@ -29,7 +28,6 @@ use Rattle.printer.specs.Made.{table, no_table, held, made_in, blank_room, made}
 use Rattle.printer.specs.Printed.{made_text, printed, most_printed}
 use Rattle.printer.specs.Rows.{printer_rows, built_text, by_rows}
 use Rattle.printer.specs.declared.Built.{Built}
-use Rattle.printer.specs.declared.Built.TheVariants.{Table, Refused}
 use Rattle.printer.proofs.Finished.{answered, Good, start_long, asked_made, made_good, printed_short}
 use Rattle.printer.proofs.Order.{Asks, order, none_holds}
 use Rattle.printer.proofs.build.Reads as build-contract
@@ -42,11 +40,11 @@ pub print_determined : DeterminedWith print-contract.Post (λ κ s. s.1.0.now)
 print_determined κ a s s' r r' p q = both (p.0 ∙ sym q.0)
 
 -- What is told of a build's answer determines it.
-pub built_one_to_one : (a b : Built) → told_built a ≡ told_built b → a ≡ b
-built_one_to_one (Table w h u r) (Table w' h' u' r') e = cc
-built_one_to_one (Table w h u r) (Refused q) e = let z : ◌≡◌ {A = ℕ} 0 1 = cc in absurd (omega arith)
-built_one_to_one (Refused q) (Table w h u r) e = let z : ◌≡◌ {A = ℕ} 0 1 = cc in absurd (omega arith)
-built_one_to_one (Refused q) (Refused r) e = ap Refused (number_one_to_one q r cc)
+pub built_one_to_one : (a b : Result Built Refusal) → told_built a ≡ told_built b → a ≡ b
+built_one_to_one (Ok a) (Ok b) e = ap Ok (cc)
+built_one_to_one (Ok a) (Err q) e = cc
+built_one_to_one (Err q) (Ok b) e = cc
+built_one_to_one (Err q) (Err r) e = ap Err (number_one_to_one q r cc)
 
 -- Any two answers to one call that the contract of `build` permits are equal, and so are any two rooms at the return.
 pub build_determined : DeterminedWith build-contract.Post (λ κ s. s.1.0.now)
@@ -58,7 +56,7 @@ build_determined κ a s s' r r' p q =
 
 -- With what `build` answers, the room that was zeros holds what the text comes to: the table's numbers are its first.
 pub build_made :
-    (κ : _) (a : _) (r : Built) (s : _) →
+    (κ : _) (a : _) (r : Result Built Refusal) (s : _) →
     build-contract.Post κ a r s →
     a.1.0.now ≡ blank_room →
     held (told_built r) s.1.0.now ≡ made a.0.now
@@ -84,7 +82,7 @@ pub made_few : (input : List ℕ) (l : Listed) → made input ≡ table l → l.
 made_few input l e = let g = subst Good e (made_good input) in g.few
 
 -- and from what is printed of it, it is read back.
-pub made_read : (input : List ℕ) (l : Listed) → made input ≡ table l → read_listing (printed input) ≡ some l
+pub made_read : (input : List ℕ) (l : Listed) → made input ≡ table l → read_listing (printed input) ≡ Some l
 made_read input l e = ap read_listing (made_listed input l e) ∙ listing_read l (made_fair input l e)
 
 -- The number of a refusal is at most 19.
@@ -109,8 +107,8 @@ printed_asks = none_holds
 
 -- ---- an input that asks for a table
 
-module _ (input : List ℕ) (camera : Camera) (width height : ℕ) (asks : parsed input ≡ file.Asked camera width height)
-    (job : Job) (begin : fresh camera width height false ≡ begun.With job)
+module _ (input : List ℕ) (camera : Camera) (width height : ℕ) (asks : parsed input ≡ Ok record { camera = camera; width = width; height = height })
+    (job : Job) (begin : fresh camera width height false ≡ Ok job)
     (cells-few : width * height ≤ most_cells) where
   -- the table that it asks for, built at once
   abbrev pub built : Answer Float
@@ -150,5 +148,5 @@ module _ (input : List ℕ) (camera : Camera) (width height : ℕ) (asks : parse
   pub printed_read :
       built.said ≡ finished →
       read_listing (printed input)
-      ≡ some (listed width height built.job.at.updates built.job.at.region built.cells)
+      ≡ Some (listed width height built.job.at.updates built.job.at.region built.cells)
   printed_read e = made_read input built_listed (made_finished e)

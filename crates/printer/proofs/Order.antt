@@ -6,20 +6,19 @@ use Prim.Native.Nat.{ℕ, ◌*◌, ◌≤◌}
 use native.Mathlib.Omega.{arith}
 use borrow.Author.Tests.{ne_eqb, eqb-true, eqb-false, ltb-false}
 use lib.Dec.{eqb, ltb}
+use Rattle.std.proofs.Common.{Result, Ok, Err}
+use Rattle.lens.specs.declared.Refusal.{Refusal}
+use Rattle.camera_file.specs.declared.Asked.{Asked}
 use Rattle.lens.specs.Refusal.{number}
 use Rattle.lens.specs.Rows.{Row, ◌when◌, first}
 use Rattle.lens.proofs.Laws.{number_within}
 use Rattle.camera.specs.declared.Camera.{Camera}
 use Rattle.camera_file.specs.Asked.{parsed, told_file}
 use Rattle.camera_file.specs.Rows.{file_rows}
-use Rattle.camera_file.specs.declared.Parsed.{Parsed}
-use Rattle.camera_file.specs.declared.Parsed.TheVariants.{Asked, Refused}
 use Rattle.camera_file.proofs.Laws.{file_number}
 use Rattle.job.specs.Job.{told_started, begun_number, fresh}
 use Rattle.job.specs.Rows.{fresh_rows}
 use Rattle.job.specs.declared.Job.{Job}
-use Rattle.job.specs.declared.Started.{Started}
-use Rattle.job.specs.declared.Started.TheVariants as begun
 use Rattle.job.proofs.Laws.{fresh_number}
 use Rattle.listing_lines.specs.Line.{refused_line}
 use Rattle.printer.specs.Made.{most_cells, InRoom, unbuilt, build_whole, build_sized, started, build_asked, build_parsed, build}
@@ -79,23 +78,23 @@ text_of b = made_text (made_in b)
 
 module _ (camera : Camera) (width height : ℕ) where
   abbrev text : List ℕ
-  text = built_text (Asked camera width height)
+  text = built_text (Ok (record { camera = camera; width = width; height = height }))
 
   by_cells : (t : Bool) (b : InRoom) → text_of (cond t (unbuilt blank_room 6) b) ≡ by_rows (cond t 6 0) (text_of b)
   by_cells true b = refl
   by_cells false b = refl
 
-  by_start : (b : Started)
+  by_start : (b : Result Job Refusal)
       → text_of (started blank_room b (build_sized blank_room camera width height))
       ≡ by_rows (else (begun_number (told_started b)) (cond (ltb most_cells (width * height)) 6 0)) text
   unfolding build_sized
-  by_start (begun.Refused r) = refused_text (number r) _ text (number_within r).0
-  by_start (begun.With job) = by_cells (ltb most_cells (width * height)) (build_whole blank_room camera width height)
+  by_start (Err r) = refused_text (number r) _ text (number_within r).0
+  by_start (Ok job) = by_cells (ltb most_cells (width * height)) (build_whole blank_room camera width height)
 
-  asked_first : first (asked_rows (Asked camera width height)) ≡ else (first (fresh_rows camera width height)) (cond (ltb most_cells (width * height)) 6 0)
+  asked_first : first (asked_rows (Ok (record { camera = camera; width = width; height = height }))) ≡ else (first (fresh_rows camera width height)) (cond (ltb most_cells (width * height)) 6 0)
   asked_first = behind (fresh_rows camera width height) ((6 when ltb most_cells (width * height)) ∷ []) (fresh_numbered camera width height)
 
-  asked_order : text_of (build_asked blank_room camera width height) ≡ by_rows (first (asked_rows (Asked camera width height))) text
+  asked_order : text_of (build_asked blank_room camera width height) ≡ by_rows (first (asked_rows (Ok (record { camera = camera; width = width; height = height })))) text
   unfolding build_asked
   asked_order =
       by_start (fresh camera width height false)
@@ -105,9 +104,9 @@ module _ (camera : Camera) (width height : ℕ) where
 -- ---- 14, 1, 3 before them
 
 module _ (input : List ℕ) where
-  by_file : (p : Parsed) → text_of (build_parsed blank_room p) ≡ by_rows (else (told_file p).number (first (asked_rows p))) (built_text p)
-  by_file (Refused r) = refused_text (number r) 0 [] (number_within r).0
-  by_file (Asked camera width height) = asked_order camera width height
+  by_file : (p : Result Asked Refusal) → text_of (build_parsed blank_room p) ≡ by_rows (else (told_file p).number (first (asked_rows p))) (built_text p)
+  by_file (Err r) = refused_text (number r) 0 [] (number_within r).0
+  by_file (Ok a) = asked_order a.camera a.width a.height
 
   all_first : first (printer_rows input) ≡ else (first (file_rows input)) (first (asked_rows (parsed input)))
   all_first = behind (file_rows input) (asked_rows (parsed input)) (file_numbered input)
@@ -127,8 +126,8 @@ pub record Asks (input : List ℕ) : Type 0 where
   pub width : ℕ
   pub height : ℕ
   pub job : Job
-  pub asks : parsed input ≡ Asked camera width height
-  pub begin : fresh camera width height false ≡ begun.With job
+  pub asks : parsed input ≡ Ok record { camera = camera; width = width; height = height }
+  pub begin : fresh camera width height false ≡ Ok job
   pub few : width * height ≤ most_cells
 
 module _ (input : List ℕ) where
@@ -137,22 +136,22 @@ module _ (input : List ℕ) where
   few_cells n m false e f = ltb-false n m e
 
   begins :
-      (camera : Camera) (width height : ℕ) (b : Started) →
-      parsed input ≡ Asked camera width height →
+      (camera : Camera) (width height : ℕ) (b : Result Job Refusal) →
+      parsed input ≡ Ok record { camera = camera; width = width; height = height } →
       fresh camera width height false ≡ b →
       begun_number (told_started b) ≡ 0 →
       width * height ≤ most_cells →
       Asks input
-  begins camera width height (begun.Refused r) e f g h = absurd (omega (arith, g, number_within r))
-  begins camera width height (begun.With job) e f g h =
+  begins camera width height (Err r) e f g h = absurd (omega (arith, g, number_within r))
+  begins camera width height (Ok job) e f g h =
       record { camera = camera; width = width; height = height; job = job; asks = e; begin = f; few = h }
 
-  asks_by : (p : Parsed) → parsed input ≡ p → (told_file p).number ≡ 0 → first (asked_rows p) ≡ 0 → Asks input
-  asks_by (Refused r) e f g = absurd (omega (arith, f, number_within r))
-  asks_by (Asked camera width height) e f g =
-      let z = neither _ _ (sym (asked_first camera width height) ∙ g) in
-      begins camera width height (fresh camera width height false) e refl (fresh_number camera width height false ∙ z.0)
-      (few_cells most_cells (width * height) (ltb most_cells (width * height)) refl z.1)
+  asks_by : (p : Result Asked Refusal) → parsed input ≡ p → (told_file p).number ≡ 0 → first (asked_rows p) ≡ 0 → Asks input
+  asks_by (Err r) e f g = absurd (omega (arith, f, number_within r))
+  asks_by (Ok a) e f g =
+      let z = neither _ _ (sym (asked_first a.camera a.width a.height) ∙ g) in
+      begins a.camera a.width a.height (fresh a.camera a.width a.height false) e refl (fresh_number a.camera a.width a.height false ∙ z.0)
+      (few_cells most_cells (a.width * a.height) (ltb most_cells (a.width * a.height)) refl z.1)
 
   pub none_holds : first (printer_rows input) ≡ 0 → Asks input
   none_holds e =

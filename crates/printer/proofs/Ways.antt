@@ -9,19 +9,18 @@ use borrow.Author.Tests.{ltb-false}
 use lib.Dec.{ltb}
 use lib.Ieee.{Float}
 use lib.ListN.{take}
+use Rattle.std.proofs.Common.{Result, Ok, Err}
+use Rattle.lens.specs.declared.Refusal.{Refusal}
+use Rattle.camera_file.specs.declared.Asked.{Asked}
 use Rattle.lens.specs.Refusal.{number}
 use Rattle.lens.specs.declared.Refusal.TheVariants.{WrongSize}
 use Rattle.lens.proofs.Laws.{number_within}
 use Rattle.region.specs.Size.{Sized}
 use Rattle.camera.specs.declared.Camera.{Camera}
 use Rattle.camera_file.specs.Asked.{parsed}
-use Rattle.camera_file.specs.declared.Parsed.{Parsed}
-use Rattle.camera_file.specs.declared.Parsed.TheVariants as file
 use Rattle.turns.specs.Turns.{Said, finished, refused, running}
 use Rattle.job.specs.Job.{fresh}
 use Rattle.job.specs.declared.Job.{Job}
-use Rattle.job.specs.declared.Started.{Started}
-use Rattle.job.specs.declared.Started.TheVariants as begun
 use Rattle.distortion_table.specs.Answer.{whole_table}
 use Rattle.printer.specs.Made.{most_cells, HasRoom, InRoom, outcome_of}
 use Rattle.printer.specs.Made.{unbuilt, build_whole, build_sized, started, build_asked, build_parsed, build}
@@ -31,10 +30,10 @@ use Rattle.printer.proofs.Ended.{size}
 module _ (P : InRoom → Type 0) (room : List Float) (no : (n : ℕ) → n ≤ 19 → P (unbuilt room n))
     (yes :
     (camera : Camera) (width height : ℕ) (job : Job) →
-    fresh camera width height false ≡ begun.With job →
+    fresh camera width height false ≡ Ok job →
     width * height ≤ most_cells →
     P (build_whole room camera width height)) where
-  of_sized : (camera : Camera) (width height : ℕ) (job : Job) → fresh camera width height false ≡ begun.With job → P (build_sized room camera width height)
+  of_sized : (camera : Camera) (width height : ℕ) (job : Job) → fresh camera width height false ≡ Ok job → P (build_sized room camera width height)
   unfolding build_sized
   of_sized camera width height job e = go (ltb most_cells (width * height)) refl
     where
@@ -46,17 +45,17 @@ module _ (P : InRoom → Type 0) (room : List Float) (no : (n : ℕ) → n ≤ 1
   unfolding build_asked
   of_asked camera width height = go (fresh camera width height false) refl
     where
-      go : (b : Started) → fresh camera width height false ≡ b → P (started room b (build_sized room camera width height))
-      go (begun.Refused r) e = no (number r) (number_within r).1
-      go (begun.With job) e = of_sized camera width height job e
+      go : (b : Result Job Refusal) → fresh camera width height false ≡ b → P (started room b (build_sized room camera width height))
+      go (Err r) e = no (number r) (number_within r).1
+      go (Ok job) e = of_sized camera width height job e
 
   pub each_way : (input : List ℕ) → P (build input room)
   unfolding build
   each_way input = go (parsed _)
     where
-      go : (p : Parsed) → P (build_parsed room p)
-      go (file.Refused r) = no (number r) (number_within r).1
-      go (file.Asked camera width height) = of_asked camera width height
+      go : (p : Result Asked Refusal) → P (build_parsed room p)
+      go (Err r) = no (number r) (number_within r).1
+      go (Ok a) = of_asked a.camera a.width a.height
 
 outcome_room :
     (said : Said) (job : Job) →
@@ -73,7 +72,7 @@ has_room input room = each_way (λ b. HasRoom b.outcome) room (λ n h. tt) begun
   where
     begun_room :
         (camera : Camera) (width height : ℕ) (job : Job) →
-        fresh camera width height false ≡ begun.With job →
+        fresh camera width height false ≡ Ok job →
         width * height ≤ most_cells →
         HasRoom (build_whole room camera width height).outcome
     begun_room camera width height job e few =

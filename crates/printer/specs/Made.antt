@@ -1,25 +1,22 @@
 -- What a camera file's text comes to: its table, or the number of a refusal. The table is built in a room of numbers
 -- that is lent. Definitions only.
-use Rattle.std.specs.Prelude.{false, cond, List, ◌++◌, ℕ, ◌*◌, ◌≤◌, ltb, Float, take, drop, replicate}
+use Rattle.std.specs.Prelude.{false, cond, Result, Ok, Err, List, ◌++◌, ℕ, ◌*◌, ◌≤◌, ltb, Float, take, drop, replicate}
 use Rattle.std.specs.Float.{binary32}
 use Rattle.std.specs.Float.Ieee.{of_bits}
 use Rattle.lens.specs.Refusal.{number}
+use Rattle.lens.specs.declared.Refusal.{Refusal}
 use Rattle.lens.specs.declared.Refusal.TheVariants.{WrongSize}
 use Rattle.region.specs.Size.{Sized}
 use Rattle.region.specs.declared.Region.{Region}
 use Rattle.camera.specs.declared.Camera.{Camera}
 use Rattle.camera_file.specs.Asked.{parsed}
-use Rattle.camera_file.specs.declared.Parsed.{Parsed}
-use Rattle.camera_file.specs.declared.Parsed.TheVariants as file
+use Rattle.camera_file.specs.declared.Asked.{Asked}
 use Rattle.turns.specs.Turns.{Said, finished, refused, running}
 use Rattle.job.specs.Job.{fresh}
 use Rattle.job.specs.declared.Job.{Job}
-use Rattle.job.specs.declared.Started.{Started}
-use Rattle.job.specs.declared.Started.TheVariants as begun
 use Rattle.distortion_table.specs.Answer.{Answer, whole_table}
 use Rattle.listing.specs.Read.{Listed, listed}
 use Rattle.printer.specs.declared.Built.{Built}
-use Rattle.printer.specs.declared.Built.TheVariants as answers
 
 -- the most cells of a table that is built here
 abbrev pub most_cells : ℕ
@@ -32,9 +29,9 @@ pub data Outcome : Type 0 where
   a_table : ℕ → ℕ → ℕ → Region → Outcome
   a_refusal : ℕ → Outcome
 
-abbrev pub told_built : Built → Outcome
-told_built (answers.Table width height updates region) = a_table width height updates region
-told_built (answers.Refused r) = a_refusal (number r)
+abbrev pub told_built : Result Built Refusal → Outcome
+told_built (Ok b) = a_table b.width b.height b.updates b.region
+told_built (Err r) = a_refusal (number r)
 
 -- a table that is answered has sides of 2 to 4,096, and no more cells than the most
 abbrev pub HasRoom : Outcome → Type 0
@@ -79,17 +76,17 @@ module _ (room : List Float) where
       cond (ltb most_cells (width * height)) (unbuilt (number WrongSize)) (build_whole camera width height)
 
   -- before that 4, 5 and 6 for its sides
-  abbrev pub started : Started → InRoom → InRoom
-  started (begun.Refused r) later = unbuilt (number r)
-  started (begun.With job) later = later
+  abbrev pub started : Result Job Refusal → InRoom → InRoom
+  started (Err r) later = unbuilt (number r)
+  started (Ok job) later = later
 
   unfoldable pub build_asked : Camera → ℕ → ℕ → InRoom
   build_asked camera width height = started (fresh camera width height false) (build_sized camera width height)
 
   -- and first of all 14, 1 and 3
-  abbrev pub build_parsed : Parsed → InRoom
-  build_parsed (file.Refused r) = unbuilt (number r)
-  build_parsed (file.Asked camera width height) = build_asked camera width height
+  abbrev pub build_parsed : Result Asked Refusal → InRoom
+  build_parsed (Err r) = unbuilt (number r)
+  build_parsed (Ok a) = build_asked a.camera a.width a.height
 
 unfoldable pub build : List ℕ → List Float → InRoom
 build input room = build_parsed room (parsed input)

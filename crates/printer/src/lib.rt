@@ -8,13 +8,11 @@ ghost use Rattle.io.specs.Counts.{IsPrefixLen};
 ghost use Rattle.distortion_table.specs.Answer.{told_status, told_turned, whole_table};
 ghost use Rattle.put_text.specs.Placed.{written, with_text};
 ghost use Rattle.printer.specs.Made.{most_cells, told_built, HasRoom, in_room, outcome_of};
-ghost use Rattle.printer.specs.Made.{build_sized, build_asked, build_parsed, build, held};
+ghost use Rattle.printer.specs.Made.{build_sized, build_asked, build, held};
 ghost use Rattle.printer.specs.Printed.{made_text, print};
 
 use camera::Camera;
-use camera_file::Parsed;
 use distortion_table::{Status, Turned};
-use job::Started;
 use lens::Refusal;
 use region::Region;
 
@@ -27,16 +25,13 @@ pub const NUMBERS: usize = 8192;
 // 33, and what is over holds the two lines above them.
 pub const OUTPUT: usize = 139264;
 
-// What a build answers: a table, whose numbers are the first 2·w·h of the room, or a refusal.
+// A table that was built, whose numbers are the first 2·w·h of the room.
 #[derive(Clone, Copy)]
-pub enum Built {
-    Table {
-        width: usize,
-        height: usize,
-        updates: u32,
-        region: Region,
-    },
-    Refused(Refusal),
+pub struct Built {
+    pub width: usize,
+    pub height: usize,
+    pub updates: u32,
+    pub region: Region,
 }
 
 // The table into the first n numbers of the room.
@@ -50,88 +45,81 @@ fn fill(room: &mut [f32], n: usize, camera: Camera, width: usize, height: usize)
 }
 
 // What a turn comes to that may do enough units for any table: it isn't running at its end.
-fn outcome_of(turned: Turned) -> Built
+fn outcome_of(turned: Turned) -> Result<Built, Refusal>
     ensures { told_built result ≡ outcome_of (told_status turned.status) turned.job }
 {
-    let status = turned.status;
-    if let Status::Refused(refusal) = status {
-        return Built::Refused(refusal);
+    if let Status::Refused(refusal) = turned.status {
+        return Err(refusal);
     }
     let job = turned.job;
-    let at = job.at;
-    let region = at.region;
-    Built::Table {
+    Ok(Built {
         width: job.width,
         height: job.height,
-        updates: at.updates,
-        region,
-    }
+        updates: job.at.updates,
+        region: job.at.region,
+    })
 }
 
 // A table of a size that is taken: 6 for one with too many cells.
-fn build_sized(room: &mut [f32], camera: Camera, width: usize, height: usize) -> Built
+fn build_sized(
+    room: &mut [f32],
+    camera: Camera,
+    width: usize,
+    height: usize,
+) -> Result<Built, Refusal>
     requires { Sized width height × (length room.old ≡ 2 * most_cells) }
     ensures { in_room (told_built result) room.new ≡
         build_sized room.old camera width height }
 {
     if CELLS < width * height {
-        return Built::Refused(Refusal::WrongSize);
+        return Err(Refusal::WrongSize);
     }
     outcome_of(fill(room, 2 * (width * height), camera, width, height))
 }
 
 // 4, 5, 6, and then the table.
-fn build_asked(room: &mut [f32], camera: Camera, width: usize, height: usize) -> Built
+fn build_asked(
+    room: &mut [f32],
+    camera: Camera,
+    width: usize,
+    height: usize,
+) -> Result<Built, Refusal>
     requires { length room.old ≡ 2 * most_cells }
     ensures { in_room (told_built result) room.new ≡
         build_asked room.old camera width height }
 {
-    match job::fresh(camera, width, height, false) {
-        Started::Refused(refusal) => Built::Refused(refusal),
-        Started::With(_) => build_sized(room, camera, width, height),
-    }
-}
-
-// 14, 1, 3, and then what the file asks for.
-fn build_parsed(room: &mut [f32], parsed: Parsed) -> Built
-    requires { length room.old ≡ 2 * most_cells }
-    ensures { in_room (told_built result) room.new ≡ build_parsed room.old parsed }
-{
-    match parsed {
-        Parsed::Refused(refusal) => Built::Refused(refusal),
-        Parsed::Asked {
-            camera,
-            width,
-            height,
-        } => build_asked(room, camera, width, height),
-    }
+    job::fresh(camera, width, height, false)?;
+    build_sized(room, camera, width, height)
 }
 
 // The table of a camera file, over the first numbers of the room, or a refusal. One before the first unit of work
 // leaves the room as it is; one at a unit leaves what was filled before it.
-pub fn build(input: &[u8], room: &mut [f32; NUMBERS]) -> Built
+pub fn build(input: &[u8], room: &mut [f32; NUMBERS]) -> Result<Built, Refusal>
     ensures room_after { in_room (told_built result) room.new ≡ build input.now room.old }
     ensures has_room { HasRoom (told_built result) }
     ensures room_len { length room.new ≡ 2 * most_cells }
 {
-    build_parsed(room, camera_file::parse(input))
+    let asked = camera_file::parse(input)?;
+    build_asked(room, asked.camera, asked.width, asked.height)
 }
 
 // Writes what was built in a room to the start of out, where all of it fits.
-fn show(out: &mut [u8], built: Built, room: &[f32]) -> usize
+fn show(out: &mut [u8], built: Result<Built, Refusal>, room: &[f32]) -> usize
     requires has_room { HasRoom (told_built built) × (2 * most_cells ≤ length room.now) }
     requires room_in_bounds { length (made_text (held (told_built built) room.now)) ≤ length out.old }
     ensures { written out.new result ≡
         with_text (written out.old 0) (made_text (held (told_built built) room.now)) }
 {
     match built {
-        Built::Refused(refusal) => listing_lines::refused_line(out, 0, refusal),
-        Built::Table {
-            width,
-            height,
-            updates,
-            region,
-        } => {
+        Err(refusal) => listing_lines::refused_line(out, 0, refusal),
+        Ok(
+            Built {
+                width,
+                height,
+                updates,
+                region,
+            },
+        ) => {
             let n = 2 * (width * height);
             listing::write_listing(out, 0, width, height, updates, region, &room[..n])
         }

@@ -1,22 +1,17 @@
 -- `compare::counted` meets its contract. Assumes nothing.
-use Prim.Native.Nat.{◌^◌}
-use native.Mathlib.Omega.{arith}
+use mathlib.Core.Logic.{inl, inr}
 use borrow.Author.Tests.{lt-ltb, le-ltb}
 use Rattle.compare.specs.Told.{counted}
 use Rattle.compare.proofs.counted.Goals as goal
 
 pub returns-in-Same : goal.returns-in-Same
 unfolding counted
-returns-in-Same c = simp c.in-Same.is
+returns-in-Same c = elim c.in-Same.is [ inl e ↦ simp e | inr e ↦ simp e ]
 
-pub returns-in-Lines : goal.returns-in-Lines
+pub returns-then-count-lt-MOST : goal.returns-then-count-lt-MOST
 unfolding counted
-returns-in-Lines c = simp c.in-Lines.is
+returns-then-count-lt-MOST c = simp (c.in-Cells.is, lt-ltb _ _ c.if-count-lt-MOST.true)
 
-pub returns-then-count-lt4294967296 : goal.returns-then-count-lt4294967296
+pub returns-else-count-lt-MOST : goal.returns-else-count-lt-MOST
 unfolding counted
-returns-then-count-lt4294967296 c = simp (c.in-Cells.is, lt-ltb c.args.count (2 ^ 32) (omega (arith, c.if-count-lt4294967296.true)))
-
-pub returns-else-count-lt4294967296 : goal.returns-else-count-lt4294967296
-unfolding counted
-returns-else-count-lt4294967296 c = simp (c.in-Cells.is, le-ltb c.args.count (2 ^ 32) (omega (arith, c.if-count-lt4294967296.false)))
+returns-else-count-lt-MOST c = simp (c.in-Cells.is, le-ltb _ _ c.if-count-lt-MOST.false)

@@ -1,5 +1,7 @@
 -- `mending::mend_built` meets its contract. Assumes nothing.
 use mathlib.Core.Path.{sym, ap, subst, ◌∙◌}
+use Rattle.std.proofs.Common.{Result}
+use Rattle.lens.specs.declared.Refusal.{Refusal}
 use Rattle.put_text.specs.Placed.{written, with_text}
 use Rattle.listing.specs.Read.{lines}
 use Rattle.printer.specs.Made.{told_built, HasRoom, held}
@@ -11,17 +13,17 @@ use Rattle.mending.proofs.mend_built.Goals as goal
 pub mend_table-requires : goal.mend_table-requires
 mend_table-requires c =
     record {
-      sized = subst (λ (b : Built). HasRoom (told_built b)) c.in-Table.is c.requires.has_room;
+      sized = subst (λ (b : Result Built Refusal). HasRoom (told_built b)) c.in-Ok.is c.requires.has_room;
       table_len = c.requires.table_len;
     }
 
-pub returns-in-Refused : goal.returns-in-Refused
-returns-in-Refused c =
+pub returns-in-Err : goal.returns-in-Err
+returns-in-Err c =
     c.refused_line.ensures
-    ∙ refusal_put c.in-Refused.refusal c.args.out.now c.requires.table_len.1
-    ∙ ap (λ (b : Built). with_text (written c.args.out.now 0) (mended_text (held (told_built b) c.args.table.now) (lines c.args.text.now))) (sym c.in-Refused.is)
+    ∙ refusal_put c.in-Err.refusal c.args.out.now c.requires.table_len.1
+    ∙ ap (λ (b : Result Built Refusal). with_text (written c.args.out.now 0) (mended_text (held (told_built b) c.args.table.now) (lines c.args.text.now))) (sym c.in-Err.is)
 
-pub returns-in-Table : goal.returns-in-Table
-returns-in-Table c =
+pub returns-in-Ok : goal.returns-in-Ok
+returns-in-Ok c =
     c.mend_table.ensures
-    ∙ ap (λ (b : Built). with_text (written c.args.out.now 0) (mended_text (held (told_built b) c.args.table.now) (lines c.args.text.now))) (sym c.in-Table.is)
+    ∙ ap (λ (b : Result Built Refusal). with_text (written c.args.out.now 0) (mended_text (held (told_built b) c.args.table.now) (lines c.args.text.now))) (sym c.in-Ok.is)

@@ -1,6 +1,6 @@
 -- `mending::tell_all` meets its contract. The loop's invariant: what is put of the cells that are left is what is put
 -- of all. Assumes nothing.
-use Prim.Native.Nat.{◌-◌}
+use native.Mathlib.Omega.{arith}
 use Rattle.mending.proofs.Telling.{none_passed, one_passed, all_passed}
 use Rattle.mending.proofs.tell_all.Goals as goal
 
@@ -9,14 +9,11 @@ loop-k-init c = none_passed _ _ _ _ _
 
 pub loop-k-preserved : goal.loop-k-preserved
 loop-k-preserved c =
-    one_passed _ _ _ _ _ _ _ c.loop-k.invariant c.requires.some c.loop-k-test.true _ _ _
+    one_passed _ _ _ _ _ _ _ c.loop-k.invariant c.requires.some (omega (arith, c.loop-k-test.true)) _ _ _
     c.tell-next.ensures
     c.to_bits32-a.ensures
     c.to_bits32-b.ensures
     c.tell-next.auto.out
 
-pub shape_of-out : goal.shape_of-out
-shape_of-out c = c.loop-k.invariant.long
-
 pub returns : goal.returns
-returns c = all_passed _ _ _ _ _ _ _ c.loop-k.invariant c.loop-k-test.false
+returns c = all_passed _ _ _ _ _ _ _ c.loop-k.invariant (omega (arith, c.loop-k-test.false))

@@ -1,6 +1,5 @@
 -- `opencv::are_zeros` meets its contract. The loop's invariant: the numbers from k on decide. Assumes nothing.
 use mathlib.Core.Path.{◌≡◌}
-use Prim.Native.Nat.{◌-◌}
 use lib.ListN.{drop}
 use Rattle.decimal.specs.Text.{all}
 use Rattle.params_line.specs.Params.{params_of}
@@ -9,6 +8,3 @@ use Rattle.opencv.proofs.are_zeros.Given as goal
 
 abbrev pub invariant-loop-k : goal.invariant-loop-k
 invariant-loop-k l = all zero_bits (drop l.k (params_of l.coeffs)) ≡ all zero_bits (drop 8 (params_of l.coeffs))
-
-abbrev pub decreases-loop-k : goal.decreases-loop-k
-decreases-loop-k l = l.n - l.k
