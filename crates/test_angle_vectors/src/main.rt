@@ -8,14 +8,8 @@
 // were answered.
 #![tactic(auto)]
 
-ghost use Rattle.std.specs.Prelude.{◌<◌, ◌≤◌, length};
-
-use arctan::Slope;
-use hexadecimal::Bits;
-
-const STDIN_FILENO: i32 = 0;
-
-const STDOUT_FILENO: i32 = 1;
+use std::io;
+use std::io::Write;
 
 // A question by its bit patterns: the argument, and the least and the largest answer.
 #[derive(Clone, Copy)]
@@ -25,43 +19,14 @@ struct Question {
     high: u64,
 }
 
-// What a line asks, if it asks anything.
-#[derive(Clone, Copy)]
-enum Asks {
-    Of(Question),
-    Nothing,
-}
-
-// What became of a question.
-#[derive(Clone, Copy)]
-enum Verdict {
-    Within,
-    Outside,
-    Nan,
-    Refused,
-}
-
-// What line asks after word. The two last fields have 17 bytes each, with the tab before them.
-fn asked(word: &[u8], line: &[u8]) -> Asks {
-    let n = line.len();
-    if n < 34 {
-        return Asks::Nothing;
-    }
-    let low_at = n - 34;
-    let high_at = n - 17;
-    let Bits::Of(argument) = hexadecimal::after(word, &line[0..low_at]) else {
-        return Asks::Nothing;
-    };
-    let Bits::Of(low) = hexadecimal::after(b"\t", &line[low_at..high_at]) else {
-        return Asks::Nothing;
-    };
-    let Bits::Of(high) = hexadecimal::after(b"\t", &line[high_at..]) else {
-        return Asks::Nothing;
-    };
-    Asks::Of(Question {
-        argument,
-        low,
-        high,
+// What a line asks after word, if it asks anything. The two last fields have 17 bytes each, with the tab before them.
+fn asked(word: &[u8], line: &[u8]) -> Option<Question> {
+    let (rest, high) = line.split_last_chunk::<17>()?;
+    let (first, low) = rest.split_last_chunk::<17>()?;
+    Some(Question {
+        argument: hexadecimal::after(word, first)?,
+        low: hexadecimal::after(b"\t", low)?,
+        high: hexadecimal::after(b"\t", high)?,
     })
 }
 
@@ -69,125 +34,35 @@ fn asked(word: &[u8], line: &[u8]) -> Asks {
 // zero is held to its sign.
 fn allowed(answer: f64, q: Question) -> bool {
     if q.low == q.high {
-        return exact::to_bits(answer) == q.low;
-    }
-    if exact::of_bits(q.low) <= answer {
-        answer <= exact::of_bits(q.high)
+        exact::to_bits(answer) == q.low
     } else {
-        false
+        exact::of_bits(q.low) <= answer && answer <= exact::of_bits(q.high)
     }
 }
 
-// The verdict on an answer.
-fn judged(answer: f64, q: Question) -> Verdict {
-    if answer != answer {
-        Verdict::Nan
-    } else if allowed(answer, q) {
-        Verdict::Within
+// The verdict on an answer, which may be refused.
+fn judged(answer: Option<f64>, q: Question) -> &'static str {
+    match answer {
+        None => "refused",
+        Some(x) if x.is_nan() => "nan",
+        Some(x) if allowed(x, q) => "within",
+        Some(_) => "outside",
+    }
+}
+
+// Answers one line, given without its end. A number has one spelling, so the argument is written as it was read.
+fn answer(line: &[u8], out: &mut impl Write) -> io::Result<()> {
+    if let Some(q) = asked(b"arctangent\t", line) {
+        let verdict = judged(Some(arctan::arctangent(exact::of_bits(q.argument))), q);
+        writeln!(out, "arctangent\t{:016x}\t{verdict}", q.argument)
+    } else if let Some(q) = asked(b"tangent\t", line) {
+        let verdict = judged(arctan::tangent(exact::of_bits(q.argument)), q);
+        writeln!(out, "tangent\t{:016x}\t{verdict}", q.argument)
     } else {
-        Verdict::Outside
+        writeln!(out, "bad")
     }
 }
 
-// The verdict on the arctangent of the argument.
-fn arctangent_judged(q: Question) -> Verdict {
-    judged(arctan::arctangent(exact::of_bits(q.argument)), q)
-}
-
-// The verdict on its tangent.
-fn tangent_judged(q: Question) -> Verdict {
-    match arctan::tangent(exact::of_bits(q.argument)) {
-        Slope::Is(t) => judged(t, q),
-        Slope::TooSteep => Verdict::Refused,
-    }
-}
-
-// Writes the end of a line, with the verdict.
-fn say_verdict(verdict: Verdict) {
-    match verdict {
-        Verdict::Within => {
-            io::write_all(STDOUT_FILENO, b"\twithin\n");
-        }
-        Verdict::Outside => {
-            io::write_all(STDOUT_FILENO, b"\toutside\n");
-        }
-        Verdict::Nan => {
-            io::write_all(STDOUT_FILENO, b"\tnan\n");
-        }
-        Verdict::Refused => {
-            io::write_all(STDOUT_FILENO, b"\trefused\n");
-        }
-    }
-}
-
-// Writes the question's first two fields again, with the verdict. A number has one spelling, so the
-// argument is written as it was read.
-fn say(word: &[u8], q: Question, verdict: Verdict) {
-    io::write_all(STDOUT_FILENO, word);
-    io::print_hex(STDOUT_FILENO, q.argument, 16);
-    say_verdict(verdict);
-}
-
-// Answers a line that is not of the form.
-fn refuse() {
-    io::write_all(STDOUT_FILENO, b"bad\n");
-}
-
-// Answers one line, given without its end.
-fn answer(line: &[u8]) {
-    if let Asks::Of(q) = asked(b"arctangent\t", line) {
-        say(b"arctangent\t", q, arctangent_judged(q));
-    } else if let Asks::Of(q) = asked(b"tangent\t", line) {
-        say(b"tangent\t", q, tangent_judged(q));
-    } else {
-        refuse();
-    }
-}
-
-// The index of the first end of a line from `at` on, or the text's length where there is none.
-fn line_end(text: &[u8], at: usize) -> usize
-    requires { at ≤ length text.now }
-    ensures { (at ≤ result) × (result ≤ length text.now) }
-{
-    match text[at..].iter().position(|byte| *byte == b'\n') {
-        Some(n) => at + n,
-        None => text.len(),
-    }
-}
-
-// Answers the line of text that starts at index `at`, and gives the index past its end. A last line
-// that the text cuts off is bad, however much of it is there.
-fn answer_at(text: &[u8], at: usize) -> usize
-    requires { at < length text.now }
-    ensures { (at < result) × (result ≤ length text.now) }
-{
-    let end = line_end(text, at);
-    if end < text.len() {
-        answer(&text[at..end]);
-        end + 1
-    } else {
-        refuse();
-        text.len()
-    }
-}
-
-// Answers each line of text in turn, and gives how many there are.
-fn answer_all(text: &[u8]) -> u64 {
-    let mut at = 0;
-    let mut lines: u64 = 0;
-    while at < text.len() {
-        at = answer_at(text, at);
-        lines += 1;
-    }
-    lines
-}
-
-// Reads the questions, at most 64 KiB of them, and answers each.
-fn main() {
-    let mut buf = io::large_buffer();
-    let n = io::read_full(STDIN_FILENO, &mut buf);
-    let lines = answer_all(&buf[..n]);
-    io::write_all(STDOUT_FILENO, b"lines\t");
-    io::print_decimal(STDOUT_FILENO, lines);
-    io::write_all(STDOUT_FILENO, b"\n");
+fn main(rt: HostRuntime) {
+    parts::answer_text(&rt, |line, out| answer(line, out));
 }

@@ -24,9 +24,8 @@
 
 ghost use Rattle.std.specs.Prelude.{◌≤◌};
 
-const STDIN_FILENO: i32 = 0;
-
-const STDOUT_FILENO: i32 = 1;
+use std::io;
+use std::io::Write;
 
 // The fields of a line, and its bytes: a field has 16 digits, and a tab or the line's end after them.
 const FIELDS: usize = 22;
@@ -50,9 +49,6 @@ const LENT: usize = 4000;
 // What those bytes hold at first.
 const FILL: u8 = 0xa5;
 
-// What stands for a returned number where there was no call.
-const NO_CALL: u8 = 255;
-
 // What a call is given beside its numbers. The bytes that are lent start at one of all.
 #[derive(Clone, Copy)]
 struct Call {
@@ -64,31 +60,19 @@ struct Call {
 
 // ---- what a line says
 
-// The model that a field names. All that is no byte is named by one that is no model.
-fn model_of(field: u64) -> u8 {
-    if field < 256 { field as u8 } else { 255 }
-}
-
-// The call that a line asks for, or the one with n of its row.
+// The call that a line asks for, or the one with n of its row. All that is no byte is named by a model that there is
+// none of.
 fn asked(q: &[u64; FIELDS], n: usize) -> Call {
     let row = q[1] / 16;
     Call {
         model: if row == 4 {
             (n % 256) as u8
         } else {
-            model_of(q[0])
+            u8::try_from(q[0]).unwrap_or(255)
         },
-        handed: if row == 2 || row == 3 {
-            n
-        } else {
-            q[2] as usize
-        },
+        handed: if matches!(row, 2 | 3) { n } else { q[2] as usize },
         at: if q[1] % 16 == 6 { q[X] as usize } else { 0 },
-        lent: if row == 1 || row == 3 {
-            n
-        } else {
-            q[3] as usize
-        },
+        lent: if matches!(row, 1 | 3) { n } else { q[3] as usize },
     }
 }
 
@@ -101,65 +85,8 @@ fn calls(q: &[u64; FIELDS]) -> usize {
 fn put_words(q: &[u64; FIELDS], bytes: &mut [u8], at: usize)
     requires { at ≤ 4000 }
 {
-    let mut i = 0;
-    while i < WORDS {
+    for i in 0..WORDS {
         little_endian::put(bytes, at + 8 * i, 8, q[FIRST + i]);
-        i += 1;
-    }
-}
-
-// ---- writing
-
-fn say(words: &[u8]) {
-    io::write_all(STDOUT_FILENO, words);
-}
-
-// Writes a tab and a word.
-fn say_word(word: u64) {
-    say(b"\t");
-    io::print_hex(STDOUT_FILENO, word, 16);
-}
-
-// Writes each word of the bytes.
-fn say_words(bytes: &[u8]) {
-    let words = bytes.len() / 8;
-    let mut i = 0;
-    while i < words {
-        say_word(little_endian::word(bytes, 8 * i));
-        i += 1;
-    }
-}
-
-// The same of a part of them.
-fn say_part(bytes: &[u8], at: usize, count: usize) {
-    if at <= bytes.len() {
-        if count <= bytes.len() - at {
-            say_words(&bytes[at..at + count]);
-        }
-    }
-}
-
-// Writes the number returned, where there was a call.
-fn say_number(number: u8) {
-    if number == NO_CALL {
-        say(b"bad");
-    } else {
-        io::print_decimal(STDOUT_FILENO, number as u64);
-    }
-}
-
-// Writes that a byte was changed which was not to be.
-fn say_touched(whole: bool) {
-    if !whole {
-        say(b"\ttouched");
-    }
-}
-
-// Writes which call of a row this is.
-fn say_place(q: &[u64; FIELDS], n: usize) {
-    if 16 <= q[1] {
-        io::print_decimal(STDOUT_FILENO, n as u64);
-        say(b"\t");
     }
 }
 
@@ -179,146 +106,103 @@ fn called(q: &[u64; FIELDS], model: u8, params: &[u8], lent: &mut [u8]) -> u8 {
 }
 
 // Hands over and lends as much as is asked. More than there is has no call.
-fn call_with(q: &[u64; FIELDS], call: Call, params: &[u8], lent: &mut [u8]) -> u8 {
-    let from = call.at;
-    let count = call.lent;
-    let n = call.handed;
-    if n <= params.len() {
-        if from <= lent.len() {
-            if count <= lent.len() - from {
-                return called(q, call.model, &params[0..n], &mut lent[from..from + count]);
-            }
+fn call_with(q: &[u64; FIELDS], call: Call, params: &[u8], lent: &mut [u8]) -> Option<u8> {
+    let params = params.get(..call.handed)?;
+    let lent = lent.get_mut(call.at..)?.get_mut(..call.lent)?;
+    Some(called(q, call.model, params, lent))
+}
+
+// Whether every byte outside the part that may be written is as it was.
+fn kept(before: &[u8; LENT], after: &[u8; LENT], at: usize, count: usize) -> bool {
+    let mut bytes = before.iter().zip(after).enumerate();
+    bytes.all(|(i, (a, b))| a == b || at <= i && i - at < count)
+}
+
+// Writes each word of a part of the bytes.
+fn say_words(bytes: &[u8], at: usize, count: usize, out: &mut impl Write) -> io::Result<()> {
+    if let Some(part) = bytes.get(at..).and_then(|rest| rest.get(..count)) {
+        for word in part.chunks_exact(8) {
+            write!(out, "\t{:016x}", little_endian::word(word, 0))?;
         }
     }
-    NO_CALL
-}
-
-// Whether a place is one of the part that may be written.
-fn inside(i: usize, at: usize, count: usize) -> bool {
-    at <= i && i - at < count
-}
-
-// Whether every byte outside that part is as it was.
-fn kept(before: &[u8; LENT], after: &[u8; LENT], at: usize, count: usize) -> bool {
-    let mut i = 0;
-    while i < LENT && (before[i] == after[i] || inside(i, at, count)) {
-        i += 1;
-    }
-    i == LENT
+    Ok(())
 }
 
 // Calls, writes what is to be said of it, and gives the number. Then all that was lent is as before.
-fn answer_call(q: &[u64; FIELDS], n: usize, last: u8, lent: &mut [u8; LENT]) -> u8 {
+fn answer_call(
+    q: &[u64; FIELDS],
+    n: usize,
+    last: Option<u8>,
+    lent: &mut [u8; LENT],
+    out: &mut impl Write,
+) -> io::Result<Option<u8>> {
     let mut params = [FILL; HANDED];
     put_words(q, &mut params, 0);
     let call = asked(q, n);
     let before = *lent;
     let number = call_with(q, call, &params, lent);
-    let written = if number == 0 { call.lent } else { 0 };
+    let written = if number == Some(0) { call.lent } else { 0 };
     let whole = kept(&before, lent, call.at, written);
-    if n == 0 || number == 0 || number != last || !whole {
-        say_place(q, n);
-        say_number(number);
-        say_part(lent, call.at, written);
-        say_touched(whole);
-        say(b"\n");
+    if n == 0 || number == Some(0) || number != last || !whole {
+        if 16 <= q[1] {
+            write!(out, "{n}\t")?;
+        }
+        match number {
+            Some(number) => write!(out, "{number}")?,
+            None => write!(out, "bad")?,
+        }
+        say_words(lent, call.at, written, out)?;
+        if !whole {
+            write!(out, "\ttouched")?;
+        }
+        writeln!(out)?;
     }
     *lent = before;
-    number
-}
-
-// Each call that a line asks for.
-fn answer_calls(q: &[u64; FIELDS], lent: &mut [u8; LENT]) {
-    let count = calls(q);
-    let mut last = NO_CALL;
-    let mut n = 0;
-    while n < count {
-        last = answer_call(q, n, last, lent);
-        n += 1;
-    }
+    Ok(number)
 }
 
 // ---- the lines
 
-// Answers a line that is not of the form.
-fn refuse() {
-    say(b"bad\n");
-}
-
 // Answers with the f64 that a function of one number gives: it refuses none.
-fn answer_float(x: f64) {
-    say(b"0");
-    say_word(exact::to_bits(x));
-    say(b"\n");
-}
-
-fn put_list(q: &[u64; FIELDS], lent: &mut [u8; LENT]) {
-    if q[X] <= 4000 {
-        put_words(q, lent, q[X] as usize);
-    } else {
-        refuse();
-    }
+fn answer_float(x: f64, out: &mut impl Write) -> io::Result<()> {
+    write!(out, "0")?;
+    parts::say_floats(out, &[x])?;
+    writeln!(out)
 }
 
 // Does what a line says.
-fn answer_question(q: &[u64; FIELDS], lent: &mut [u8; LENT]) {
-    let done = q[1];
+fn answer_question(q: &[u64; FIELDS], lent: &mut [u8; LENT], out: &mut impl Write) -> io::Result<()> {
     let x = exact::of_bits(q[X]);
-    if done == 4 {
-        answer_float(lens_c::lens_root(x));
-    } else if done == 8 {
-        answer_float(lens_c::lens_arctangent(x));
-    } else if done == 7 {
-        put_list(q, lent);
-    } else if done < 80 && done % 16 < 7 && done % 16 != 4 {
-        answer_calls(q, lent);
-    } else {
-        refuse();
+    match q[1] {
+        4 => answer_float(lens_c::lens_root(x), out),
+        8 => answer_float(lens_c::lens_arctangent(x), out),
+        7 if q[X] <= 4000 => {
+            put_words(q, lent, q[X] as usize);
+            Ok(())
+        }
+        done if done < 80 && matches!(done % 16, 0..=3 | 5 | 6) => {
+            let mut last = None;
+            for n in 0..calls(q) {
+                last = answer_call(q, n, last, lent, out)?;
+            }
+            Ok(())
+        }
+        _ => writeln!(out, "bad"),
     }
 }
 
 // Does what one line says, if it is of the form.
-fn answer_line(line: &[u8; LINE], lent: &mut [u8; LENT]) {
-    let mut numbers: [u64; FIELDS] = [0; FIELDS];
-    if line[0] == b'#' {
-        say(line);
-    } else if hexadecimal::fields(line, &mut numbers) {
-        answer_question(&numbers, lent);
-    } else {
-        refuse();
+fn answer(line: &[u8], lent: &mut [u8; LENT], out: &mut impl Write) -> io::Result<()> {
+    if line.starts_with(b"#") {
+        return out.write_all(line);
+    }
+    match parts::numbers(line) {
+        Some(q) => answer_question(&q, lent, out),
+        None => writeln!(out, "bad"),
     }
 }
 
-// Reads the next line and answers it, and says whether there was one. A last line that the input cuts off is bad,
-// however much of it is there.
-fn answer_next(lent: &mut [u8; LENT]) -> bool {
-    let mut line = [0u8; LINE];
-    let n = io::read_full(STDIN_FILENO, &mut line);
-    if n == 0 {
-        return false;
-    }
-    if n < LINE {
-        refuse();
-    } else {
-        answer_line(&line, lent);
-    }
-    true
-}
-
-// Answers each line of the input in turn, and gives how many there are. Nothing says that an input ends, so the count
-// has an end of its own, which no run comes to.
-fn answer_all() -> u64 {
+fn main(rt: HostRuntime) {
     let mut lent = [FILL; LENT];
-    let mut lines: u64 = 0;
-    while lines < u64::MAX && answer_next(&mut lent) {
-        lines += 1;
-    }
-    lines
-}
-
-fn main() {
-    let lines = answer_all();
-    say(b"lines\t");
-    io::print_decimal(STDOUT_FILENO, lines);
-    say(b"\n");
+    parts::answer_lines(&rt, &mut [0; LINE], |line, out| answer(line, &mut lent, out));
 }

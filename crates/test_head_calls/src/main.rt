@@ -22,466 +22,271 @@
 // is answered by `bad`.
 #![tactic(auto)]
 
-ghost use Rattle.std.specs.Prelude.{◌≤◌, ◌<◌};
-
-const STDIN_FILENO: i32 = 0;
-
-const STDOUT_FILENO: i32 = 1;
+use std::io;
+use std::io::Write;
 
 // The fields of a line, and its bytes: a field has 16 digits, and a tab or the line's end after them.
 const FIELDS: usize = 12;
 
 const LINE: usize = 204;
 
-// How long the buffers are, and what stands in them at first.
+// How long the buffers are, and what stands in the bytes at first.
 const BYTES: usize = 512;
 
 const NUMBERS: usize = 64;
 
 const FILL: u8 = 0xa5;
 
-const BEFORE: f32 = 12345.0;
-
-const BEFORE16: i16 = 12345;
-
-// A byte's bits, the lowest first.
-const BITS: [u8; 8] = [1, 2, 4, 8, 16, 32, 64, 128];
-
-// What stands for a returned number where there was no call.
-const NO_CALL: u8 = 255;
-
-// ---- what a field says
-
-// A place, or how many. More than the most is taken for the most.
-fn at_most(n: u64, most: usize) -> usize
-    ensures { result ≤ most }
-{
-    if n < most as u64 { n as usize } else { most }
+// What lasts from line to line.
+#[derive(Clone, Copy)]
+struct Buffers {
+    read: [u8; BYTES],
+    lent: [u8; BYTES],
+    table: [f32; NUMBERS],
+    table16: [i16; NUMBERS],
 }
 
-// A model, or a strict mark.
-fn byte_of(field: u64) -> u8 {
-    (field % 256) as u8
+fn filled() -> Buffers {
+    Buffers {
+        read: [FILL; BYTES],
+        lent: [FILL; BYTES],
+        table: [12345.0; NUMBERS],
+        table16: [12345; NUMBERS],
+    }
 }
 
-fn size_of(field: u64) -> u32 {
-    (field % 0x1_0000_0000) as u32
+// What a buffer holds, as it is compared and written: by its bits, in so many digits.
+trait Shown: Copy {
+    const DIGITS: usize;
+
+    fn bits(self) -> u32;
+}
+
+impl Shown for u8 {
+    const DIGITS: usize = 2;
+
+    fn bits(self) -> u32 {
+        u32::from(self)
+    }
+}
+
+impl Shown for f32 {
+    const DIGITS: usize = 8;
+
+    fn bits(self) -> u32 {
+        exact::to_bits32(self)
+    }
+}
+
+impl Shown for i16 {
+    const DIGITS: usize = 8;
+
+    fn bits(self) -> u32 {
+        exact::to_bits32(f32::from(self))
+    }
+}
+
+// A number of a table, and the turn that fills such a table.
+trait Number: Shown {
+    fn turn(job: &mut [u8], table: &mut [Self], allowance: u64, answer: &mut [u8]) -> u8;
+}
+
+impl Number for f32 {
+    fn turn(job: &mut [u8], table: &mut [f32], allowance: u64, answer: &mut [u8]) -> u8 {
+        lens_c::lens_turn(job, table, allowance, answer)
+    }
+}
+
+impl Number for i16 {
+    fn turn(job: &mut [u8], table: &mut [i16], allowance: u64, answer: &mut [u8]) -> u8 {
+        lens_c::lens_turn16(job, table, allowance, answer)
+    }
 }
 
 // ---- writing
 
-fn say(words: &[u8]) {
-    io::write_all(STDOUT_FILENO, words);
+// Writes the number that was returned, or 255 where there was no call.
+fn say_number(number: Option<u8>, out: &mut impl Write) -> io::Result<()> {
+    write!(out, "{}", number.unwrap_or(255))
 }
 
-// Writes two digits.
-fn say_byte(byte: u8) {
-    io::print_hex(STDOUT_FILENO, byte as u64, 2);
-}
-
-// The same for each byte.
-fn say_each(bytes: &[u8]) {
-    let mut i = 0;
-    while i < bytes.len() {
-        say_byte(bytes[i]);
-        i += 1;
+// Writes the first n of a buffer as they are after a call, or that all are kept.
+fn say_after<T: Shown>(before: &[T], after: &[T], n: usize, out: &mut impl Write) -> io::Result<()> {
+    let digits = T::DIGITS;
+    write!(out, "\t")?;
+    if before.iter().zip(after).all(|(a, b)| a.bits() == b.bits()) {
+        write!(out, "kept")?;
+    } else if let Some(part) = after.get(..n) {
+        for x in part {
+            write!(out, "{:0digits$x}", x.bits())?;
+        }
     }
-}
-
-// Writes the first n bytes as they are after a call, or that all are kept.
-fn say_bytes(before: &[u8], after: &[u8], n: usize) {
-    say(b"\t");
-    if check::same(before, after) {
-        say(b"kept");
-    } else if n <= after.len() {
-        say_each(&after[0..n]);
-    }
-}
-
-// Writes eight digits for each number.
-fn say_each_number(table: &[f32]) {
-    let mut i = 0;
-    while i < table.len() {
-        io::print_hex(STDOUT_FILENO, exact::to_bits32(table[i]) as u64, 8);
-        i += 1;
-    }
-}
-
-// Writes the first n numbers.
-fn say_part(table: &[f32], n: usize) {
-    if n <= table.len() {
-        say_each_number(&table[0..n]);
-    }
-}
-
-// Whether two tables have the same bits.
-fn same_numbers(a: &[f32; NUMBERS], b: &[f32; NUMBERS]) -> bool {
-    let mut i = 0;
-    while i < NUMBERS && exact::to_bits32(a[i]) == exact::to_bits32(b[i]) {
-        i += 1;
-    }
-    i == NUMBERS
-}
-
-// The same of a table.
-fn say_numbers(before: &[f32; NUMBERS], after: &[f32; NUMBERS], n: usize) {
-    say(b"\t");
-    if same_numbers(before, after) {
-        say(b"kept");
-    } else {
-        say_part(after, n);
-    }
-}
-
-// The same of a table of sixteen-bit numbers.
-fn say_each_number16(table: &[i16]) {
-    let mut i = 0;
-    while i < table.len() {
-        io::print_hex(STDOUT_FILENO, exact::to_bits32(table[i] as f32) as u64, 8);
-        i += 1;
-    }
-}
-
-fn say_part16(table: &[i16], n: usize) {
-    if n <= table.len() {
-        say_each_number16(&table[0..n]);
-    }
-}
-
-fn same_numbers16(a: &[i16; NUMBERS], b: &[i16; NUMBERS]) -> bool {
-    let mut i = 0;
-    while i < NUMBERS && a[i] == b[i] {
-        i += 1;
-    }
-    i == NUMBERS
-}
-
-fn say_numbers16(before: &[i16; NUMBERS], after: &[i16; NUMBERS], n: usize) {
-    say(b"\t");
-    if same_numbers16(before, after) {
-        say(b"kept");
-    } else {
-        say_part16(after, n);
-    }
-}
-
-fn say_number(number: u8) {
-    io::print_decimal(STDOUT_FILENO, number as u64);
+    Ok(())
 }
 
 // ---- putting
 
 // Puts a line's words into a buffer. What does not fit is left out.
-fn put_words(q: &[u64; FIELDS], bytes: &mut [u8]) {
-    let at = at_most(q[1], BYTES);
-    let count = at_most(q[2], 8);
-    let mut i = 0;
-    while i < count {
-        little_endian::put(bytes, 8 * (at + i), 8, q[3 + i]);
-        i += 1;
-    }
-}
-
-// Puts one number into the table, if there is such a place.
-fn put_number(table: &mut [f32; NUMBERS], at: usize, bits: u64) {
-    if at < NUMBERS {
-        table[at] = narrow::narrow(exact::of_bits(bits));
+fn put_words(q: &[u64; FIELDS], bytes: &mut [u8; BYTES]) {
+    let (places, _) = bytes.as_chunks_mut::<8>();
+    let words = q[3..].iter().take(q[2].min(8) as usize);
+    for (place, word) in places.iter_mut().skip(q[1] as usize).zip(words) {
+        *place = word.to_le_bytes();
     }
 }
 
 // Puts a line's numbers into the table.
 fn put_numbers(q: &[u64; FIELDS], table: &mut [f32; NUMBERS]) {
-    let at = at_most(q[1], NUMBERS);
-    let count = at_most(q[2], 8);
-    let mut i = 0;
-    while i < count {
-        put_number(table, at + i, q[3 + i]);
-        i += 1;
+    let numbers = q[3..].iter().take(q[2].min(8) as usize);
+    for (place, bits) in table.iter_mut().skip(q[1] as usize).zip(numbers) {
+        *place = narrow::narrow(exact::of_bits(*bits));
     }
 }
 
-// ---- the calls, each with as much of its buffers as its line says. More than there is has no call, and the number 255
+// ---- the calls, each with as much of its buffers as its line says. More than there is has no call
 
-fn with_camera(q: &[u64; FIELDS], params: &[u8], lent: &mut [u8]) -> u8 {
-    let model = byte_of(q[2]);
+// The model that a line names.
+fn model_of(q: &[u64; FIELDS]) -> u8 {
+    (q[2] % 256) as u8
+}
+
+// A width or a height.
+fn size_of(field: u64) -> u32 {
+    (field % 0x1_0000_0000) as u32
+}
+
+// A fresh job, or a list.
+fn call_with_camera(q: &[u64; FIELDS], params: &[u8], lent: &mut [u8]) -> Option<u8> {
+    let params = params.get(..q[3] as usize)?;
+    let lent = lent.get_mut(..q[4] as usize)?;
+    let model = model_of(q);
     if q[0] == 4 {
-        lens_c::lens_job_new(
-            model,
-            params,
-            size_of(q[7]),
-            size_of(q[8]),
-            byte_of(q[11]),
-            lent,
-        )
+        let strict = (q[11] % 256) as u8;
+        Some(lens_c::lens_job_new(model, params, size_of(q[7]), size_of(q[8]), strict, lent))
     } else {
-        lens_c::lens_observe(model, params, lent)
+        Some(lens_c::lens_observe(model, params, lent))
     }
 }
 
-fn call_with_camera(q: &[u64; FIELDS], params: &[u8], lent: &mut [u8]) -> u8 {
-    let n = q[3] as usize;
-    let m = q[4] as usize;
-    if n <= params.len() {
-        if m <= lent.len() {
-            return with_camera(q, &params[0..n], &mut lent[0..m]);
-        }
-    }
-    NO_CALL
+fn call_turn<N: Number>(q: &[u64; FIELDS], job: &mut [u8], table: &mut [N], answer: &mut [u8]) -> Option<u8> {
+    let job = job.get_mut(..q[4] as usize)?;
+    let answer = answer.get_mut(..q[5] as usize)?;
+    let table = table.get_mut(..q[6] as usize)?;
+    Some(N::turn(job, table, q[11], answer))
 }
 
-fn call_turn(q: &[u64; FIELDS], job: &mut [u8], table: &mut [f32], answer: &mut [u8]) -> u8 {
-    let n = q[4] as usize;
-    let m = q[5] as usize;
-    let k = q[6] as usize;
-    if n <= job.len() {
-        if m <= answer.len() {
-            if k <= table.len() {
-                return lens_c::lens_turn(
-                    &mut job[0..n],
-                    &mut table[0..k],
-                    q[11],
-                    &mut answer[0..m],
-                );
-            }
-        }
-    }
-    NO_CALL
-}
-
-fn call_turn16(q: &[u64; FIELDS], job: &mut [u8], table: &mut [i16], answer: &mut [u8]) -> u8 {
-    let n = q[4] as usize;
-    let m = q[5] as usize;
-    let k = q[6] as usize;
-    if n <= job.len() {
-        if m <= answer.len() {
-            if k <= table.len() {
-                return lens_c::lens_turn16(
-                    &mut job[0..n],
-                    &mut table[0..k],
-                    q[11],
-                    &mut answer[0..m],
-                );
-            }
-        }
-    }
-    NO_CALL
-}
-
-fn call_lookup(q: &[u64; FIELDS], table: &[f32], region: &[u8], answer: &mut [u8]) -> u8 {
-    let n = q[3] as usize;
-    let m = q[5] as usize;
-    let k = q[6] as usize;
-    if n <= region.len() {
-        if m <= answer.len() {
-            if k <= table.len() {
-                return lens_c::lens_lookup(
-                    &table[0..k],
-                    &region[0..n],
-                    size_of(q[7]),
-                    size_of(q[8]),
-                    exact::of_bits(q[9]),
-                    exact::of_bits(q[10]),
-                    &mut answer[0..m],
-                );
-            }
-        }
-    }
-    NO_CALL
+fn call_lookup(q: &[u64; FIELDS], table: &[f32], region: &[u8], answer: &mut [u8]) -> Option<u8> {
+    let region = region.get(..q[3] as usize)?;
+    let answer = answer.get_mut(..q[5] as usize)?;
+    let table = table.get(..q[6] as usize)?;
+    let x = exact::of_bits(q[9]);
+    let y = exact::of_bits(q[10]);
+    Some(lens_c::lens_lookup(table, region, size_of(q[7]), size_of(q[8]), x, y, answer))
 }
 
 // ---- the calls, with what comes back said, and kept or put back
 
-// A fresh job, or a list.
-fn job_or_list(q: &[u64; FIELDS], read: &[u8; BYTES], lent: &mut [u8; BYTES]) {
+fn job_or_list(
+    q: &[u64; FIELDS],
+    read: &[u8; BYTES],
+    lent: &mut [u8; BYTES],
+    out: &mut impl Write,
+) -> io::Result<()> {
     let before = *lent;
-    say_number(call_with_camera(q, read, lent));
-    say_bytes(&before, lent, q[4] as usize);
+    say_number(call_with_camera(q, read, lent), out)?;
+    say_after(&before, lent, q[4] as usize, out)?;
     if q[1] == 0 {
         *lent = before;
     }
+    Ok(())
 }
 
-fn turn(q: &[u64; FIELDS], lent: &mut [u8; BYTES], table: &mut [f32; NUMBERS]) {
+fn turn<N: Number>(
+    q: &[u64; FIELDS],
+    lent: &mut [u8; BYTES],
+    table: &mut [N; NUMBERS],
+    out: &mut impl Write,
+) -> io::Result<()> {
     let lent_before = *lent;
     let table_before = *table;
-    let answer_before = [FILL; BYTES];
     let mut answer = [FILL; BYTES];
-    say_number(call_turn(q, lent, table, &mut answer));
-    say_bytes(&lent_before, lent, q[4] as usize);
-    say_numbers(&table_before, table, q[6] as usize);
-    say_bytes(&answer_before, &answer, q[5] as usize);
+    say_number(call_turn(q, lent, table, &mut answer), out)?;
+    say_after(&lent_before, lent, q[4] as usize, out)?;
+    say_after(&table_before, table, q[6] as usize, out)?;
+    say_after(&[FILL; BYTES], &answer, q[5] as usize, out)?;
     if q[1] == 0 {
         *lent = lent_before;
         *table = table_before;
     }
+    Ok(())
 }
 
-fn turn16(q: &[u64; FIELDS], lent: &mut [u8; BYTES], table: &mut [i16; NUMBERS]) {
-    let lent_before = *lent;
-    let table_before = *table;
-    let answer_before = [FILL; BYTES];
+// A turn over copies with each bit of the bytes lent flipped, the lowest of the first byte first.
+fn turn_flipped<N: Number>(
+    q: &[u64; FIELDS],
+    lent: &[u8; BYTES],
+    table: &[N; NUMBERS],
+    out: &mut impl Write,
+) -> io::Result<()> {
+    let count = q[4].min(512) as usize;
+    for at in 0..count {
+        for bit in 0..8 {
+            let mut damaged = *lent;
+            let mut cells = *table;
+            damaged[at] ^= 1 << bit;
+            turn(q, &mut damaged, &mut cells, out)?;
+            writeln!(out)?;
+        }
+    }
+    write!(out, "bits\t{}", 8 * count)
+}
+
+fn look_up(
+    q: &[u64; FIELDS],
+    read: &[u8; BYTES],
+    table: &[f32; NUMBERS],
+    out: &mut impl Write,
+) -> io::Result<()> {
     let mut answer = [FILL; BYTES];
-    say_number(call_turn16(q, lent, table, &mut answer));
-    say_bytes(&lent_before, lent, q[4] as usize);
-    say_numbers16(&table_before, table, q[6] as usize);
-    say_bytes(&answer_before, &answer, q[5] as usize);
-    if q[1] == 0 {
-        *lent = lent_before;
-        *table = table_before;
-    }
-}
-
-// A turn with one bit of the bytes lent flipped, over copies.
-fn turn_flipped(
-    q: &[u64; FIELDS],
-    at: usize,
-    bit: usize,
-    lent: &[u8; BYTES],
-    table: &[f32; NUMBERS],
-    table16: &[i16; NUMBERS],
-)
-    requires { (at < 512) × (bit < 8) }
-{
-    let mut damaged = *lent;
-    let mut cells = *table;
-    let mut cells16 = *table16;
-    damaged[at] = damaged[at] ^ BITS[bit];
-    if q[0] == 8 {
-        turn(q, &mut damaged, &mut cells);
-    } else {
-        turn16(q, &mut damaged, &mut cells16);
-    }
-    say(b"\n");
-}
-
-// A turn with each bit of a byte flipped.
-fn turn_each_bit(
-    q: &[u64; FIELDS],
-    at: usize,
-    lent: &[u8; BYTES],
-    table: &[f32; NUMBERS],
-    table16: &[i16; NUMBERS],
-)
-    requires { at < 512 }
-{
-    let mut bit = 0;
-    while bit < 8 {
-        turn_flipped(q, at, bit, lent, table, table16);
-        bit += 1;
-    }
-}
-
-// The same for each byte that the line lends.
-fn turn_each_byte(
-    q: &[u64; FIELDS],
-    lent: &[u8; BYTES],
-    table: &[f32; NUMBERS],
-    table16: &[i16; NUMBERS],
-) {
-    let count = at_most(q[4], BYTES);
-    let mut at = 0;
-    while at < count {
-        turn_each_bit(q, at, lent, table, table16);
-        at += 1;
-    }
-    say(b"bits\t");
-    io::print_decimal(STDOUT_FILENO, 8 * count as u64);
-}
-
-fn lookup(q: &[u64; FIELDS], read: &[u8; BYTES], table: &[f32; NUMBERS]) {
-    let before = [FILL; BYTES];
-    let mut answer = [FILL; BYTES];
-    say_number(call_lookup(q, table, read, &mut answer));
-    say_bytes(&before, &answer, q[5] as usize);
+    say_number(call_lookup(q, table, read, &mut answer), out)?;
+    say_after(&[FILL; BYTES], &answer, q[5] as usize, out)
 }
 
 // ---- the lines
 
 // Does what a line says.
-fn answer_question(
-    q: &[u64; FIELDS],
-    read: &mut [u8; BYTES],
-    lent: &mut [u8; BYTES],
-    table: &mut [f32; NUMBERS],
-    table16: &mut [i16; NUMBERS],
-) {
+fn answer_question(q: &[u64; FIELDS], buffers: &mut Buffers, out: &mut impl Write) -> io::Result<()> {
     match q[0] {
-        0 => {
-            *read = [FILL; BYTES];
-            *lent = [FILL; BYTES];
-            *table = [BEFORE; NUMBERS];
-            *table16 = [BEFORE16; NUMBERS];
-        }
-        1 => put_words(q, read),
-        2 => put_words(q, lent),
-        3 => put_numbers(q, table),
-        4 | 6 => job_or_list(q, read, lent),
-        5 => turn(q, lent, table),
-        7 => lookup(q, read, table),
-        8 | 10 => turn_each_byte(q, lent, table, table16),
-        9 => turn16(q, lent, table16),
-        _ => say(b"bad"),
+        0 => *buffers = filled(),
+        1 => put_words(q, &mut buffers.read),
+        2 => put_words(q, &mut buffers.lent),
+        3 => put_numbers(q, &mut buffers.table),
+        4 | 6 => job_or_list(q, &buffers.read, &mut buffers.lent, out)?,
+        5 => turn(q, &mut buffers.lent, &mut buffers.table, out)?,
+        7 => look_up(q, &buffers.read, &buffers.table, out)?,
+        8 => turn_flipped(q, &buffers.lent, &buffers.table, out)?,
+        9 => turn(q, &mut buffers.lent, &mut buffers.table16, out)?,
+        10 => turn_flipped(q, &buffers.lent, &buffers.table16, out)?,
+        _ => write!(out, "bad")?,
     }
-    if 3 < q[0] {
-        say(b"\n");
+    if q[0] > 3 {
+        writeln!(out)?;
     }
+    Ok(())
 }
 
 // Does what one line says, if it is of the form.
-fn answer_line(
-    line: &[u8; LINE],
-    read: &mut [u8; BYTES],
-    lent: &mut [u8; BYTES],
-    table: &mut [f32; NUMBERS],
-    table16: &mut [i16; NUMBERS],
-) {
-    let mut numbers: [u64; FIELDS] = [0; FIELDS];
-    if line[0] == b'#' {
-        say(line);
-    } else if hexadecimal::fields(line, &mut numbers) {
-        answer_question(&numbers, read, lent, table, table16);
-    } else {
-        say(b"bad\n");
+fn answer(line: &[u8], buffers: &mut Buffers, out: &mut impl Write) -> io::Result<()> {
+    if line.starts_with(b"#") {
+        return out.write_all(line);
+    }
+    match parts::numbers(line) {
+        Some(q) => answer_question(&q, buffers, out),
+        None => writeln!(out, "bad"),
     }
 }
 
-// Reads the next line and answers it, and says whether there was one. A last line that the input cuts off is bad.
-fn answer_next(
-    read: &mut [u8; BYTES],
-    lent: &mut [u8; BYTES],
-    table: &mut [f32; NUMBERS],
-    table16: &mut [i16; NUMBERS],
-) -> bool {
-    let mut line = [0u8; LINE];
-    let n = io::read_full(STDIN_FILENO, &mut line);
-    if n == 0 {
-        return false;
-    }
-    if n < LINE {
-        say(b"bad\n");
-    } else {
-        answer_line(&line, read, lent, table, table16);
-    }
-    true
-}
-
-// Answers each line of the input in turn, and gives how many there are. Nothing says that an input ends, so the count
-// has an end of its own, which no run comes to.
-fn answer_all() -> u64 {
-    let mut read = [FILL; BYTES];
-    let mut lent = [FILL; BYTES];
-    let mut table = [BEFORE; NUMBERS];
-    let mut table16 = [BEFORE16; NUMBERS];
-    let mut lines: u64 = 0;
-    while lines < u64::MAX && answer_next(&mut read, &mut lent, &mut table, &mut table16) {
-        lines += 1;
-    }
-    lines
-}
-
-fn main() {
-    let lines = answer_all();
-    say(b"lines\t");
-    io::print_decimal(STDOUT_FILENO, lines);
-    say(b"\n");
+fn main(rt: HostRuntime) {
+    let mut buffers = filled();
+    parts::answer_lines(&rt, &mut [0; LINE], |line, out| answer(line, &mut buffers, out));
 }

@@ -6,39 +6,16 @@
 // crates/parts.
 #![tactic(auto)]
 
-const STDOUT_FILENO: i32 = 1;
+use std::io::Write;
 
 // The longest part: one byte more than a camera file may have.
 const PART: usize = 4097;
 
-// Writes a case's line, and then what is printed for its input. Answers false where there is no case left.
-fn answer_next() -> bool {
-    let mut part = [0u8; PART];
-    let words = parts::read_part(&mut part);
-    if words == 0 {
-        return false;
-    }
-    io::write_all(STDOUT_FILENO, &part[..words]);
-    let input = parts::read_part(&mut part);
-    let mut output = [0u8; printer::OUTPUT];
-    let printed = printer::print(&part[..input], &mut output);
-    io::write_all(STDOUT_FILENO, &output[..printed]);
-    true
-}
-
-// Answers each case in turn, and gives how many there are. Nothing says that an input ends, so the count has an end of
-// its own, which no run comes to.
-fn answer_all() -> u64 {
-    let mut cases: u64 = 0;
-    while cases < u64::MAX && answer_next() {
-        cases += 1;
-    }
-    cases
-}
-
-fn main() {
-    let cases = answer_all();
-    io::write_all(STDOUT_FILENO, b"cases\t");
-    io::print_decimal(STDOUT_FILENO, cases);
-    io::write_all(STDOUT_FILENO, b"\n");
+fn main(rt: HostRuntime) {
+    parts::answer_cases(&rt, &mut [0; PART], |input, out| {
+        let mut room = [0; PART];
+        let mut output = [0; printer::OUTPUT];
+        let printed = printer::print(parts::read_part(input, &mut room), &mut output);
+        out.write_all(&output[..printed])
+    });
 }

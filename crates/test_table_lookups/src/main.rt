@@ -9,14 +9,10 @@
 // `bad`. The last line says how many were answered.
 #![tactic(auto)]
 
-ghost use Rattle.std.specs.Prelude.{◌≡◌, length};
-
-use lens::{Distorted, Point};
+use lens::{Pixel, Point, Refusal};
 use region::Region;
-
-const STDIN_FILENO: i32 = 0;
-
-const STDOUT_FILENO: i32 = 1;
+use std::io::Write;
+use std::{array, io};
 
 // The fields of a line, and its bytes: a field has 16 digits, and a tab or the line's end after them.
 const FIELDS: usize = 33;
@@ -28,117 +24,34 @@ const PLACES: usize = 24;
 
 const FIRST: usize = 9;
 
-fn say(words: &[u8]) {
-    io::write_all(STDOUT_FILENO, words);
-}
-
-// Answers a line that is not of the form.
-fn refuse() {
-    say(b"bad");
-}
-
-// Writes a tab and the bit pattern of x.
-fn say_number(x: f64) {
-    say(b"\t");
-    io::print_hex(STDOUT_FILENO, exact::to_bits(x), 16);
-}
-
-// The table's numbers, also those past its places. Lending a part of them needs the length.
-fn cells(q: &[u64; FIELDS]) -> [f32; PLACES]
-    ensures { 24 ≡ length result }
-{
-    let mut table: [f32; PLACES] = [0.0; PLACES];
-    let mut i = 0;
-    while i < PLACES {
-        table[i] = narrow::narrow(exact::of_bits(q[FIRST + i]));
-        i += 1;
-    }
-    table
-}
-
-// The region of a question.
-fn box_asked(q: &[u64; FIELDS]) -> Region {
-    Region {
-        left: exact::of_bits(q[3]),
-        top: exact::of_bits(q[4]),
-        right: exact::of_bits(q[5]),
-        bottom: exact::of_bits(q[6]),
-    }
-}
-
-// Writes an answer.
-fn tell(distorted: Distorted) {
-    match distorted {
-        Distorted::At(pixel) => {
-            say(b"0");
-            say_number(pixel.0);
-            say_number(pixel.1);
-        }
-        Distorted::Refused(refusal) => {
-            io::print_decimal(STDOUT_FILENO, lens::number(refusal) as u64);
-        }
-    }
-}
-
-// Answers a question of the form, if it has room.
-fn answer_question(q: &[u64; FIELDS]) {
-    let places = q[2] as usize;
-    let within = box_asked(q);
-    let point = Point(exact::of_bits(q[7]), exact::of_bits(q[8]));
-    let table = cells(q);
-    if places <= PLACES {
-        tell(lookup::lookup(
-            &table[..places],
-            within,
-            q[0] as usize,
-            q[1] as usize,
-            point,
-        ));
-    } else {
-        refuse();
-    }
+// Looks up what a line of numbers asks for, if the table has room.
+fn looked_up(q: [u64; FIELDS]) -> Option<Result<Pixel, Refusal>> {
+    let [width, height, places, left, top, right, bottom, x, y, ..] = q;
+    let table: [f32; PLACES] = array::from_fn(|i| narrow::narrow(exact::of_bits(q[FIRST + i])));
+    let region = Region {
+        left: exact::of_bits(left),
+        top: exact::of_bits(top),
+        right: exact::of_bits(right),
+        bottom: exact::of_bits(bottom),
+    };
+    let point = Point(exact::of_bits(x), exact::of_bits(y));
+    let table = table.get(..places as usize)?;
+    Some(lookup::lookup(table, region, width as usize, height as usize, point))
 }
 
 // Answers one line.
-fn answer(line: &[u8; LINE]) {
-    let mut numbers: [u64; FIELDS] = [0; FIELDS];
-    if hexadecimal::fields(line, &mut numbers) {
-        answer_question(&numbers);
-    } else {
-        refuse();
+fn answer(line: &[u8], out: &mut impl Write) -> io::Result<()> {
+    match parts::numbers(line).and_then(looked_up) {
+        Some(Ok(Pixel(u, v))) => {
+            write!(out, "0")?;
+            parts::say_floats(out, &[u, v])?;
+            writeln!(out)
+        }
+        Some(Err(refusal)) => writeln!(out, "{}", lens::number(refusal)),
+        None => writeln!(out, "bad"),
     }
 }
 
-// Reads the next line and answers it, and says whether there was one. A last line that the input cuts
-// off is bad, however much of it is there.
-fn answer_next() -> bool {
-    let mut line = [0u8; LINE];
-    let n = io::read_full(STDIN_FILENO, &mut line);
-    if n == 0 {
-        return false;
-    }
-    if n < LINE {
-        refuse();
-    } else {
-        answer(&line);
-    }
-    say(b"\n");
-    true
-}
-
-// Answers each line of the input in turn, and gives how many there are. Nothing says that an input
-// ends, so the count has an end of its own, which no run comes to.
-fn answer_all() -> u64 {
-    let mut lines: u64 = 0;
-    while lines < u64::MAX && answer_next() {
-        lines += 1;
-    }
-    lines
-}
-
-fn main() {
-    let lines = answer_all();
-    say(b"lines\t");
-    io::print_decimal(STDOUT_FILENO, lines);
-    say(b"\n");
+fn main(rt: HostRuntime) {
+    parts::answer_lines(&rt, &mut [0; LINE], |line, out| answer(line, out));
 }
