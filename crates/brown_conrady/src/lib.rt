@@ -299,7 +299,7 @@ fn newton(params: BrownConradyParams, distorted: Point) -> Search
         updates: 0,
         ended: false,
     };
-    while at.updates < LIMIT {
+    for _done in 0..LIMIT {
         at = pass(params, distorted, at);
         if at.ended {
             return at;

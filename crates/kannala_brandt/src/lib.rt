@@ -130,7 +130,7 @@ fn newton(params: KannalaBrandtParams, rth: f64) -> Reached
         updates: 0,
         ended: false,
     };
-    while at.updates < LIMIT {
+    for _done in 0..LIMIT {
         at = pass(params, rth, at);
         if at.ended {
             return at;

@@ -190,7 +190,7 @@ fn newton(params: BrownConradyParams, distorted: Point) -> Tracked
         },
         last: 1.0,
     };
-    while at.search.updates < brown_conrady::LIMIT {
+    for _done in 0..brown_conrady::LIMIT {
         at = pass(params, distorted, at);
         if at.search.ended {
             return at;

@@ -153,8 +153,7 @@ fn newton(params: ThinPrismParams, distorted: Point) -> Search
     ensures { result ≡ newton params distorted }
 {
     let mut xy = distorted;
-    let mut updates: u32 = 0;
-    while updates < brown_conrady::LIMIT {
+    for updates in 0..brown_conrady::LIMIT {
         let step = step_from(params, distorted, xy);
         if brown_conrady::small(step) {
             return Search {
@@ -164,11 +163,10 @@ fn newton(params: ThinPrismParams, distorted: Point) -> Search
             };
         }
         xy = Point(xy.0 - step.0, xy.1 - step.1);
-        updates += 1;
     }
     Search {
         xy,
-        updates,
+        updates: brown_conrady::LIMIT,
         ended: false,
     }
 }

@@ -1,5 +1,5 @@
 -- `kannala_brandt::newton` meets its contract. The loop's invariant: the passes left from here find what newton finds. Assumes nothing.
-use mathlib.Core.Path.{refl, ap}
+use mathlib.Core.Path.{refl, ap, ◌∙◌}
 use native.Mathlib.Omega.{arith}
 use Rattle.lens.proofs.Passes.{ends_there, goes_on, none_left}
 use Rattle.kannala_brandt.specs.KannalaBrandt.{limit, pass, ended, newton}
@@ -9,30 +9,28 @@ use Rattle.kannala_brandt.proofs.newton.Goals as goal
 pub root-requires : goal.root-requires
 root-requires c = tt
 
-pub loop-at-init : goal.loop-at-init
+pub loop-done-init : goal.loop-done-init
 unfolding newton
-loop-at-init c = rw c.root.ensures refl
+loop-done-init c = (refl, rw c.root.ensures refl)
 
 pub pass-at-requires : goal.pass-at-requires
-pass-at-requires c = omega arith
+pass-at-requires c = omega (arith, c.loop-done.invariant.0, c.loop-done-test.true)
 
 pub returns-then-at : goal.returns-then-at
 returns-then-at c =
     let a = c.args in
-    ends_there (pass a.params a.rth) ended updates limit c.loop-at.invariant (omega arith) c.pass-at.ensures c.if-at.true
+    ends_there (pass a.params a.rth) ended updates limit c.loop-done.invariant.1 (omega (arith, c.loop-done.invariant.0, c.loop-done-test.true)) c.pass-at.ensures c.if-at.true
 
-pub loop-at-smaller : goal.loop-at-smaller
-loop-at-smaller c =
+pub loop-done-preserved : goal.loop-done-preserved
+loop-done-preserved c =
     let a = c.args in
-    omega (arith, ap updates c.pass-at.ensures, one_update a.params a.rth c.loop-at.at)
-
-pub loop-at-preserved : goal.loop-at-preserved
-loop-at-preserved c =
-    let a = c.args in
-    let l = c.loop-at in
-    goes_on (pass a.params a.rth) ended updates limit l.invariant (omega arith) c.pass-at.ensures c.if-at.false (one_update a.params a.rth l.at)
+    let l = c.loop-done in
+    let i = l.invariant in
+    let one = one_update a.params a.rth l.at in
+    (omega (arith, ap updates c.pass-at.ensures ∙ one, i.0), goes_on (pass a.params a.rth) ended updates limit i.1 (omega (arith, i.0, c.loop-done-test.true)) c.pass-at.ensures c.if-at.false one)
 
 pub returns : goal.returns
 returns c =
     let a = c.args in
-    none_left (pass a.params a.rth) ended updates limit c.loop-at.invariant (omega arith)
+    let i = c.loop-done.invariant in
+    none_left (pass a.params a.rth) ended updates limit i.1 (omega (arith, i.0, c.loop-done-test.false))

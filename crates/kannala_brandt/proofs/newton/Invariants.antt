@@ -6,8 +6,5 @@ use Rattle.kannala_brandt.specs.KannalaBrandt.{limit, pass, ended, newton}
 use Rattle.kannala_brandt.proofs.Updates.{updates}
 use Rattle.kannala_brandt.proofs.newton.Given as goal
 
-abbrev pub invariant-loop-at : goal.invariant-loop-at
-invariant-loop-at l = passes (pass l.params l.rth) ended (limit - updates l.at) l.at ≡ newton l.params l.rth
-
-abbrev pub decreases-loop-at : goal.decreases-loop-at
-decreases-loop-at l = limit - updates l.at
+abbrev pub invariant-loop-done : goal.invariant-loop-done
+invariant-loop-done l = (updates l.at ≡ l._done) × (passes (pass l.params l.rth) ended (limit - updates l.at) l.at ≡ newton l.params l.rth)

@@ -1,4 +1,4 @@
--- `short_brown_conrady::newton` meets its contract. The loop's invariant: the passes that are left from here lead where all of them lead from the start. The measure is how many are left. Assumes nothing.
+-- `short_brown_conrady::newton` meets its contract. The loop's invariant: the passes that are left from here lead where all of them lead from the start. Assumes nothing.
 use mathlib.Core.Path.{◌≡◌, refl, sym, ap, ◌∙◌}
 use mathlib.Core.Bool.{Bool, true, false, true≢false}
 use Prim.Native.Nat.{suc}
@@ -25,37 +25,29 @@ updated_so params distorted at h = go (is_nan (norm_at params distorted at)) ref
         let p = is_pass params distorted at e in
         ap (λ (s : Search). s.updates) p ∙ updated (by_step params distorted) at.search (ap (λ (s : Search). s.ended) (sym p) ∙ h)
 
-pub loop-at-init : goal.loop-at-init
-loop-at-init c = refl
+pub loop-done-init : goal.loop-done-init
+loop-done-init c = (refl, refl)
 
 pub pass-at-requires : goal.pass-at-requires
-pass-at-requires c = omega arith
+pass-at-requires c = omega (arith, c.loop-done.invariant.0, c.loop-done-test.true)
 
 pub returns-then-at : goal.returns-then-at
 returns-then-at c =
-    let p = c in
-    let l = p in
-    let a = l.args in
-    ends_there (pass a.params a.distorted) ended updates limit l.loop-at.invariant p.loop-at-test.true p.pass-at.ensures c.if-at.true
+    let a = c.args in
+    let i = c.loop-done.invariant in
+    ends_there (pass a.params a.distorted) ended updates limit i.1 (omega (arith, i.0, c.loop-done-test.true)) c.pass-at.ensures c.if-at.true
 
-pub loop-at-smaller : goal.loop-at-smaller
-loop-at-smaller c =
-    let p = c in
-    let l = p in
-    let a = l.args in
-    let e = ap ended (sym p.pass-at.ensures) ∙ c.if-at.false in
-    omega (arith, ap updates p.pass-at.ensures ∙ updated_so a.params a.distorted l.loop-at.at e)
-
-pub loop-at-preserved : goal.loop-at-preserved
-loop-at-preserved c =
-    let p = c in
-    let l = p in
-    let a = l.args in
-    let e = ap ended (sym p.pass-at.ensures) ∙ c.if-at.false in
-    goes_on (pass a.params a.distorted) ended updates limit l.loop-at.invariant p.loop-at-test.true p.pass-at.ensures c.if-at.false (updated_so a.params a.distorted l.loop-at.at e)
+pub loop-done-preserved : goal.loop-done-preserved
+loop-done-preserved c =
+    let a = c.args in
+    let l = c.loop-done in
+    let i = l.invariant in
+    let e = ap ended (sym c.pass-at.ensures) ∙ c.if-at.false in
+    let one = updated_so a.params a.distorted l.at e in
+    (omega (arith, ap updates c.pass-at.ensures ∙ one, i.0), goes_on (pass a.params a.distorted) ended updates limit i.1 (omega (arith, i.0, c.loop-done-test.true)) c.pass-at.ensures c.if-at.false one)
 
 pub returns : goal.returns
 returns c =
-    let l = c in
-    let a = l.args in
-    none_left (pass a.params a.distorted) ended updates limit l.loop-at.invariant c.loop-at-test.false
+    let a = c.args in
+    let i = c.loop-done.invariant in
+    none_left (pass a.params a.distorted) ended updates limit i.1 (omega (arith, i.0, c.loop-done-test.false))

@@ -1,4 +1,4 @@
--- `short_brown_conrady::newton` meets its contract. The loop's invariant: the passes that are left from here lead where all of them lead from the start. The measure is how many are left. Assumes nothing.
+-- `short_brown_conrady::newton` meets its contract. The loop's invariant: the passes that are left from here lead where all of them lead from the start. Assumes nothing.
 use mathlib.Core.Path.{◌≡◌}
 use Prim.Native.Nat.{ℕ, ◌-◌}
 use Rattle.lens.specs.Passes.{passes}
@@ -10,8 +10,5 @@ use Rattle.short_brown_conrady.proofs.newton.Given as goal
 abbrev pub updates : Tracked → ℕ
 updates s = s.search.updates
 
-abbrev pub invariant-loop-at : goal.invariant-loop-at
-invariant-loop-at l = passes (pass l.params l.distorted) ended (limit - updates l.at) l.at ≡ newton l.params l.distorted
-
-abbrev pub decreases-loop-at : goal.decreases-loop-at
-decreases-loop-at l = limit - updates l.at
+abbrev pub invariant-loop-done : goal.invariant-loop-done
+invariant-loop-done l = (updates l.at ≡ l._done) × (passes (pass l.params l.distorted) ended (limit - updates l.at) l.at ≡ newton l.params l.distorted)

@@ -34,9 +34,6 @@ returns-then-small c =
     ends_there (pass a.params a.distorted) ended updates limit l.invariant c.loop-updates-test.true
     (there a.params a.distorted l.xy l.updates c.step_from-step.ensures (sym c.small.ensures ∙ c.if-small.true)) refl
 
-pub loop-updates-smaller : goal.loop-updates-smaller
-loop-updates-smaller c = omega arith
-
 pub loop-updates-preserved : goal.loop-updates-preserved
 loop-updates-preserved c =
     let l = c.loop-updates in
@@ -46,4 +43,8 @@ loop-updates-preserved c =
     (updated (step_from a.params a.distorted) (on_the_way l.xy l.updates) (ap ended (sym made)))
 
 pub returns : goal.returns
-returns c = let a = c.args in none_left (pass a.params a.distorted) ended updates limit c.loop-updates.invariant c.loop-updates-test.false
+returns c =
+    let a = c.args in
+    let l = c.loop-updates in
+    let all : l.updates ≡ limit = omega (arith, c.loop-updates-test.false, l.auto.updates-end) in
+    ap (on_the_way l.xy) (sym all) ∙ none_left (pass a.params a.distorted) ended updates limit l.invariant c.loop-updates-test.false

@@ -14,6 +14,3 @@ on_the_way xy n = record { xy = xy; updates = n; ended = false }
 
 abbrev pub invariant-loop-updates : goal.invariant-loop-updates
 invariant-loop-updates l = passes (pass l.params l.distorted) ended (limit - l.updates) (on_the_way l.xy l.updates) ≡ newton l.params l.distorted
-
-abbrev pub decreases-loop-updates : goal.decreases-loop-updates
-decreases-loop-updates l = limit - l.updates
