@@ -5,7 +5,7 @@ ghost use Rattle.std.specs.Prelude.{◌≡◌};
 ghost use Rattle.given.specs.Given.{flag_number, code};
 
 // What a call is answered: the operation's own number, or 7 if the buffer is not of the answer's length, the lower of
-// the two where both refuse.
+// the two where both refuse. It is a number, and no enum, since C is told a byte.
 pub fn code(own: u8, right: bool) -> u8
     ensures { result ≡ code own right }
 {
@@ -22,5 +22,5 @@ pub fn code(own: u8, right: bool) -> u8
 pub fn flag_number(flag: bool) -> u64
     ensures { result ≡ flag_number flag }
 {
-    if flag { 1 } else { 0 }
+    u64::from(flag)
 }

@@ -2,7 +2,7 @@
 use mathlib.Core.Path.{◌≡◌, refl, sym, ap, ap₂, ◌∙◌}
 use mathlib.Core.List.{List, [], ◌∷◌, ◌++◌, append-nil, append_assoc}
 use Prim.Native.Nat.{ℕ, zero, suc, ◌+◌, ◌-◌, ◌*◌, ◌/◌, ◌%◌, ◌≤◌, ◌<◌}
-use native.Mathlib.Nat.{sub-zero, div-div-eq-div-mul}
+use native.Mathlib.Nat.{add-zero, sub-zero, div-div-eq-div-mul}
 use native.Mathlib.Numerals.{add-one}
 use mir.Syntax.{w64}
 use borrow.Rule.Slice.PartMut.{mid_of, put_mid, post_of, Post-is, mid_len}
@@ -95,6 +95,9 @@ pub record Floatwise (out₀ : List ℕ) (at : ℕ) (numbers : List Float) (out 
   pub fits : at + 8 * length numbers ≤ length out₀
   pub long : length out ≡ length out₀
   pub left : sets out (at + 8 * i) (floats (drop i numbers)) ≡ sets out₀ at (floats numbers)
+
+pub no_float : (out : List ℕ) (at : ℕ) (numbers : List Float) → at + 8 * length numbers ≤ length out → Floatwise out at numbers out 0
+no_float out at numbers h = record { within = omega arith; fits = h; long = refl; left = ap (λ (k : ℕ). sets out k (floats numbers)) (add-zero at) }
 
 pub next_float :
     (out₀ : List ℕ) (at : ℕ) (numbers : List Float) (out : List ℕ) (i : ℕ) (d : Float) (b : ℕ) (after : List ℕ) →

@@ -1,5 +1,6 @@
 // The f32 nearest to an f64, by f64 operations that round where an f32 ends. The last of them gives a number that an
-// f32 holds, so that the cast loses nothing.
+// f32 holds, so that the cast loses nothing. The library's nearest_f64_to_f32_with_nan gives the same, with 67
+// instructions for a number of a table where these are 13.
 #![tactic(auto)]
 
 ghost use Rattle.std.specs.Prelude.{◌≡◌};
