@@ -23,7 +23,7 @@ use Rattle.job.specs.Job.{fresh}
 use Rattle.job.specs.declared.Job.{Job}
 use Rattle.distortion_table.specs.Answer.{Answer, whole_table}
 use Rattle.distortion_table.proofs.Laws.{at_once_ends}
-use Rattle.printer.specs.Made.{most_cells, told_built, InRoom, build}
+use Rattle.printer.specs.Made.{most_cells, Outcome, a_table, a_refusal, told_built, InRoom, build}
 use Rattle.printer.specs.Made.{table, no_table, held, made_in, blank_room, made}
 use Rattle.printer.specs.Printed.{made_text, printed, most_printed}
 use Rattle.printer.specs.Rows.{printer_rows, built_text, by_rows}
@@ -39,9 +39,15 @@ use Rattle.printer.proofs.print.Reads as print-contract
 pub print_determined : DeterminedWith print-contract.Post (λ κ s. s.1.0.now)
 print_determined κ a s s' r r' p q = both (p.0 ∙ sym q.0)
 
+-- the table that is told of
+built_of : Built → Outcome → Built
+built_of none (a_table width height updates region) = record { width = width; height = height; updates = updates; region = region }
+built_of none (a_refusal n) = none
+
 -- What is told of a build's answer determines it.
 pub built_one_to_one : (a b : Result Built Refusal) → told_built a ≡ told_built b → a ≡ b
-built_one_to_one (Ok a) (Ok b) e = ap Ok (cc)
+unfolding built_of
+built_one_to_one (Ok a) (Ok b) e = ap (λ (o : Outcome). Ok (built_of a o)) e
 built_one_to_one (Ok a) (Err q) e = cc
 built_one_to_one (Err q) (Ok b) e = cc
 built_one_to_one (Err q) (Err r) e = ap Err (number_one_to_one q r cc)
