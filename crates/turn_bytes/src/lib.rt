@@ -2,12 +2,11 @@
 // before any unit writes nothing.
 #![tactic(auto)]
 
-ghost use Rattle.std.specs.Prelude.{◌≡◌, length};
+ghost use Rattle.std.specs.Prelude.{◌≡◌, length, Ok};
 ghost use Rattle.lens.specs.Judgement.{verdict};
 ghost use Rattle.region.specs.Size.{Sized};
 ghost use Rattle.border.specs.Border.{all_units};
 ghost use Rattle.plans.specs.Calls.{said_number};
-ghost use Rattle.table_plans.specs.Tables.{f32s, i16s};
 ghost use Rattle.distortion_table.specs.Answer.{told_status};
 ghost use Rattle.job_bytes.specs.Places.{record_length};
 ghost use Rattle.job_bytes.specs.Bytes.{record_bytes, record_read};
@@ -15,6 +14,7 @@ ghost use Rattle.job_bytes.specs.Check.{whole};
 ghost use Rattle.turn_bytes.specs.Turn.{handed, own, answer_length, status_number, report, answer_bytes, Starts};
 ghost use Rattle.turn_bytes.specs.Turn.{turn_bytes};
 
+use cell::CellNumber;
 use distortion_table::{Status, Turned};
 use job::Job;
 use lens::Refusal;
@@ -96,7 +96,7 @@ fn give(turned: Turned, job: &mut [u8], answer: &mut [u8]) -> u8
 
 // The record's own refusal, or 0. Its mark and its check word are judged last, and only where all else is right.
 fn own(held: Job, job: &[u8], places: usize) -> u8
-    ensures { result ≡ own (Of held) (whole job.now) places }
+    ensures { result ≡ own (Ok held) (whole job.now) places }
 {
     let number = verdict(job::admitted(held, places));
     if number != 0 {
@@ -111,7 +111,7 @@ fn own(held: Job, job: &[u8], places: usize) -> u8
 // What a record that is read says to a table of so many places and an answer of so many bytes: 4, 5, 6, 7, 13 before
 // any unit.
 fn start_held(held: Job, job: &[u8], places: usize, room: usize) -> Result<Job, u8>
-    requires { record_read job.now ≡ Of held }
+    requires { record_read job.now ≡ Ok held }
     ensures { Starts job.now places room result }
 {
     let number = own(held, job, places);
@@ -127,39 +127,21 @@ fn begin(job: &[u8], places: usize, room: usize) -> Result<Job, u8>
     ensures { Starts job.now places room result }
 {
     match job_bytes::read(job) {
-        Err(refusal) => {
-            let code = given::code(lens::number(refusal), room == ANSWER);
-            Err(code)
-        }
+        Err(refusal) => Err(given::code(lens::number(refusal), room == ANSWER)),
         Ok(held) => start_held(held, job, places, room),
     }
 }
 
 // One turn: as many units as the allowance says, or fewer if one refuses or none is left. Record, table and answer are
 // written up to there.
-pub fn turn(job: &mut [u8], table: &mut [f32], allowance: u64, answer: &mut [u8]) -> u8
+pub fn turn<N: CellNumber>(job: &mut [u8], table: &mut [N], allowance: u64, answer: &mut [u8]) -> u8
     ensures { handed result job.new table.new answer.new
-        ≡ turn_bytes f32s job.old table.old allowance answer.old }
+        ≡ turn_bytes N.kind job.old table.old allowance answer.old }
 {
     match begin(job, table.len(), answer.len()) {
         Err(code) => code,
         Ok(held) => give(
             distortion_table::turn(held, table, allowance as usize),
-            job,
-            answer,
-        ),
-    }
-}
-
-// The same of a table of sixteen-bit numbers.
-pub fn turn16(job: &mut [u8], table: &mut [i16], allowance: u64, answer: &mut [u8]) -> u8
-    ensures { handed result job.new table.new answer.new
-        ≡ turn_bytes i16s job.old table.old allowance answer.old }
-{
-    match begin(job, table.len(), answer.len()) {
-        Err(code) => code,
-        Ok(held) => give(
-            distortion_table::turn16(held, table, allowance as usize),
             job,
             answer,
         ),

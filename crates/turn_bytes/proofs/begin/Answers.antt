@@ -30,7 +30,7 @@ pub returns-in-Err : goal.returns-in-Err
 returns-in-Err c =
     let a = c.args in
     let right = eqb a.room answer_length in
-    let e = c.code-code.ensures ∙ ap (λ (n : ℕ). code n right) c.number.ensures in
+    let e = c.code.ensures ∙ ap (λ (n : ℕ). code n right) c.number.ensures in
     (e ∙ ap (λ (f : Result Job Refusal). code (own f (whole a.job.now) a.places) right) (sym c.in-Err.is ∙ c.read.ensures), λ z. above _ right (number_within c.in-Err.refusal).0 (sym e ∙ z))
 
 pub returns-in-Ok : goal.returns-in-Ok
