@@ -100,6 +100,7 @@ fn begin(job: &[u8], places: usize, room: usize) -> Result<Job, u8>
     ensures { Starts job.now places room result }
 {
     let right = room == ANSWER;
+    // A refusal goes out by the number that C is told, and each arm has its own.
     match taken(job, places) {
         Err(refusal) => Err(given::code(lens::number(refusal), right)),
         Ok(held) if right => Ok(held),
