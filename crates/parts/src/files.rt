@@ -50,3 +50,14 @@ impl Failure<'_> {
         eprintln!(rt; ": {words}")
     }
 }
+
+// Says of a step that failed what it failed with.
+pub trait Blame<T> {
+    fn blame<'a>(self, what: &'a [u8]) -> std::result::Result<T, Failure<'a>>;
+}
+
+impl<T: Drop> Blame<T> for Result<T> {
+    fn blame<'a>(self, what: &'a [u8]) -> std::result::Result<T, Failure<'a>> {
+        self.map_err(|error| Failure { what, error })
+    }
+}
