@@ -3,7 +3,6 @@ use Rattle.std.proofs.Common.{◌≡◌, Bool, not, sym, refl, ap, ◌∙◌}
 use Rattle.lookup.proofs.Steps.{admitted_so}
 use Rattle.lookup.proofs.admitted.Goals as goal
 use Rattle.lookup.proofs.admitted.Goals.{
-
   then-not-finite_region-via-then-not-finite_region,
   then-not-finite_region-via-else-not-finite_region+then-not-both_finite,
 }
