@@ -9,7 +9,7 @@ use denote.Param.Laws.{Laws, IsCopy}
 use denote.RattleType.{RattleType}
 use lib.IntN.{ℤ}
 use mir.Syntax.{Dict}
-use Rattle.core.specs.declared.clone.Clone as clone
+use Rattle.std.specs.declared.clone.Clone as clone
 use lib.Ieee.{Float}
 use Rattle.exact.specs.Determined.{Determined}
 use Rattle.thirty_seconds.specs.Multiple.{nearest_multiple}

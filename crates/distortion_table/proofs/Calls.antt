@@ -9,7 +9,7 @@ use denote.Param.Laws.{Laws, IsCopy}
 use denote.RattleType.{RattleType}
 use lib.ListN.{length}
 use mir.Syntax.{Dict}
-use Rattle.core.specs.declared.clone.Clone as clone
+use Rattle.std.specs.declared.clone.Clone as clone
 use Rattle.lens.specs.Judgement.{decided}
 use Rattle.lens.specs.Refusal.{number}
 use Rattle.lens.specs.Judgement.{Judgement}

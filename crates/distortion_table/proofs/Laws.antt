@@ -10,7 +10,7 @@ use denote.Param.Laws.{Laws, IsCopy}
 use denote.RattleType.{RattleType}
 use lib.ListN.{length}
 use mir.Syntax.{Dict}
-use Rattle.core.specs.declared.clone.Clone as clone
+use Rattle.std.specs.declared.clone.Clone as clone
 use Rattle.exact.specs.Determined.{DeterminedWith}
 use Rattle.lens.proofs.Laws.{number_one_to_one}
 use Rattle.camera.specs.Camera.{limit}

@@ -14,7 +14,7 @@ use denote.Param.Laws.{Laws, IsCopy}
 use denote.RattleType.{RattleType}
 use lib.ListN.{length}
 use mir.Syntax.{Dict}
-use Rattle.core.specs.declared.clone.Clone as clone
+use Rattle.std.specs.declared.clone.Clone as clone
 use Rattle.exact.specs.Determined.{DeterminedWith}
 use Rattle.border.proofs.Finite.{both}
 use Rattle.turns.specs.Turns.{Said}
