@@ -50,7 +50,7 @@ struct Ended {
     pub at: Progress,
 }
 
-// What a turn says at its end.
+// What a turn says at its end: one of three, which a Result around the other two would make no plainer.
 #[derive(Clone, Copy)]
 pub enum Status {
     Finished,
@@ -102,6 +102,7 @@ fn border_due(job: Job, allowance: usize) -> Result<Run, Ended>
     let stop = sweep::sweep(camera, width, height, job.strict, at, allowance);
     let refusal = stop.refusal;
     let after = stop.at;
+    // A refusal goes out with how far the sweep has come, which `?` would lose.
     match refusal {
         Err(r) => Err(Ended {
             status: Status::Refused(r),
@@ -117,6 +118,7 @@ fn up_to_cells(job: Job, places: usize, allowance: usize) -> Result<Run, Ended>
     ensures { told_due result ≡ to_do job places allowance }
 {
     let at = job.at;
+    // So does this one, with where the build stood.
     match job::admitted(job, places) {
         Err(refusal) => Err(Ended {
             status: Status::Refused(refusal),

@@ -25,7 +25,6 @@ use Rattle.lens.specs.declared.Refusal.{Refusal}
 use Rattle.lens.specs.declared.Refusal.TheVariants.{RayNotForward}
 use Rattle.lens.specs.declared.Settled.{Settled}
 use Rattle.lens.specs.Undistorted.{Undistorted}
-use Rattle.lens.proofs.Laws.{told_one_to_one}
 use Rattle.enhanced_unified.specs.EnhancedUnified.{camera, norm_of, distort, mx_of, my_of, ray_z, not_forward, undistort, undistort_before}
 use Rattle.enhanced_unified.specs.declared.EnhancedUnifiedParams.{EnhancedUnifiedParams}
 use Rattle.enhanced_unified.proofs.Sides.{Lies, above_lies, lies_above, below_lies, lies_below, not_above, quotient_lies, product_lies, over_nan, turned_twice, forward}

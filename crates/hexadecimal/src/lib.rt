@@ -65,7 +65,7 @@ pub fn field(line: &[u8], k: usize) -> Option<u64>
 }
 
 // Reads as many fields of a line as there are places, the first into the first: 0 where there is none. Answers whether
-// all are there.
+// all are there, and no Option: the places hold the fields that are there even where one is missing.
 pub fn fields(line: &[u8], numbers: &mut [u64]) -> bool
     ensures is { result ≡ every_field line.now 0 (length numbers.old) }
     ensures puts { numbers.new ≡ fields line.now 0 (length numbers.old) }

@@ -22,7 +22,6 @@ use Rattle.lens.specs.declared.Refusal.{Refusal}
 use Rattle.lens.specs.declared.Settled.{Settled}
 use Rattle.lens.specs.declared.Refusal.TheVariants.{AngleTooLarge}
 use Rattle.lens.specs.Undistorted.{Undistorted}
-use Rattle.lens.proofs.Laws.{told_one_to_one}
 use Rattle.lens.proofs.Passes.{passes_most}
 use Rattle.kannala_brandt.specs.AsWritten.{dx_distort_x_as_written, dx_distort_params_as_written}
 use Rattle.kannala_brandt.specs.KannalaBrandt.{camera, distort, dx_distort_x, dx_distort_params, limit, pass, start, ended, newton, flag, flag_before, outward, outward_by, un_of, vn_of, rth2, undistort, undistort_before}

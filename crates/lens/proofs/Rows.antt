@@ -1,12 +1,12 @@
 -- What stands at each place of two rows and of a Jacobian's list, and how the loop of `two_rows` fills that list. Assumes nothing.
 use mathlib.Core.Path.{◌≡◌, refl, sym, ap, ◌∙◌}
 use mathlib.Core.List.{List, [], ◌∷◌, ◌++◌}
-use Prim.Native.Nat.{ℕ, zero, suc, ◌+◌, ◌-◌, ◌≤◌, ◌<◌}
+use Prim.Native.Nat.{ℕ, zero, suc, ◌≤◌, ◌<◌}
 use native.Mathlib.Nat.{le_of_lt, le_of_suc-le-suc, not-suc-le-zero}
 use native.Mathlib.Omega.{arith}
 use lib.Ieee.{Float}
-use lib.ListN.{length, get_or, take, set, replicate, length-append, length-take, length-replicate, get_or-replicate, get_or-append, get_or-eq_default}
-use lib.Seq.{take_all, take-suc, take-suc-set, get_or-take, get_or-append-add}
+use lib.ListN.{length, get_or, take, set, replicate, length-append, length-take, length-replicate, get_or-replicate}
+use lib.Seq.{take_all, take-suc, take-suc-set, get_or-take}
 use Rattle.lens.specs.Constants.{zeros}
 use Rattle.lens.specs.Jacobian.{entries, padded}
 
@@ -30,20 +30,6 @@ padded_length row = simp (length-take, length-append, length-replicate) (omega a
 
 pub padded_at : (row : List Float) (i : ℕ) (d : Float) → i < entries → get_or (padded row) i d ≡ get_or row i zeros
 padded_at row i d h = get_or-take entries (row ++ replicate entries zeros) i d h ∙ behind row entries i zeros d h
-
--- ---- two rows, one after the other
-
-module _ (top bottom : List Float) (i : ℕ) (d e : Float) where
-  pub in_top : i < length top → get_or top i d ≡ get_or (top ++ bottom) i e
-  in_top h = any_default top i d e h ∙ sym (get_or-append top bottom e i h)
-
-  pub in_bottom : length top ≤ i → i - length top < length bottom → get_or bottom (i - length top) d ≡ get_or (top ++ bottom) i e
-  in_bottom past h =
-      let back : length top + (i - length top) ≡ i = omega arith in
-      any_default bottom (i - length top) d e h ∙ sym (get_or-append-add top bottom (i - length top) e) ∙ ap (λ (k : ℕ). get_or (top ++ bottom) k e) back
-
-pub past_both : (top bottom : List Float) (i : ℕ) (e : Float) → length top ≤ i → length bottom ≤ i - length top → e ≡ get_or (top ++ bottom) i e
-past_both top bottom i e past h = sym (get_or-eq_default (top ++ bottom) e (omega (arith, length-append top bottom)))
 
 -- ---- the loop: one more store, and the end
 

@@ -13,6 +13,9 @@ ghost use Rattle.lens.specs.Radius.{squared_radius};
 ghost use Rattle.lens.specs.Undistorted.{direct};
 ghost use Rattle.lens.specs.Finite.{all_finite};
 
+use std::error::Error;
+use std::fmt;
+
 // The Rust's EPS_F64. Its value stands in no text that we have: 1e-6 until it is read at the commit, which decides.
 pub const EPS: f64 = 1e-6;
 
@@ -20,24 +23,24 @@ pub const EPS: f64 = 1e-6;
 pub const ENTRIES: usize = 32;
 
 // A point on the z=1 plane, x and y.
-#[derive(Clone, Copy)]
+#[derive(Clone, Copy, Debug, PartialEq)]
 pub struct Point(pub f64, pub f64);
 
 // Where a camera sees a point: u across, v down. A type of its own, so that neither can be passed where the other is
 // meant.
-#[derive(Clone, Copy)]
+#[derive(Clone, Copy, Debug, PartialEq)]
 pub struct Pixel(pub f64, pub f64);
 
 // A matrix of two rows, row by row: with n columns row 0 stands at 0..n and row 1 at n..2n. Every place after them
 // holds 0.0.
-#[derive(Clone, Copy)]
+#[derive(Clone, Copy, Debug, PartialEq)]
 pub struct Jacobian {
     pub entries: [f64; ENTRIES],
     pub columns: usize,
 }
 
 // Where an undistort ended, after how many updates, and whether it settled there.
-#[derive(Clone, Copy)]
+#[derive(Clone, Copy, Debug, PartialEq)]
 pub struct Settled {
     pub point: Point,
     pub updates: u32,
@@ -45,7 +48,7 @@ pub struct Settled {
 }
 
 // Why a call is refused, in the order of the numbers.
-#[derive(Clone, Copy)]
+#[derive(Clone, Copy, Debug, PartialEq, Eq)]
 pub enum Refusal {
     // no model goes by it
     UnknownModel,
@@ -86,6 +89,34 @@ pub enum Refusal {
     // too far for a cell of sixteen bits
     TooFar,
 }
+
+impl fmt::Display for Refusal {
+    fn fmt<W: fmt::Write>(&self, f: &mut fmt::Formatter<W>) -> fmt::Result {
+        f.write_str(match self {
+            Refusal::UnknownModel => "no model goes by that name",
+            Refusal::NoParameterJacobian => "the model has no derivative by its parameters",
+            Refusal::WrongCount => "too many parameters, or too few",
+            Refusal::NotFinite => "something handed in is not a number",
+            Refusal::ZeroFocalLength => "a focal length shrinks its axis to nothing",
+            Refusal::WrongSize => "the columns or rows are too few, or too many",
+            Refusal::WrongLength => "the memory does not match what is to be written",
+            Refusal::IncrementNotPositive => "the columns or rows do not go up",
+            Refusal::OutsideTable => "the point lies outside the table",
+            Refusal::AngleTooLarge => "the angle is too large for its tangent",
+            Refusal::AnswerNotFinite => "the answer is not a number",
+            Refusal::CellInfinite => "the number is too large for a cell",
+            Refusal::ImpossibleRecord => "the record was never begun by us, or was tampered with",
+            Refusal::NotTheForm => "the input is not of the form that is read",
+            Refusal::SizesDiffer => "the two listings are not of one size",
+            Refusal::RayNotForward => "the ray of a pixel does not point forwards",
+            Refusal::NotOurs => "our parameters cannot hold this camera",
+            Refusal::SampleUnsettled => "a border sample did not settle",
+            Refusal::TooFar => "the number is too far for a cell of sixteen bits",
+        })
+    }
+}
+
+impl Error for Refusal {}
 
 // EPS as a call, so that a contract ties the constant to the definition.
 pub fn eps() -> f64
@@ -150,10 +181,8 @@ pub fn two_rows(top: &[f64], bottom: &[f64]) -> Jacobian
     ensures { result ≡ two_rows top.now bottom.now }
 {
     let mut entries = [0.0; ENTRIES];
-    let mut i = 0;
-    while i < ENTRIES {
+    for i in 0..ENTRIES {
         entries[i] = placed(top, bottom, i);
-        i += 1;
     }
     Jacobian {
         entries,
@@ -185,7 +214,8 @@ pub fn squared_radius(x: f64, y: f64) -> f64
 }
 
 // The mark of a list: 0.0 if every number is finite, and NaN if one isn't. By twos, since the compiler subtracts and
-// adds two numbers at once, and never changes the order in which a sum is added.
+// adds two numbers at once, and never changes the order in which a sum is added. A `for` over the pairs is no plainer: the
+// library has no chunks, and the two places and the odd last number would be counted from the pair's.
 pub fn marks(numbers: &[f64]) -> f64
     ensures { result ≡ mark (all_finite numbers.now) }
 {

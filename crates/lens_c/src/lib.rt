@@ -159,5 +159,5 @@ pub extern "C" fn lens_turn16(
     ensures { handed result job.new table.new answer.new ≡
         turn_bytes i16s job.old table.old allowance answer.old }
 {
-    turn_bytes::turn16(job, table, allowance, answer)
+    turn_bytes::turn(job, table, allowance, answer)
 }

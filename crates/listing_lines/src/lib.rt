@@ -59,7 +59,8 @@ fn grow(line: &mut [u8; LINE], at: usize, text: &[u8]) -> usize
     put_text::put(line, at, text)
 }
 
-// The same of a tab and a number in decimal.
+// The same of a tab and a number in decimal. The kit's io writes the digits: std says which bytes it prints only to a
+// String, which needs heap.
 fn grow_decimal(line: &mut [u8; LINE], at: usize, n: u64) -> usize
     requires { at ≤ 75 }
     ensures { Grown line.old at (9 ∷ decimal n) line.new result }

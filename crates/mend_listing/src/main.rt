@@ -4,14 +4,15 @@
 // once, a piece at a time. What can't be read is said on standard error, and then nothing is printed.
 #![tactic(auto)]
 
-use lens::Refusal;
 use mending::{LINE, MAP, OUTPUT};
+use parts::{Blame, Failure};
 use printer::{Built, NUMBERS};
-use region::Region;
 use std::fs::File;
-use std::io::{Error, ErrorKind, Print, Read, Result};
+use std::io;
+use std::io::{Error, ErrorKind, Read};
 
-const STDERR_FILENO: i32 = 2;
+// The longest name of a file.
+const NAME: usize = 4096;
 
 // One byte more than a camera file may have: a longer one is seen to be longer and refused, not cut.
 const INPUT: usize = 4097;
@@ -19,191 +20,66 @@ const INPUT: usize = 4097;
 // What is read of a listing at once.
 const PIECE: usize = 4096;
 
-// Writes what is printed, or says that it can't be.
-fn print(rt: &impl Print, out: &[u8]) {
-    if let Err(error) = rt.write_all(out) {
-        parts::fail(b"standard output", error);
+// Reads a camera file, or as much of it as is looked at. A read that failed is let go where the next one says that the
+// file ends, and a file that ended and then went on is refused.
+fn read_camera(rt: &HostRuntime, file: &mut File) -> io::Result<Vec<u8>> {
+    let mut input = Vec::with_capacity(rt.alloc(), INPUT)?;
+    let failed = file.by_ref().take(INPUT as u64).read_to_end(&mut input).err();
+    if input.len() < INPUT && file.read(&mut [0; 1])? > 0 {
+        return Err(failed.unwrap_or(Error::from_raw_os_error(0)));
     }
+    Ok(input)
 }
 
-// Writes a refusal's line.
-fn refuse(rt: &impl Print, refusal: Refusal) {
-    let mut out = [0u8; LINE];
-    let n = listing_lines::refused_line(&mut out, 0, refusal);
-    let k = parts::held(n, &out);
-    print(rt, &out[..k]);
-}
-
-// Reads the next piece.
-fn next(file: &mut File, piece: &mut [u8; PIECE]) -> Result<usize> {
-    file.read(piece)
-}
-
-// Takes what a read has put into the piece, behind n bytes of a line that are held from before, and answers how many
-// are held then.
-fn taken(
-    map: &mut [u32],
-    line: &mut [u8],
-    n: usize,
-    width: usize,
-    height: usize,
-    piece: &[u8],
-    got: usize,
-) -> usize {
-    let k = parts::held(got, piece);
-    mending::feed(map, line, n, width, height, &piece[..k])
-}
-
-// The same of arrays: a loop that changes these then has nothing to show of their lengths.
-fn taken_on(
-    map: &mut [u32; MAP],
-    line: &mut [u8; LINE],
-    n: usize,
-    width: usize,
-    height: usize,
-    piece: &[u8; PIECE],
-    got: usize,
-) -> usize {
-    taken(map, line, n, width, height, piece, got)
-}
-
-// Keeps what a file gives of a table of this size, to its end, or answers why it couldn't be read. No file comes to the
-// end of the turns.
-fn keep_all(file: &mut File, map: &mut [u32; MAP], width: usize, height: usize) -> Result<()> {
-    let mut piece = [0u8; PIECE];
-    let mut line = [0u8; LINE];
-    let mut n = 0;
-    let mut turns = u64::MAX;
-    while turns > 0 {
-        let got = next(file, &mut piece)?;
-        if got == 0 {
+// Keeps what a file gives of a table of this size, to its end. No file has more pieces than a u64 counts.
+fn keep_all(file: &mut File, map: &mut [u32; MAP], width: usize, height: usize) -> io::Result<()> {
+    let mut piece = [0; PIECE];
+    let mut line = [0; LINE];
+    let mut held = 0;
+    for _ in 0..u64::MAX {
+        let n = file.read(&mut piece)?;
+        if n == 0 {
             return Ok(());
         }
-        n = taken_on(map, &mut line, n, width, height, &piece, got);
-        turns -= 1;
+        held = mending::feed(map, &mut line, held, width, height, &piece[..n]);
     }
     Err(Error::from(ErrorKind::FileTooLarge))
 }
 
-// Writes what is printed of a fresh table, whose numbers stand in the room, and of what was kept.
-fn tell(
-    rt: &impl Print,
-    width: usize,
-    height: usize,
-    updates: u32,
-    region: Region,
-    room: &[f32; NUMBERS],
-    map: &[u32; MAP],
-) {
-    let mut out = [0u8; OUTPUT];
-    let n = mending::write_mended(&mut out, width, height, updates, region, room, map);
-    print(rt, &out[..n]);
-}
-
-// Mends a listing by a fresh table.
-fn mend(
-    rt: &impl Print,
-    listing: &mut File,
-    path: &[u8],
-    width: usize,
-    height: usize,
-    updates: u32,
-    region: Region,
-    room: &[f32; NUMBERS],
-) {
-    let mut map = [0u32; MAP];
-    if let Err(error) = keep_all(listing, &mut map, width, height) {
-        parts::fail(path, error);
-        return;
-    }
-    tell(rt, width, height, updates, region, room, &map);
-}
-
-// What was read at once: how many bytes, and why no more, if that was for a read that failed.
-#[derive(Clone, Copy)]
-struct Got {
-    n: usize,
-    failed: Option<Error>,
-}
-
-// Reads until the buffer is full, the file ends or a read fails.
-fn read_full(file: &mut File, buf: &mut [u8]) -> Got {
-    let mut n = 0;
-    while n < buf.len() {
-        match file.read(&mut buf[n..]) {
-            Ok(0) => break,
-            Ok(more) => n += more,
-            Err(error) => {
-                return Got {
-                    n,
-                    failed: Some(error),
-                };
-            }
+// Builds the camera's table, mends the listing by it, and writes what is printed.
+fn run<'a>(rt: &HostRuntime, camera_name: &'a [u8], listing_name: &'a [u8]) -> Result<(), Failure<'a>> {
+    let mut camera = parts::open(rt, camera_name).blame(camera_name)?;
+    let mut listing = parts::open(rt, listing_name).blame(listing_name)?;
+    let input = read_camera(rt, &mut camera).blame(camera_name)?;
+    let mut room = [0.0; NUMBERS];
+    let mut map = [0; MAP];
+    let mut out = [0; OUTPUT];
+    let n = match printer::build(input.as_slice(), &mut room) {
+        Ok(built) => {
+            let Built {
+                width,
+                height,
+                updates,
+                region,
+            } = built;
+            keep_all(&mut listing, &mut map, width, height).blame(listing_name)?;
+            mending::write_mended(&mut out, width, height, updates, region, &room, &map)
         }
-    }
-    Got { n, failed: None }
-}
-
-// Whether a file that was read so far has no more, or more than are looked at; else why it wasn't read to its end.
-fn ended(file: &mut File, got: Got) -> Result<()> {
-    if got.n >= INPUT {
-        return Ok(());
-    }
-    let mut more = [0u8; 1];
-    if file.read(&mut more)? == 0 {
-        return Ok(());
-    }
-    match got.failed {
-        Some(error) => Err(error),
-        // It ended, and then went on.
-        None => Err(Error::from_raw_os_error(0)),
-    }
-}
-
-// Builds the camera's table, and mends the listing by it.
-fn run(rt: &impl Print, camera: &mut File, listing: &mut File, first: &[u8], second: &[u8]) {
-    let mut input = [0u8; INPUT];
-    let got = read_full(camera, &mut input);
-    if let Err(error) = ended(camera, got) {
-        parts::fail(first, error);
-        return;
-    }
-    let n = parts::held(got.n, &input);
-    let mut room = [0.0f32; NUMBERS];
-    match printer::build(&input[..n], &mut room) {
-        Built::Refused(refusal) => refuse(rt, refusal),
-        Built::Table {
-            width,
-            height,
-            updates,
-            region,
-        } => mend(rt, listing, second, width, height, updates, region, &room),
-    }
-}
-
-// Opens a file, or says why it can't be.
-fn opened(rt: &HostRuntime, path: &[u8]) -> Option<File> {
-    match parts::open(rt, path) {
-        Ok(file) => Some(file),
-        Err(error) => {
-            parts::fail(path, error);
-            None
-        }
-    }
+        Err(refusal) => listing_lines::refused_line(&mut out, 0, refusal),
+    };
+    rt.write_all(&out[..parts::held(n, &out)]).blame(b"standard output")
 }
 
 fn main(rt: HostRuntime) {
     if !parts::is_given(&rt, 2) || parts::is_given(&rt, 3) {
-        io::write_all(STDERR_FILENO, b"usage: mend_listing CAMERA LISTING\n");
+        let _ = eprintln!(rt; "usage: mend_listing CAMERA LISTING");
         return;
     }
-    let mut first = io::buffer();
-    let mut second = io::buffer();
-    let n = parts::argument(&rt, 1, &mut first);
-    let m = parts::argument(&rt, 2, &mut second);
-    if let Some(mut camera) = opened(&rt, &first[..n]) {
-        if let Some(mut listing) = opened(&rt, &second[..m]) {
-            run(&rt, &mut camera, &mut listing, &first[..n], &second[..m]);
-        }
+    let mut camera = [0; NAME];
+    let mut listing = [0; NAME];
+    let camera = parts::argument(&rt, 1, &mut camera);
+    let listing = parts::argument(&rt, 2, &mut listing);
+    if let Err(failure) = run(&rt, camera, listing) {
+        let _ = failure.tell(&rt);
     }
 }

@@ -9,7 +9,7 @@ use lib.Dec.{leb, ltb}
 use lib.ListN.{length, length-append, take-append-drop}
 use lib.Seq.{take_at}
 use Rattle.io.specs.Digits.{hex_digit_ascii, last_digits}
-use Rattle.decimal.specs.Text.{tab, newline, all, same, place, past}
+use Rattle.decimal.specs.Text.{tab, newline, all, place, past}
 use Rattle.decimal.proofs.Bytes.{and_left, and_right, both, all_append}
 use Rattle.decimal.proofs.Parts.{lacks, place_after, past_is}
 use Rattle.params_line.specs.Params.{params_word, fields, word_line, many, is_line, is_params, params_of}

@@ -1,17 +1,13 @@
 // Reads a camera's text, ours or OpenCV's, and writes the other one, or one line that says which refusal.
 #![tactic(auto)]
 
-const STDIN_FILENO: i32 = 0;
-
-const STDOUT_FILENO: i32 = 1;
-
 // One byte more than a text may have: a longer one is seen to be longer and refused, not cut.
 const INPUT: usize = 4097;
 
-fn main() {
-    let mut input = [0u8; INPUT];
-    let mut output = [0u8; opencv::OUTPUT];
-    let read = io::read_full(STDIN_FILENO, &mut input);
-    let written = opencv::convert(&input[..read], &mut output);
-    io::write_all(STDOUT_FILENO, &output[..written]);
+// What can't be written is let go: nobody is left to tell.
+fn main(rt: HostRuntime) {
+    let mut input = [0; INPUT];
+    let mut output = [0; opencv::OUTPUT];
+    let written = opencv::convert(parts::read_full(&mut rt.reader(), &mut input), &mut output);
+    let _ = rt.write_all(&output[..written]);
 }

@@ -76,7 +76,8 @@ pub fn at(line: &[u8], k: usize) -> f64
     exact::of_bits(bits_at(line, k))
 }
 
-// Puts a tab and the 16 digits of a pattern at place at of out, if they fit there.
+// Puts a tab and the 16 digits of a pattern at place at of out, if they fit there. The kit's io writes the digits: std
+// says which bytes it prints only to a String, which needs heap.
 fn put_field(out: &mut [u8], at: usize, bits: u64) -> usize
     ensures { written out.new result ≡
         placed (written out.old at) (tab ∷ last_digits 16 16 bits) }

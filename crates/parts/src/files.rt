@@ -1,35 +1,24 @@
 // What programs that read files by name share: their arguments, opening a file, and saying why that, or reading one,
 // failed.
-ghost use Rattle.io.specs.Counts.{IsPrefixLen};
+ghost use Rattle.std.specs.Prelude.{◌≤◌, length};
 
-use crate::held;
 use std::env::{Env, FillError};
 use std::fs;
 use std::fs::Files;
-use std::io::{Cursor, Error, ErrorKind, Result, Write};
-
-const STDERR_FILENO: i32 = 2;
-
-// Room for the words that std has for an error.
-const WORDS: usize = 256;
+use std::io::{Error, ErrorKind, Result};
 
 // Whether the program was given argument i; argument 0 is its own name.
 pub fn is_given(rt: &impl Env, i: usize) -> bool {
-    let mut start = [0u8; 1];
-    match rt.arg(i, &mut start) {
-        Err(FillError::NotPresent) => false,
-        _ => true,
-    }
+    !matches!(rt.arg(i, &mut [0; 1]), Err(FillError::NotPresent))
 }
 
-// Puts argument i at the start of buf, and answers how many bytes it has: none where it is missing, or too long.
-pub fn argument(rt: &impl Env, i: usize, buf: &mut [u8]) -> usize
-    ensures { IsPrefixLen result buf.new }
+// Argument i, at the start of the room: nothing where it is missing, or too long. It need not be UTF-8, so it is none of
+// std's strings.
+pub fn argument<'a>(rt: &impl Env, i: usize, room: &'a mut [u8]) -> &'a [u8]
+    ensures { length result.now ≤ length room.old }
 {
-    match rt.arg(i, buf) {
-        Ok(n) => held(n, buf),
-        Err(_) => 0,
-    }
+    let n = rt.arg(i, room).unwrap_or(0);
+    &room[..n]
 }
 
 // Opens a file for reading. std opens names in UTF-8 alone.
@@ -40,28 +29,35 @@ pub fn open<R: Files>(rt: &R, path: &[u8]) -> Result<R::File> {
     }
 }
 
-// How many bytes of std's words for an error are the system's: behind these std puts the error's number.
-fn of_the_system(words: &[u8]) -> usize
-    ensures { IsPrefixLen result words.now }
-{
-    let number = b" (os error ".as_slice();
-    match words.windows(number.len()).position(|w| w == number) {
-        Some(n) => held(n, words),
-        None => words.len(),
+// What failed, a file by its name or a stream, and why.
+#[derive(Clone, Copy)]
+pub struct Failure<'a> {
+    pub what: &'a [u8],
+    pub error: Error,
+}
+
+impl Failure<'_> {
+    // Writes a line to standard error: what failed, a colon, and the system's words for why. Behind these std puts the
+    // error's number.
+    pub fn tell(self, rt: &HostRuntime) -> Result<()> {
+        let Failure { what, error } = self;
+        let text = format!(in rt.alloc(); "{error}")?;
+        let words = text.as_str();
+        let words = words
+            .split_once(" (os error ")
+            .map_or(words, |(words, _)| words);
+        rt.stderr().write_all(what)?;
+        eprintln!(rt; ": {words}")
     }
 }
 
-// Writes a line to standard error: what failed, a colon, and the system's words for why.
-pub fn fail(what: &[u8], error: Error) {
-    let mut out = Cursor::new([0u8; WORDS]);
-    let _ = write!(out, "{error}");
-    let end = out.position() as usize;
-    let words = out.into_inner();
-    let n = held(end, &words);
-    let text = &words[..n];
-    let k = of_the_system(text);
-    io::write_all(STDERR_FILENO, what);
-    io::write_all(STDERR_FILENO, b": ");
-    io::write_all(STDERR_FILENO, &text[..k]);
-    io::write_all(STDERR_FILENO, b"\n");
+// Says of a step that failed what it failed with.
+pub trait Blame<T> {
+    fn blame<'a>(self, what: &'a [u8]) -> std::result::Result<T, Failure<'a>>;
+}
+
+impl<T: Drop> Blame<T> for Result<T> {
+    fn blame<'a>(self, what: &'a [u8]) -> std::result::Result<T, Failure<'a>> {
+        self.map_err(|error| Failure { what, error })
+    }
 }

@@ -8,8 +8,11 @@ mod files;
 ghost use Rattle.std.specs.Prelude.{cond, ◌≡◌, ltb, length};
 ghost use Rattle.io.specs.Counts.{IsPrefixLen};
 
-pub use cases::{Out, answer_all, answer_cases, answer_lines, answer_text, numbers, read_full, read_part, say_floats};
-pub use files::{argument, fail, is_given, open};
+pub use cases::{
+    Out, answer_all, answer_cases, answer_lines, answer_text, numbers, read_full, read_part,
+    say_floats,
+};
+pub use files::{Blame, Failure, argument, is_given, open};
 
 // n, where buf has so many bytes, else 0. `&buf[..n]` then needs no proof.
 pub fn held(n: usize, buf: &[u8]) -> usize

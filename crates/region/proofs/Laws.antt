@@ -1,7 +1,6 @@
 -- What a caller may rely on, of the definitions of specs/ and of the contracts of src/. Assumes nothing.
 use Rattle.std.proofs.Common.{sym, ◌∙◌}
 use Rattle.exact.specs.Determined.{Determined}
-use Rattle.lens.proofs.Laws.{verdict_one_to_one}
 use Rattle.region.proofs.float.Reads as float-contract
 use Rattle.region.proofs.sized.Reads as sized-contract
 use Rattle.region.proofs.finite_region.Reads as finite-region-contract

@@ -114,8 +114,9 @@ fn call_with(q: &[u64; FIELDS], call: Call, params: &[u8], lent: &mut [u8]) -> O
 
 // Whether every byte outside the part that may be written is as it was.
 fn kept(before: &[u8; LENT], after: &[u8; LENT], at: usize, count: usize) -> bool {
-    let mut bytes = before.iter().zip(after).enumerate();
-    bytes.all(|(i, (a, b))| a == b || at <= i && i - at < count)
+    let start = at.min(LENT);
+    let end = start.saturating_add(count).min(LENT);
+    before[..start] == after[..start] && before[end..] == after[end..]
 }
 
 // Writes each word of a part of the bytes.

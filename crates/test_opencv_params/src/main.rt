@@ -6,16 +6,20 @@
 // crates/parts.
 #![tactic(auto)]
 
-use std::io::Write;
+use std::io;
+use std::io::{Read, Write};
 
 // The longest part: one byte more than a text may have.
 const PART: usize = 4097;
 
+// Reads a text, and writes what it gives.
+fn answer(input: &mut impl Read, out: &mut impl Write) -> io::Result<()> {
+    let mut room = [0; PART];
+    let mut output = [0; opencv::OUTPUT];
+    let written = opencv::convert(parts::read_part(input, &mut room), &mut output);
+    out.write_all(&output[..written])
+}
+
 fn main(rt: HostRuntime) {
-    parts::answer_cases(&rt, &mut [0; PART], |input, out| {
-        let mut room = [0; PART];
-        let mut output = [0; opencv::OUTPUT];
-        let written = opencv::convert(parts::read_part(input, &mut room), &mut output);
-        out.write_all(&output[..written])
-    });
+    parts::answer_cases(&rt, &mut [0; PART], |input, out| answer(input, out));
 }

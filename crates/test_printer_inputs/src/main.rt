@@ -6,16 +6,20 @@
 // crates/parts.
 #![tactic(auto)]
 
-use std::io::Write;
+use std::io;
+use std::io::{Read, Write};
 
 // The longest part: one byte more than a camera file may have.
 const PART: usize = 4097;
 
+// Reads an input, and writes what is printed for it.
+fn answer(input: &mut impl Read, out: &mut impl Write) -> io::Result<()> {
+    let mut room = [0; PART];
+    let mut output = [0; printer::OUTPUT];
+    let printed = printer::print(parts::read_part(input, &mut room), &mut output);
+    out.write_all(&output[..printed])
+}
+
 fn main(rt: HostRuntime) {
-    parts::answer_cases(&rt, &mut [0; PART], |input, out| {
-        let mut room = [0; PART];
-        let mut output = [0; printer::OUTPUT];
-        let printed = printer::print(parts::read_part(input, &mut room), &mut output);
-        out.write_all(&output[..printed])
-    });
+    parts::answer_cases(&rt, &mut [0; PART], |input, out| answer(input, out));
 }

@@ -10,7 +10,11 @@ use borrow.Author.Tests.{eqb-true, eqb-false}
 use lib.Dec.{eqb}
 use lib.IntN.{ℤ}
 use lib.Ieee.{Float}
+use denote.Param.Laws.{Laws, IsCopy}
+use denote.RattleType.{RattleType}
 use lib.ListN.{length}
+use mir.Syntax.{Dict}
+use Rattle.core.specs.declared.clone.Clone as clone
 use Rattle.exact.specs.Determined.{DeterminedWith}
 use Rattle.border.proofs.Finite.{both}
 use Rattle.turns.specs.Turns.{Said}
@@ -19,6 +23,7 @@ use Rattle.plans.specs.Calls.{said_number, judged, allowed, Sound, Build}
 use Rattle.plans.specs.Plan.{Plan, fresh}
 use Rattle.plans.proofs.Laws as plans
 use Rattle.alike_plans.specs.AlikePlans.{BuiltAlike}
+use Rattle.cell.specs.declared.CellNumber as cell-number
 use Rattle.table_plans.specs.Tables.{Kind, f32s, i16s, full_table, table_of, one_of}
 use Rattle.table_plans.proofs.Laws.{built_full}
 use Rattle.table_plans.proofs.Numbers.{by_each, by_unit, last_of}
@@ -40,7 +45,6 @@ use Rattle.turn_bytes.proofs.Build.{Ready, ByTurnBytes, bytes_serve, Reports, ad
 use Rattle.turn_bytes.proofs.Numbers.{before_so, own_taken, taken_so}
 use Rattle.turn_bytes.proofs.Turning.{read_of, none_before, not_taken, taken}
 use Rattle.turn_bytes.proofs.turn.Reads as turn-contract
-use Rattle.turn_bytes.proofs.turn16.Reads as turn16-contract
 
 -- ---- the contract permits one answer
 
@@ -51,16 +55,14 @@ pub all_handed :
     (r ≡ r') × (◌≡◌ {A = List ℕ × List X × List ℕ} (j, c, a) (j', c', a'))
 all_handed {X} e = (ap (λ (h : Handed X). h.code) e, ap (λ (h : Handed X). (h.job, h.cells, h.answer)) e)
 
--- Any two numbers that the contract of `turn` permits to one call are equal, and so are any two records, tables and
--- answers at the return.
-pub turn_determined : DeterminedWith {L = List ℕ × List Float × List ℕ} turn-contract.Post
+-- Any two numbers that the contract of `turn` permits to one call, at any type of number, are equal, and so are any two
+-- records, tables and answers at the return.
+pub turn_determined :
+    (g : RattleType) (l : Laws g) (c : IsCopy g) (number : cell-number.Ghosts g.Denot) (d : Dict)
+    (copied : clone.Ghosts g.Denot) (e : Dict)
+    → DeterminedWith {L = List ℕ × List g.Denot × List ℕ} (turn-contract.Post g l c number d copied e)
     (λ κ s. (s.0.now, s.1.0.now, s.1.1.1.0.now))
-turn_determined κ a s s' r r' p q = all_handed (p ∙ sym q)
-
--- So for `turn16`.
-pub turn16_determined : DeterminedWith {L = List ℕ × List ℤ × List ℕ} turn16-contract.Post
-    (λ κ s. (s.0.now, s.1.0.now, s.1.1.1.0.now))
-turn16_determined κ a s s' r r' p q = all_handed (p ∙ sym q)
+turn_determined g l c number d copied e κ a s s' r r' p q = all_handed (p ∙ sym q)
 
 -- ---- kinds of cell: each law below holds of both
 
@@ -281,32 +283,6 @@ module _ {X : Type 0} (c : Cells X) (b : List ℕ) (rb : RecordBytes b) (cells :
 
 -- ---- demand 3, over bytes
 
--- a call that the contract of `turn` permits, with an answer's buffer of 48 bytes, whichever it is
-pub data Called : HeldBytes Float → ℕ → Said → HeldBytes Float → Type 0 where
-  called :
-      (κ : _) (a : _) (r : _) (s : _) → turn-contract.Post κ a r s → length a.1.1.1.0.now ≡ answer_length
-      → Called record { job = a.0.now; cells = a.1.0.now } a.1.1.0
-      (bytes_said (handed r s.0.now s.1.0.now s.1.1.1.0.now))
-      record { job = s.0.now; cells = s.1.0.now }
-
-by_contract : (h : HeldBytes Float) (a : ℕ) (said : Said) (k : HeldBytes Float) → Called h a said k
-    → ByTurnBytes f32s h a said k
-by_contract h a said k (called κ args r s post room) =
-    record { lent = args.1.1.1.0.now; room = room; leaves = ap left post; says = ap bytes_said post }
-
--- and of `turn16`
-pub data Called16 : HeldBytes ℤ → ℕ → Said → HeldBytes ℤ → Type 0 where
-  called16 :
-      (κ : _) (a : _) (r : _) (s : _) → turn16-contract.Post κ a r s → length a.1.1.1.0.now ≡ answer_length
-      → Called16 record { job = a.0.now; cells = a.1.0.now } a.1.1.0
-      (bytes_said (handed r s.0.now s.1.0.now s.1.1.1.0.now))
-      record { job = s.0.now; cells = s.1.0.now }
-
-by_contract16 : (h : HeldBytes ℤ) (a : ℕ) (said : Said) (k : HeldBytes ℤ) → Called16 h a said k
-    → ByTurnBytes i16s h a said k
-by_contract16 h a said k (called16 κ args r s post room) =
-    record { lent = args.1.1.1.0.now; room = room; leaves = ap left post; says = ap bytes_said post }
-
 -- Calls of a function that leave and say what `turn_bytes` does, of some kind of cell.
 pub record Turns (X : Type 0) : Type 1 where
   pub kind : Kind X
@@ -315,11 +291,27 @@ pub record Turns (X : Type 0) : Type 1 where
   pub by_turn_bytes : (h : HeldBytes X) (a : ℕ) (said : Said) (k : HeldBytes X) → Called h a said k
       → ByTurnBytes kind h a said k
 
-pub f32_turns : Turns Float
-f32_turns = record { kind = f32s; fit = f32_fit; Called = Called; by_turn_bytes = by_contract }
+-- The calls that the contract of `turn` permits, at any type of number and with an answer's buffer of 48 bytes,
+-- whichever it is, are such (`turns`).
+module _
+    (g : RattleType) (l : Laws g) (c : IsCopy g) (number : cell-number.Ghosts g.Denot) (d : Dict)
+    (copied : clone.Ghosts g.Denot) (e : Dict)
+  where
+    pub data Called : HeldBytes g.Denot → ℕ → Said → HeldBytes g.Denot → Type 0 where
+      called :
+          (κ : _) (a : _) (r : _) (s : _) → turn-contract.Post g l c number d copied e κ a r s
+          → length a.1.1.1.0.now ≡ answer_length
+          → Called record { job = a.0.now; cells = a.1.0.now } a.1.1.0
+          (bytes_said (handed r s.0.now s.1.0.now s.1.1.1.0.now))
+          record { job = s.0.now; cells = s.1.0.now }
 
-pub i16_turns : Turns ℤ
-i16_turns = record { kind = i16s; fit = i16_fit; Called = Called16; by_turn_bytes = by_contract16 }
+    by_contract : (h : HeldBytes g.Denot) (a : ℕ) (said : Said) (k : HeldBytes g.Denot) → Called h a said k
+        → ByTurnBytes number.kind h a said k
+    by_contract h a said k (called κ args r s post room) =
+        record { lent = args.1.1.1.0.now; room = room; leaves = ap left post; says = ap bytes_said post }
+
+    pub turns : Fit number.kind → Turns g.Denot
+    turns fit = record { kind = number.kind; fit = fit; Called = Called; by_turn_bytes = by_contract }
 
 module _
     {X : Type 0} (t : Turns X)
@@ -358,7 +350,7 @@ module _
     module _ (allowances : List ℕ) (last : HeldBytes X)
         (calls : Build (HeldBytes X) t.Called allowances first last) where
       -- Demand 3, for firmware. Start from the bytes that job_bytes' `fresh` leaves with the number 0, for any model,
-      -- parameters, size and mark, with any table, and call `turn` (`f32_turns`) or `turn16` (`i16_turns`) with any
+      -- parameters, size and mark, with any table, and call `turn` at any type of number with any
       -- allowances and an answer of 48 bytes, each time with the record's bytes and the table that the call before
       -- handed back. Then what is read out of the bytes and what stands in the table are those of exactly min(A, F)
       -- units, as `built_in_turns` of distortion_table has it.

@@ -104,20 +104,6 @@ is_right job whole places e =
     let b = both_right whole (verdict (admitted job places)) e in
     (verdict_one_to_one (admitted job places) (Ok tt) b.0, b.1)
 
--- the record's own refusal by its parts: n is what all but the check word came to
-module _ (job : Job) (whole : Bool) (places n : ℕ) (e : n ≡ verdict (admitted job places)) where
-  by_check : (z : Bool) → eqb n 0 ≡ z → cond z (cond whole 0 13) n ≡ own (Ok job) whole places
-  by_check z f = ap₂ (λ (t : Bool) (m : ℕ). cond t (cond whole 0 13) m) (sym f ∙ ap (λ (m : ℕ). eqb m 0) e) e
-
-  pub own_refused : (n ≡ 0 → ⊥) → n ≡ own (Ok job) whole places
-  own_refused h = by_check false (ne_eqb n 0 h)
-
-  pub own_damaged : n ≡ 0 → whole ≡ false → 13 ≡ own (Ok job) whole places
-  own_damaged h w = ap (λ (t : Bool). cond t 0 13) (sym w) ∙ by_check true (eq-eqb n 0 h)
-
-  pub own_right : n ≡ 0 → whole ≡ true → 0 ≡ own (Ok job) whole places
-  own_right h w = ap (λ (t : Bool). cond t 0 13) (sym w) ∙ by_check true (eq-eqb n 0 h)
-
 -- one that is not taken writes nothing, and one that is taken writes all that its turn answers
 module _ {X : Type 0} (bs : List ℕ) (cells : List X) (lent : List ℕ) (a : Answer X) (n : ℕ) where
   pub not_taken : (n ≡ 0 → ⊥) → taken_or_not n bs cells lent a ≡ handed n bs cells lent

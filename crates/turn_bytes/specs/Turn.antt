@@ -86,6 +86,11 @@ turn_bytes kind bs cells allowance lent =
     taken_or_not (before_units (record_read bs) (whole bs) cells lent) bs cells lent
     (turn_of kind (job_at bs) cells allowance)
 
+-- the record that bytes hold, to a table of so many places, or its own refusal
+abbrev pub Takes : List ℕ → ℕ → Result Job Refusal → Type 0
+Takes bs places (Err refusal) = own (record_read bs) (whole bs) places ≡ number refusal
+Takes bs places (Ok job) = (own (record_read bs) (whole bs) places ≡ 0) × (record_read bs ≡ Ok job)
+
 -- how it starts, whatever the table holds, with a table of so many places and an answer of so many bytes: refused with
 -- a number, or with the record that the bytes hold
 abbrev pub Starts : List ℕ → ℕ → ℕ → Result Job ℕ → Type 0

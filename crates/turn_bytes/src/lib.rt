@@ -3,18 +3,16 @@
 #![tactic(auto)]
 
 ghost use Rattle.std.specs.Prelude.{◌≡◌, length};
-ghost use Rattle.lens.specs.Judgement.{verdict};
 ghost use Rattle.region.specs.Size.{Sized};
 ghost use Rattle.border.specs.Border.{all_units};
 ghost use Rattle.plans.specs.Calls.{said_number};
-ghost use Rattle.table_plans.specs.Tables.{f32s, i16s};
 ghost use Rattle.distortion_table.specs.Answer.{told_status};
 ghost use Rattle.job_bytes.specs.Places.{record_length};
-ghost use Rattle.job_bytes.specs.Bytes.{record_bytes, record_read};
-ghost use Rattle.job_bytes.specs.Check.{whole};
-ghost use Rattle.turn_bytes.specs.Turn.{handed, own, answer_length, status_number, report, answer_bytes, Starts};
+ghost use Rattle.job_bytes.specs.Bytes.{record_bytes};
+ghost use Rattle.turn_bytes.specs.Turn.{handed, answer_length, status_number, report, answer_bytes, Takes, Starts};
 ghost use Rattle.turn_bytes.specs.Turn.{turn_bytes};
 
+use cell::CellNumber;
 use distortion_table::{Status, Turned};
 use job::Job;
 use lens::Refusal;
@@ -22,16 +20,6 @@ use plans::Progress;
 
 // How many bytes an answer has.
 pub const ANSWER: usize = 48;
-
-// A judgement by its number: 0 for a record that is taken.
-fn verdict(judgement: Result<(), Refusal>) -> u8
-    ensures { result ≡ verdict judgement }
-{
-    match judgement {
-        Ok(()) => 0,
-        Err(refusal) => lens::number(refusal),
-    }
-}
 
 // A status by its number, as it stands in the answer.
 fn status_number(status: Status) -> u64
@@ -94,72 +82,42 @@ fn give(turned: Turned, job: &mut [u8], answer: &mut [u8]) -> u8
     unit_number(said)
 }
 
-// The record's own refusal, or 0. Its mark and its check word are judged last, and only where all else is right.
-fn own(held: Job, job: &[u8], places: usize) -> u8
-    ensures { result ≡ own (Of held) (whole job.now) places }
+// The record that is read out of bytes for a table of so many places, or its own refusal: 1, 4, 5, 6, 7, 13. Its mark
+// and its check word are judged last, and only where all else is right.
+fn taken(job: &[u8], places: usize) -> Result<Job, Refusal>
+    ensures { Takes job.now places result }
 {
-    let number = verdict(job::admitted(held, places));
-    if number != 0 {
-        return number;
-    }
+    let held = job_bytes::read(job)?;
+    job::admitted(held, places)?;
     if job_bytes::whole(job) {
-        return 0;
+        return Ok(held);
     }
-    lens::number(Refusal::ImpossibleRecord)
+    Err(Refusal::ImpossibleRecord)
 }
 
-// What a record that is read says to a table of so many places and an answer of so many bytes: 4, 5, 6, 7, 13 before
-// any unit.
-fn start_held(held: Job, job: &[u8], places: usize, room: usize) -> Result<Job, u8>
-    requires { record_read job.now ≡ Of held }
-    ensures { Starts job.now places room result }
-{
-    let number = own(held, job, places);
-    let code = given::code(number, room == ANSWER);
-    if code != 0 {
-        return Err(code);
-    }
-    Ok(held)
-}
-
-// How a call starts, whatever the table holds.
+// How a call starts, whatever the table holds: 1, 4, 5, 6, 7, 13 before any unit, 7 for an answer of another length too.
 fn begin(job: &[u8], places: usize, room: usize) -> Result<Job, u8>
     ensures { Starts job.now places room result }
 {
-    match job_bytes::read(job) {
-        Err(refusal) => {
-            let code = given::code(lens::number(refusal), room == ANSWER);
-            Err(code)
-        }
-        Ok(held) => start_held(held, job, places, room),
+    let right = room == ANSWER;
+    // A refusal goes out by the number that C is told, and each arm has its own.
+    match taken(job, places) {
+        Err(refusal) => Err(given::code(lens::number(refusal), right)),
+        Ok(held) if right => Ok(held),
+        Ok(_) => Err(lens::number(Refusal::WrongLength)),
     }
 }
 
 // One turn: as many units as the allowance says, or fewer if one refuses or none is left. Record, table and answer are
 // written up to there.
-pub fn turn(job: &mut [u8], table: &mut [f32], allowance: u64, answer: &mut [u8]) -> u8
+pub fn turn<N: CellNumber>(job: &mut [u8], table: &mut [N], allowance: u64, answer: &mut [u8]) -> u8
     ensures { handed result job.new table.new answer.new
-        ≡ turn_bytes f32s job.old table.old allowance answer.old }
+        ≡ turn_bytes N.kind job.old table.old allowance answer.old }
 {
     match begin(job, table.len(), answer.len()) {
         Err(code) => code,
         Ok(held) => give(
             distortion_table::turn(held, table, allowance as usize),
-            job,
-            answer,
-        ),
-    }
-}
-
-// The same of a table of sixteen-bit numbers.
-pub fn turn16(job: &mut [u8], table: &mut [i16], allowance: u64, answer: &mut [u8]) -> u8
-    ensures { handed result job.new table.new answer.new
-        ≡ turn_bytes i16s job.old table.old allowance answer.old }
-{
-    match begin(job, table.len(), answer.len()) {
-        Err(code) => code,
-        Ok(held) => give(
-            distortion_table::turn16(held, table, allowance as usize),
             job,
             answer,
         ),

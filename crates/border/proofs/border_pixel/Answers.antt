@@ -9,12 +9,6 @@ returns-then-n-width c =
     let a = c.args in
     rw (c.across.ensures, c.along.ensures) (sym (first_sides a.width a.height a.n (omega arith)))
 
-pub overflow_mul-m : goal.overflow_mul-m
-overflow_mul-m c = omega arith
-
-pub overflow_sub-m : goal.overflow_sub-m
-overflow_sub-m c = omega arith
-
 pub returns-then-m-height : goal.returns-then-m-height
 returns-then-m-height c =
     let a = c.args in

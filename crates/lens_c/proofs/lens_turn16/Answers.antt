@@ -2,4 +2,4 @@
 use Rattle.lens_c.proofs.lens_turn16.Goals as goal
 
 pub returns : goal.returns
-returns c = c.turn16.ensures
+returns c = c.turn.ensures

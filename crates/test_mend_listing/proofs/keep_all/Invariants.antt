@@ -1,8 +1,0 @@
--- `test_mend_listing::keep_all` is safe and ends. Assumes nothing.
-use Rattle.test_mend_listing.proofs.keep_all.Given as goal
-
-abbrev pub invariant-loop-turns : goal.invariant-loop-turns
-invariant-loop-turns l = Unit {0}
-
-abbrev pub decreases-loop-turns : goal.decreases-loop-turns
-decreases-loop-turns l = l.turns
