@@ -30,32 +30,32 @@ module _
     {D : Type 0} (operation : Result Camera Refusal → Result D Refusal) (after : Camera → Result D Refusal) (x y : Float)
     (ok : (camera : Camera) → operation (Ok camera) ≡ decided (judged camera x y) Err (after camera))
     (err : (r : Refusal) → operation (Err r) ≡ Err r)
-    where
-  tried_before : (a : Result Camera Refusal) → operation (finite_only a) ≡ operation a
-  tried_before (Err r) = refl
-  tried_before (Ok c) = by_finite (all_finite (parameters c)) refl
-    where
-      by_finite : (b : Bool) → all_finite (parameters c) ≡ b → operation (cond b (Ok c) (Err NotFinite)) ≡ operation (Ok c)
-      by_finite true f = refl
-      by_finite false f = err NotFinite ∙ sym (ok c ∙ ap (λ (j : Judgement). decided j Err (after c)) (judged_not c x y f))
+  where
+    tried_before : (a : Result Camera Refusal) → operation (finite_only a) ≡ operation a
+    tried_before (Err r) = refl
+    tried_before (Ok c) = by_finite (all_finite (parameters c)) refl
+      where
+        by_finite : (b : Bool) → all_finite (parameters c) ≡ b → operation (cond b (Ok c) (Err NotFinite)) ≡ operation (Ok c)
+        by_finite true f = refl
+        by_finite false f = err NotFinite ∙ sym (ok c ∙ ap (λ (j : Judgement). decided j Err (after c)) (judged_not c x y f))
 
-  module _ (model : ℕ) (p : List ℕ) {q : Result Camera Refusal} (is : q ≡ read_finite model p) where
-    from : {case : Result Camera Refusal} → q ≡ case → operation case ≡ operation (read model p)
-    from e = sym (ap operation e) ∙ ap operation is ∙ tried_before (read model p)
+    module _ (model : ℕ) (p : List ℕ) {q : Result Camera Refusal} (is : q ≡ read_finite model p) where
+      from : {case : Result Camera Refusal} → q ≡ case → operation case ≡ operation (read model p)
+      from e = sym (ap operation e) ∙ ap operation is ∙ tried_before (read model p)
 
-    -- there is no camera, or it isn't finite
-    pub unread : (r : Refusal) → q ≡ Err r → Err r ≡ operation (read model p)
-    unread r e = sym (err r) ∙ from e
+      -- there is no camera, or it isn't finite
+      pub unread : (r : Refusal) → q ≡ Err r → Err r ≡ operation (read model p)
+      unread r e = sym (err r) ∙ from e
 
-    module _ {camera : Camera} (e : q ≡ Ok camera) {j : Judgement} (f : j ≡ placed camera x y) where
-      as_placed : operation (Ok camera) ≡ decided j Err (after camera)
-      as_placed =
-          ok camera
-          ∙ ap (λ (v : Judgement). decided v Err (after camera)) (judged_finite camera x y (passed (read model p) (sym is ∙ e)) ∙ sym f)
+      module _ {camera : Camera} (e : q ≡ Ok camera) {j : Judgement} (f : j ≡ placed camera x y) where
+        as_placed : operation (Ok camera) ≡ decided j Err (after camera)
+        as_placed =
+            ok camera
+            ∙ ap (λ (v : Judgement). decided v Err (after camera)) (judged_finite camera x y (passed (read model p) (sym is ∙ e)) ∙ sym f)
 
-      -- (x, y) isn't finite, or a focal length is zero
-      pub unplaced : (r : Refusal) → j ≡ Err r → Err r ≡ operation (read model p)
-      unplaced r g = sym (as_placed ∙ ap (λ (v : Judgement). decided v Err (after camera)) g) ∙ from e
+        -- (x, y) isn't finite, or a focal length is zero
+        pub unplaced : (r : Refusal) → j ≡ Err r → Err r ≡ operation (read model p)
+        unplaced r g = sym (as_placed ∙ ap (λ (v : Judgement). decided v Err (after camera)) g) ∙ from e
 
-      pub answered : {u : Unit {0}} {d : Result D Refusal} → j ≡ Ok u → d ≡ after camera → d ≡ operation (read model p)
-      answered g h = h ∙ sym (as_placed ∙ ap (λ (v : Judgement). decided v Err (after camera)) g) ∙ from e
+        pub answered : {u : Unit {0}} {d : Result D Refusal} → j ≡ Ok u → d ≡ after camera → d ≡ operation (read model p)
+        answered g h = h ∙ sym (as_placed ∙ ap (λ (v : Judgement). decided v Err (after camera)) g) ∙ from e

@@ -64,15 +64,6 @@ module _ (camera : Camera) (x y : Float) where
 abbrev by_tests : Bool → Bool → Pixel → Distorted
 by_tests g z pixel = cond g (cond z (Err ZeroFocalLength) (finite_pixel pixel)) (Err NotFinite)
 
-pub zero_told : {g z : Bool} (pixel : Pixel) → g ≡ true → z ≡ true → Err ZeroFocalLength ≡ by_tests g z pixel
-zero_told pixel p q = rw (p, q) refl
-
-pub finite_told : {g z : Bool} (pixel : Pixel) {t : Distorted} → t ≡ finite_pixel pixel → g ≡ true → z ≡ false → t ≡ by_tests g z pixel
-finite_told pixel e p q = rw (p, q) e
-
-pub refused_told : {g : Bool} (z : Bool) (pixel : Pixel) → g ≡ false → Err NotFinite ≡ by_tests g z pixel
-refused_told z pixel p = rw p refl
-
 -- a model's pixel, told by the tests
 module _ (camera : Camera) (point : Point) where
   tests : (g z : Bool) → by_tests g z (pixel_of camera point) ≡ decided (cond g (cond z (Err ZeroFocalLength) accepted) (Err NotFinite)) Err (finite_pixel (pixel_of camera point))

@@ -28,7 +28,6 @@ use Rattle.lens.specs.declared.Refusal.{Refusal}
 use Rattle.lens.specs.declared.Refusal.TheVariants.{AnswerNotFinite}
 use Rattle.lens.specs.declared.Settled.{Settled}
 use Rattle.lens.specs.Undistorted.{Undistorted}
-use Rattle.lens.proofs.Laws.{told_pixel_one_to_one, told_one_to_one}
 use Rattle.affine.specs.declared.AffineParams.{AffineParams}
 use Rattle.enhanced_unified.specs.EnhancedUnified as eucm
 use Rattle.enhanced_unified.specs.declared.EnhancedUnifiedParams.{EnhancedUnifiedParams}
@@ -51,7 +50,6 @@ use Rattle.lens.specs.Distorted.{told_pixel, finite_pixel}
 use Rattle.camera.specs.declared.Camera.{Camera}
 use Rattle.camera.specs.declared.Camera.TheVariants.{Affine, EnhancedUnified, KannalaBrandt, BrownConrady}
 use Rattle.camera.specs.declared.Camera.TheVariants.{ThinPrism}
-use Rattle.camera.proofs.ByHand.{answer}
 use Rattle.camera.proofs.Models.{each_model}
 use Rattle.camera.proofs.Past.{steep_past, first_is_10, first_is_16}
 use Rattle.camera.proofs.PrismZero.{same_judged, distort_alike, undistort_alike, jacobian_alike, focal_finite}

@@ -1,5 +1,4 @@
 -- The models by number. Assumes nothing.
-use mathlib.Core.Path.{◌≡◌, refl}
 use mathlib.Core.List.{List, [], ◌∷◌}
 use Prim.Native.Nat.{ℕ, zero, suc}
 use lib.ListN.{get_or}
@@ -18,12 +17,3 @@ module _ (P : Model → Type 0) where
   -- what each model of the table has, the last said once more for the numbers past it, every number's has
   pub each_model : Each models → P thin_prism → (number : ℕ) → P (model_of number)
   each_model = in_table models
-
--- a number that is none of those before the last
-pub last_model : (number : ℕ) → (number ≡ 0 → ⊥) → (number ≡ 1 → ⊥) → (number ≡ 2 → ⊥) → (number ≡ 3 → ⊥) → model_of number ≡ thin_prism
-last_model zero a b c d = absurd (a refl)
-last_model (suc zero) a b c d = absurd (b refl)
-last_model (suc (suc zero)) a b c d = absurd (c refl)
-last_model (suc (suc (suc zero))) a b c d = absurd (d refl)
-last_model (suc (suc (suc (suc zero)))) a b c d = refl
-last_model (suc (suc (suc (suc (suc number))))) a b c d = refl

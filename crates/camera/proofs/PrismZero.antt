@@ -24,7 +24,6 @@ use Rattle.thin_prism.specs.ThinPrism.{NoPrism}
 use Rattle.thin_prism.specs.declared.ThinPrismParams.{ThinPrismParams}
 use Rattle.camera.specs.Camera.{told_jacobian}
 use Rattle.camera.specs.Camera.{parameters, zero_focal, judged, finite_point, finite_jacobian}
-use Rattle.camera.specs.declared.Camera.{Camera}
 use Rattle.camera.specs.declared.Camera.TheVariants.{BrownConrady, ThinPrism}
 use Rattle.camera.proofs.Known.{prism, prism_behind}
 use Rattle.camera.proofs.Told.{none, pixel_number, point_number, slope_number}

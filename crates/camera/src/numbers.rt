@@ -16,7 +16,8 @@ pub const LAST: u8 = 4;
 
 pub const MOST: usize = 16;
 
-// How many parameters a model has.
+// How many parameters a model has. A model is a number here and below, since C and a camera file hand over one; every
+// number has an answer.
 pub fn count(model: u8) -> u8
     ensures { result ≡ count model }
 {

@@ -26,7 +26,7 @@ struct Place {
     pub v: usize,
 }
 
-// How many cells a run filled, and what refused the next one if anything did.
+// How many cells a run filled, and what refused the next one if anything did: of the shape of a sweep's `Stop`.
 #[derive(Clone, Copy)]
 struct Filled {
     pub done: usize,

@@ -15,7 +15,6 @@ use Rattle.lens.specs.declared.Point.{Point}
 use Rattle.lens.specs.declared.Refusal.TheVariants.{AnswerNotFinite}
 use Rattle.lens.specs.declared.Settled.{Settled}
 use Rattle.lens.specs.Undistorted.{Undistorted}
-use Rattle.lens.proofs.Laws.{told_one_to_one}
 use Rattle.brown_conrady.specs.declared.BrownConradyParams.{BrownConradyParams}
 use Rattle.short_brown_conrady.specs.ShortBrownConrady as short
 use Rattle.short_brown_conrady.proofs.Fits.{undistort_fits}

@@ -209,7 +209,12 @@ fn known_mark(mark: u8, started: Result<Job, Refusal>) -> Result<Job, Refusal>
 }
 
 // A fresh record of the camera that is asked for, or why there is none.
-fn started(asked: Result<Camera, Refusal>, width: usize, height: usize, mark: u8) -> Result<Job, Refusal>
+fn started(
+    asked: Result<Camera, Refusal>,
+    width: usize,
+    height: usize,
+    mark: u8,
+) -> Result<Job, Refusal>
     ensures { result ≡ started asked width height mark }
 {
     let camera = asked?;

@@ -20,7 +20,6 @@ use Rattle.lens.specs.declared.Pixel.{Pixel}
 use Rattle.lens.specs.declared.Point.{Point}
 use Rattle.lens.specs.declared.Refusal.TheVariants.{NotFinite, WrongSize, WrongLength, IncrementNotPositive}
 use Rattle.lens.specs.declared.Refusal.TheVariants.{OutsideTable, AnswerNotFinite}
-use Rattle.lens.proofs.Laws.{told_pixel_one_to_one}
 use Rattle.region.specs.Region.{four, increments, flat, wrong}
 use Rattle.region.specs.Size.{float, sized}
 use Rattle.region.specs.declared.Region.{Region}

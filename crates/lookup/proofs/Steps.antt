@@ -1,5 +1,5 @@
 -- What the refusals before the answer leave, and that the four cells around two spots are in the table. Assumes nothing.
-use Rattle.std.proofs.Common.{◌≡◌, ℕ, ◌+◌, ◌-◌, ◌*◌, ◌<◌, Bool, true, false, cond, not, ◌&&◌, ◌||◌, eqb, List, [], ◌∷◌, refl, mul-le-mul_right, arith, eqb-true}
+use Rattle.std.proofs.Common.{◌≡◌, ℕ, ◌+◌, ◌-◌, ◌*◌, Bool, true, false, cond, not, ◌&&◌, ◌||◌, eqb, List, [], ◌∷◌, refl, arith, eqb-true}
 use Rattle.std.specs.declared.result.Result.TheVariants.{Err}
 use mathlib.Core.Bool.{false≢true}
 use native.Mathlib.Nat.{min-le_right}
@@ -62,9 +62,6 @@ module _ (x : Float) (rest : List Float) (h : all_finite (x ∷ rest) ≡ true) 
   rest_finite = (both (finite x) (all_finite rest) h).1
 
 -- ---- the cells
-
-pub in_table : {places width rows u v k : ℕ} → places ≡ 2 * (width * rows) → u < width → v < rows → k < 2 → 2 * (v * width + u) + k < places
-in_table {places} {width} {rows} {u} {v} {k} e hu hv hk = omega (arith, mul-le-mul_right width hv)
 
 module _ {places width height : ℕ} (w : Whole places width height) where
   pub inside_wide : (i : Float) → Number i → outside i width ≡ false → Inside i width

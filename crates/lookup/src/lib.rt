@@ -114,7 +114,13 @@ fn looked_up(table: &[f32], width: usize, height: usize, i: f64, j: f64) -> Resu
 }
 
 // 8 or 11 for the increments, which are worked out once; then by the indices.
-fn spread(table: &[f32], region: Region, width: usize, height: usize, point: Point) -> Result<Pixel, Refusal>
+fn spread(
+    table: &[f32],
+    region: Region,
+    width: usize,
+    height: usize,
+    point: Point,
+) -> Result<Pixel, Refusal>
     requires { Taken (length table.now) region width height point }
     ensures { result ≡ spread table.now region width height point }
 {
@@ -138,7 +144,13 @@ fn measured(places: usize, width: usize, height: usize) -> bool
 }
 
 // 4, then 6, then 7.
-fn admitted(places: usize, region: Region, width: usize, height: usize, point: Point) -> Result<(), Refusal>
+fn admitted(
+    places: usize,
+    region: Region,
+    width: usize,
+    height: usize,
+    point: Point,
+) -> Result<(), Refusal>
     ensures { result ≡ admitted places region width height point }
 {
     if !region::finite_region(region) || !lens::both_finite(point.0, point.1) {
@@ -155,7 +167,13 @@ fn admitted(places: usize, region: Region, width: usize, height: usize, point: P
 }
 
 // The pixel at a point, between the four cells around it.
-pub fn lookup(table: &[f32], region: Region, width: usize, height: usize, point: Point) -> Result<Pixel, Refusal>
+pub fn lookup(
+    table: &[f32],
+    region: Region,
+    width: usize,
+    height: usize,
+    point: Point,
+) -> Result<Pixel, Refusal>
     ensures { result ≡ lookup table.now region width height point }
 {
     admitted(table.len(), region, width, height, point)?;

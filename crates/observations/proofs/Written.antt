@@ -3,9 +3,9 @@ use mathlib.Core.Path.{◌≡◌, refl, sym, ◌∙◌, subst}
 use Rattle.std.specs.declared.result.Result.TheVariants.{Err}
 use mathlib.Core.Bool.{Bool, true, false, not, cond, ◌&&◌}
 use mathlib.Core.List.{List, [], ◌∷◌, map}
-use Prim.Native.Nat.{ℕ, ◌≤◌, ◌<◌}
+use Prim.Native.Nat.{ℕ, ◌≤◌}
 use native.Mathlib.Omega.{arith}
-use lib.Dec.{T, eqb, eqb→eq, lit<}
+use lib.Dec.{T, eqb, eqb→eq}
 use lib.Ieee.Scale.{finite}
 use lib.ListN.{length, length-map}
 use Rattle.lens.specs.Finite.{all_finite}
@@ -40,15 +40,6 @@ refusal_by_rows camera = go (all_finite (parameters camera)) (zero_focal camera)
     go true true = refl
     go true false = refl
     go false z = refl
-
--- it is a u8
-pub refusal_fits : (camera : Camera) → refusal_of camera < 256
-refusal_fits camera = subst (λ (m : ℕ). m < 256) (sym (refusal_by_rows camera)) (go (all_finite (parameters camera)) (zero_focal camera))
-  where
-    go : (f z : Bool) → first (rows f z) < 256
-    go true true = lit< tt
-    go true false = lit< tt
-    go false z = lit< tt
 
 -- a camera that is not refused need not be judged again
 pub seen_observed : (camera : Camera) (o : Observation) → refusal_of camera ≡ 0 → seen camera o ≡ observed camera o

@@ -1,4 +1,5 @@
-// Text put into a buffer that the caller lends: whole where it fits, else not at all.
+// Text put into a buffer that the caller lends: whole where it fits, else not at all. A place stands beside the buffer,
+// since no library here may use the heap that a String needs.
 #![tactic(auto)]
 
 ghost use Rattle.std.specs.Prelude.{◌≡◌};

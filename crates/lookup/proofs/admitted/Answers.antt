@@ -1,6 +1,5 @@
 -- `lookup::admitted` meets its contract. Assumes nothing.
 use Rattle.std.proofs.Common.{◌≡◌, Bool, not, sym, refl, ap, ◌∙◌}
-use Rattle.region.proofs.Size.{is_sized}
 use Rattle.lookup.proofs.Steps.{admitted_so}
 use Rattle.lookup.proofs.admitted.Goals as goal
 use Rattle.lookup.proofs.admitted.Goals.{
@@ -22,9 +21,6 @@ returns-then-not-finite_region c =
 
 pub returns-then-not-sized : goal.returns-then-not-sized
 returns-then-not-sized c = admitted_so _ _ _ _ _ (opposites c.if-not-finite_region.false c.finite_region.ensures) (opposites c.if-not-both_finite.false c.both_finite.ensures) (opposites c.if-not-sized.true c.sized.ensures) refl
-
-pub measured-requires : goal.measured-requires
-measured-requires c = is_sized _ _ (sym c.sized.ensures ∙ c.if-not-sized.false)
 
 pub returns-then-measured : goal.returns-then-measured
 returns-then-measured c =

@@ -14,16 +14,6 @@ returns-then-outside c =
           looked_up_so _ _ _ _ _ (sym w.if-outside.false ∙ c.outside.ensures) (sym w.if-outside-2.true ∙ w.outside-else-outside.ensures) refl
     ]
 
-pub spot_of-requires : goal.spot_of-requires
-spot_of-requires c =
-    let p = c.requires in
-    inside_wide p.0 _ p.1 (sym c.outside.ensures ∙ c.if-outside.false)
-
-pub spot_of-requires-2 : goal.spot_of-requires-2
-spot_of-requires-2 c =
-    let p = c.requires in
-    inside_high p.0 _ p.2 (sym c.outside-else-outside.ensures ∙ c.if-outside-2.false)
-
 pub pixel_at-requires : goal.pixel_at-requires
 pixel_at-requires c =
     let p = c.requires in

@@ -25,12 +25,6 @@ updated_so params distorted at h = go (is_nan (norm_at params distorted at)) ref
         let p = is_pass params distorted at e in
         ap (λ (s : Search). s.updates) p ∙ updated (by_step params distorted) at.search (ap (λ (s : Search). s.ended) (sym p) ∙ h)
 
-pub loop-done-init : goal.loop-done-init
-loop-done-init c = (refl, refl)
-
-pub pass-at-requires : goal.pass-at-requires
-pass-at-requires c = omega (arith, c.loop-done.invariant.0, c.loop-done-test.true)
-
 pub returns-then-at : goal.returns-then-at
 returns-then-at c =
     let a = c.args in

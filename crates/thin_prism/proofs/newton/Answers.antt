@@ -24,9 +24,6 @@ module _ (params : ThinPrismParams) (distorted xy : Point) (n : ℕ) {step : Off
   unfolding pass_by
   further e = rw (← is, e) refl
 
-pub loop-updates-init : goal.loop-updates-init
-loop-updates-init c = refl
-
 pub returns-then-small : goal.returns-then-small
 returns-then-small c =
     let l = c.loop-updates in

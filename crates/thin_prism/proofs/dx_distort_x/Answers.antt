@@ -1,6 +1,0 @@
--- `thin_prism::dx_distort_x` meets its contract: each call gives its definition's number. Assumes nothing.
-use mathlib.Core.Path.{refl}
-use Rattle.thin_prism.proofs.dx_distort_x.Goals as goal
-
-pub returns : goal.returns
-returns c = rw (c.two_columns.ensures, c.prism_slopes_at-t.ensures, c.slopes_at-s.ensures) refl
