@@ -10,8 +10,11 @@ use std::fs::File;
 use std::io;
 use std::io::{BufRead, BufReader, BufWriter, Error, ErrorKind, Read, Seek, Write};
 
-// What is read ahead of a file, and what is gathered before it is written.
+// What is read ahead of a file.
 const AHEAD: usize = 4096;
+
+// What is gathered is written when it has more bytes than this.
+const GATHERED: usize = 3904;
 
 // The longest name of a file.
 const NAME: usize = 4096;
@@ -73,7 +76,7 @@ fn compare_files<'a>(
     first_name: &'a [u8],
     second_name: &'a [u8],
 ) -> Result<Option<u64>, Failure<'a>> {
-    let mut out = BufWriter::with_capacity(rt.alloc(), AHEAD, io::writer(rt)).blame(OUTPUT)?;
+    let mut out = BufWriter::new(rt.alloc(), io::writer(rt)).blame(OUTPUT)?;
     let mut written = Ok(());
     let mut s = compare::start();
     let mut t = compare::start();
@@ -90,6 +93,9 @@ fn compare_files<'a>(
         t = compare::step(t, new);
         if s == Judging::Bad || t == Judging::Bad {
             break;
+        }
+        if out.buffer().len() > GATHERED {
+            written = written.and(out.flush());
         }
         let mut told = [0; 2 * LINE];
         let difference = compare::compare(old, new);

@@ -37,6 +37,9 @@ const NUMBERS: usize = 64;
 
 const FILL: u8 = 0xa5;
 
+// A byte's bits, the lowest first.
+const BITS: [u8; 8] = [1, 2, 4, 8, 16, 32, 64, 128];
+
 // What lasts from line to line.
 #[derive(Clone, Copy)]
 struct Buffers {
@@ -240,10 +243,10 @@ fn turn_flipped<N: Number>(
 ) -> io::Result<()> {
     let count = q[4].min(512) as usize;
     for at in 0..count {
-        for bit in 0..8 {
+        for bit in BITS {
             let mut damaged = *lent;
             let mut cells = *table;
-            damaged[at] ^= 1 << bit;
+            damaged[at] ^= bit;
             turn(q, &mut damaged, &mut cells, out)?;
             writeln!(out)?;
         }

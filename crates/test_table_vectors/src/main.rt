@@ -15,16 +15,12 @@
 // The last line says how many were answered.
 #![tactic(auto)]
 
-ghost use Rattle.std.specs.Prelude.{◌≡◌, ◌≤◌, length};
-
-use distortion_table::{Status, Turned};
-use job::{Job, Started};
-use lens::Refusal;
+use cell::CellNumber;
+use distortion_table::Status;
+use job::Job;
 use region::Region;
-
-const STDIN_FILENO: i32 = 0;
-
-const STDOUT_FILENO: i32 = 1;
+use std::io::Write;
+use std::{array, io};
 
 // The fields of a line, and its bytes: a field has 16 digits, and a tab or the line's end after them.
 // All lines are of one length, so that one is read at a time, and there may be any number of them.
@@ -32,346 +28,107 @@ const FIELDS: usize = 22;
 
 const LINE: usize = 374;
 
-// The parameters in a line, and the field that the first stands in.
-const PARAMS: usize = camera::numbers::MOST;
-
+// The field that the first parameter stands in.
 const FIRST: usize = 6;
 
-// The cells that a table may have here, and their places: two for each.
-const ROOM: usize = 3072;
-
+// The places of the 3,072 cells that a table may have here: two for each.
 const PLACES: usize = 6144;
 
 // A turn that is running with an allowance has done a unit, so there are no more turns than units. Of all
 // tables with so many cells the one of 2 by 1536 has the most: 3,080 samples and 3,072 cells.
 const TURNS: usize = 6152;
 
-// What each place holds before the first turn: half a pixel.
-const BEFORE: f32 = 0.5;
-
-const BEFORE16: i16 = 16;
-
-// The record after a turn, and whether another turn follows.
-#[derive(Clone, Copy)]
-struct Stepped {
-    more: bool,
-    job: Job,
+// A number of a table, which is written by the bits of the f32 that is the same number.
+trait Number: CellNumber {
+    fn bits(self) -> u32;
 }
 
-// The parameters of a question, also those that its model does not take.
-fn params_asked(q: &[u64; FIELDS]) -> [f64; PARAMS] {
-    let mut params: [f64; PARAMS] = [0.0; PARAMS];
-    let mut i = 0;
-    while i < PARAMS {
-        params[i] = exact::of_bits(q[FIRST + i]);
-        i += 1;
-    }
-    params
-}
-
-// The model that a field names. What is no byte is named by one that is no model.
-fn model_of(field: u64) -> u8 {
-    if field < 256 { field as u8 } else { 255 }
-}
-
-// Writes a line's first word.
-fn say_word(word: &[u8]) {
-    io::write_all(STDOUT_FILENO, word);
-}
-
-// Ends a line.
-fn say_end() {
-    io::write_all(STDOUT_FILENO, b"\n");
-}
-
-// Writes a tab and the bit pattern of x.
-fn say(x: f64) {
-    io::write_all(STDOUT_FILENO, b"\t");
-    io::print_hex(STDOUT_FILENO, exact::to_bits(x), 16);
-}
-
-// The same of an f32.
-fn say32(x: f32) {
-    io::write_all(STDOUT_FILENO, b"\t");
-    io::print_hex(STDOUT_FILENO, exact::to_bits32(x) as u64, 8);
-}
-
-// The same of a number of sixteen bits, as the f32 that is the same number.
-fn say16(x: i16) {
-    say32(x as f32);
-}
-
-// Writes a tab and n in decimal.
-fn say_count(n: u64) {
-    io::write_all(STDOUT_FILENO, b"\t");
-    io::print_decimal(STDOUT_FILENO, n);
-}
-
-// Writes the word and the number of a refusal.
-fn say_refusal(refusal: Refusal) {
-    say_word(b"refused");
-    say_count(lens::number(refusal) as u64);
-}
-
-// Writes how a turn ended.
-fn say_status(status: Status) {
-    match status {
-        Status::Finished => {
-            say_word(b"finished");
-        }
-        Status::Refused(refusal) => {
-            say_refusal(refusal);
-        }
-        Status::Running => {
-            say_word(b"running");
-        }
+impl Number for f32 {
+    fn bits(self) -> u32 {
+        exact::to_bits32(self)
     }
 }
 
-// Whether a turn may follow one that ended so.
-fn running(status: Status) -> bool {
-    match status {
-        Status::Running => true,
-        _ => false,
+impl Number for i16 {
+    fn bits(self) -> u32 {
+        exact::to_bits32(f32::from(self))
     }
 }
 
-// Ends a turn's line with its record's counts.
-fn say_counts(done: usize, updates: u32, unsettled: usize, first: usize) {
-    say_count(done as u64);
-    say_count(updates as u64);
-    say_count(unsettled as u64);
-    say_count(first as u64);
-    say_end();
-}
-
-// Writes the line of a turn.
-fn say_turn(turned: Turned, allowance: usize) -> Stepped {
-    let status = turned.status;
-    let after = turned.job;
-    let at = after.at;
-    say_status(status);
-    say_counts(at.done, at.updates, at.unsettled, at.first);
-    Stepped {
-        more: allowance != 0 && running(status),
-        job: after,
-    }
-}
-
-// Takes a turn and writes its line.
-fn step(table: &mut [f32], job: Job, allowance: usize) -> Stepped {
-    say_turn(distortion_table::turn(job, table, allowance), allowance)
-}
-
-fn step16(table: &mut [i16], job: Job, allowance: usize) -> Stepped {
-    say_turn(distortion_table::turn16(job, table, allowance), allowance)
-}
-
-// Takes turn after turn, and gives the last record.
-fn steps(table: &mut [f32], fresh: Job, allowance: usize) -> Job {
+// Takes turn after turn, writes a line for each, and gives the last record.
+fn take_turns<N: Number>(
+    table: &mut [N],
+    fresh: Job,
+    allowance: usize,
+    out: &mut impl Write,
+) -> io::Result<Job> {
     let mut job = fresh;
-    let mut more = true;
-    let mut left = TURNS;
-    while more && 0 < left {
-        let taken = step(table, job, allowance);
-        job = taken.job;
-        more = taken.more;
-        left -= 1;
+    for _ in 0..TURNS {
+        let turned = distortion_table::turn(job, table, allowance);
+        job = turned.job;
+        match turned.status {
+            Status::Finished => write!(out, "finished")?,
+            Status::Refused(refusal) => write!(out, "refused\t{}", lens::number(refusal))?,
+            Status::Running => write!(out, "running")?,
+        }
+        let at = job.at;
+        writeln!(out, "\t{}\t{}\t{}\t{}", at.done, at.updates, at.unsettled, at.first)?;
+        if allowance == 0 || !matches!(turned.status, Status::Running) {
+            break;
+        }
     }
-    job
-}
-
-// The same of cells of sixteen bits.
-fn steps16(table: &mut [i16], fresh: Job, allowance: usize) -> Job {
-    let mut job = fresh;
-    let mut more = true;
-    let mut left = TURNS;
-    while more && 0 < left {
-        let taken = step16(table, job, allowance);
-        job = taken.job;
-        more = taken.more;
-        left -= 1;
-    }
-    job
+    Ok(job)
 }
 
 // Writes a box: lower x, lower y, upper x, upper y.
-fn say_box(word: &[u8], region: Region) {
-    say_word(word);
-    say(region.left);
-    say(region.top);
-    say(region.right);
-    say(region.bottom);
-    say_end();
+fn say_box(word: &str, region: Region, out: &mut impl Write) -> io::Result<()> {
+    write!(out, "{word}")?;
+    parts::say_floats(out, &[region.left, region.top, region.right, region.bottom])?;
+    writeln!(out)
 }
 
-// Writes every place of a table.
-fn say_places(table: &[f32]) {
-    let mut i = 0;
-    while i < table.len() {
-        say32(table[i]);
-        i += 1;
+// Builds the table of a fresh record, if there is room for it, and writes what comes of it. Before the first turn each
+// place holds the same.
+fn build<N: Number>(q: &[u64; FIELDS], fresh: Job, before: N, out: &mut impl Write) -> io::Result<()> {
+    let mut room = [before; PLACES];
+    let cells = (q[1] as usize).saturating_mul(q[2] as usize);
+    let Some(table) = room.get_mut(..cells.saturating_mul(2)) else {
+        return writeln!(out, "bad");
+    };
+    writeln!(out, "fresh")?;
+    let last = take_turns(table, fresh, q[3] as usize, out)?.at;
+    say_box("edges", last.edges, out)?;
+    say_box("region", last.region, out)?;
+    write!(out, "table")?;
+    for x in table.iter() {
+        write!(out, "\t{:08x}", x.bits())?;
     }
-}
-
-fn say_places16(table: &[i16]) {
-    let mut i = 0;
-    while i < table.len() {
-        say16(table[i]);
-        i += 1;
-    }
-}
-
-// Writes that a record is made.
-fn say_fresh() {
-    say_word(b"fresh");
-    say_end();
-}
-
-// Writes the boxes of the last record, and begins the line of its table.
-fn say_last(last: Job) {
-    let at = last.at;
-    say_box(b"edges", at.edges);
-    say_box(b"region", at.region);
-    say_word(b"table");
-}
-
-// Builds the table of a fresh record, and writes what comes of it.
-fn build(table: &mut [f32], fresh: Job, allowance: usize) {
-    say_fresh();
-    say_last(steps(table, fresh, allowance));
-    say_places(table);
-    say_end();
-}
-
-fn build16(table: &mut [i16], fresh: Job, allowance: usize) {
-    say_fresh();
-    say_last(steps16(table, fresh, allowance));
-    say_places16(table);
-    say_end();
-}
-
-// A buffer that no turn has touched. Lending a part of it needs the length.
-fn blank() -> [f32; PLACES]
-    ensures { 6144 ≡ length result }
-{
-    [BEFORE; PLACES]
-}
-
-fn blank16() -> [i16; PLACES]
-    ensures { 6144 ≡ length result }
-{
-    [BEFORE16; PLACES]
-}
-
-// Builds it in the first places of a buffer.
-fn build_in(fresh: Job, places: usize, allowance: usize)
-    requires { places ≤ 6144 }
-{
-    let mut buffer = blank();
-    build(&mut buffer[..places], fresh, allowance);
-}
-
-fn build_in16(fresh: Job, places: usize, allowance: usize)
-    requires { places ≤ 6144 }
-{
-    let mut buffer = blank16();
-    build16(&mut buffer[..places], fresh, allowance);
-}
-
-// Answers a line that is not of the form.
-fn refuse() {
-    say_word(b"bad");
-    say_end();
-}
-
-// Answers a question whose record is made, if there is room for its table. No record is made of a size
-// that the first test refuses, so that only the second ever does.
-fn answer_fresh(fresh: Job, width: usize, height: usize, allowance: usize, sixteen: bool) {
-    if region::MOST < width || region::MOST < height {
-        refuse();
-        return;
-    }
-    let cells = width * height;
-    if ROOM < cells {
-        refuse();
-    } else if sixteen {
-        build_in16(fresh, 2 * cells, allowance);
-    } else {
-        build_in(fresh, 2 * cells, allowance);
-    }
-}
-
-// Answers a question of the form.
-fn answer_question(q: &[u64; FIELDS]) {
-    let width = q[1] as usize;
-    let height = q[2] as usize;
-    let allowance = q[3] as usize;
-    let params = params_asked(q);
-    match job::fresh(
-        camera::numbers::camera_of(model_of(q[0]), &params),
-        width,
-        height,
-        q[4] == 1,
-    ) {
-        Started::Refused(refusal) => {
-            say_refusal(refusal);
-            say_end();
-        }
-        Started::With(job) => {
-            answer_fresh(job, width, height, allowance, q[5] == 1);
-        }
-    }
+    writeln!(out)
 }
 
 // Answers a line of numbers, if there is such a model, such a mark and such a kind of cell.
-fn answer_numbers(q: &[u64; FIELDS]) {
-    if q[0] <= camera::numbers::LAST as u64 && q[4] < 2 && q[5] < 2 {
-        answer_question(q);
-    } else {
-        refuse();
+fn answer_question(q: &[u64; FIELDS], out: &mut impl Write) -> io::Result<()> {
+    let &[model, width, height, _, strict, sixteen, ..] = q;
+    if model > u64::from(camera::numbers::LAST) || strict > 1 || sixteen > 1 {
+        return writeln!(out, "bad");
+    }
+    let numbers = array::from_fn(|i| exact::of_bits(q[FIRST + i]));
+    let camera = camera::numbers::camera_of((model % 256) as u8, &numbers);
+    match job::fresh(camera, width as usize, height as usize, strict == 1) {
+        Err(refusal) => writeln!(out, "refused\t{}", lens::number(refusal)),
+        Ok(job) if sixteen == 1 => build(q, job, 16i16, out),
+        Ok(job) => build(q, job, 0.5f32, out),
     }
 }
 
-// Answers one line.
-fn answer(line: &[u8; LINE]) {
-    let mut numbers: [u64; FIELDS] = [0; FIELDS];
-    if hexadecimal::fields(line, &mut numbers) {
-        answer_numbers(&numbers);
-    } else {
-        refuse();
+// Answers one line, if it is of the form.
+fn answer(line: &[u8], out: &mut impl Write) -> io::Result<()> {
+    match parts::numbers(line) {
+        Some(q) => answer_question(&q, out),
+        None => writeln!(out, "bad"),
     }
 }
 
-// Reads the next line and answers it, and says whether there was one. A last line that the input cuts
-// off is bad, however much of it is there.
-fn answer_next() -> bool {
-    let mut line = [0u8; LINE];
-    let n = io::read_full(STDIN_FILENO, &mut line);
-    if n == 0 {
-        return false;
-    }
-    if n < LINE {
-        refuse();
-    } else {
-        answer(&line);
-    }
-    true
-}
-
-// Answers each line of the input in turn, and gives how many there are. Nothing says that an input
-// ends, so the count has an end of its own, which no run comes to.
-fn answer_all() -> u64 {
-    let mut lines: u64 = 0;
-    while lines < u64::MAX && answer_next() {
-        lines += 1;
-    }
-    lines
-}
-
-fn main() {
-    let lines = answer_all();
-    say_word(b"lines");
-    say_count(lines);
-    say_end();
+fn main(rt: HostRuntime) {
+    parts::answer_lines(&rt, &mut [0; LINE], |line, out| answer(line, out));
 }
