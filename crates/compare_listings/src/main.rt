@@ -45,7 +45,10 @@ impl Lines {
     // Takes the next line. One of no bytes says that there are no more.
     fn next_line(&mut self) -> io::Result<&[u8]> {
         self.line.clear();
-        self.file.by_ref().take(LINE as u64).read_until(b'\n', &mut self.line)?;
+        self.file
+            .by_ref()
+            .take(LINE as u64)
+            .read_until(b'\n', &mut self.line)?;
         Ok(self.line.as_slice())
     }
 
@@ -107,7 +110,11 @@ fn compare_files<'a>(
 
 // Judges two files, and compares them if both are taken. The last line tells how many cells differ, or which refusal;
 // where it can't be written, nobody is left to tell.
-fn run<'a>(rt: &HostRuntime, first_name: &'a [u8], second_name: &'a [u8]) -> Result<(), Failure<'a>> {
+fn run<'a>(
+    rt: &HostRuntime,
+    first_name: &'a [u8],
+    second_name: &'a [u8],
+) -> Result<(), Failure<'a>> {
     let mut first = Lines::open(rt, first_name).blame(first_name)?;
     let mut second = Lines::open(rt, second_name).blame(second_name)?;
     let s = first.judge().blame(first_name)?;

@@ -24,7 +24,11 @@ const PIECE: usize = 4096;
 // file ends, and a file that ended and then went on is refused.
 fn read_camera(rt: &HostRuntime, file: &mut File) -> io::Result<Vec<u8>> {
     let mut input = Vec::with_capacity(rt.alloc(), INPUT)?;
-    let failed = file.by_ref().take(INPUT as u64).read_to_end(&mut input).err();
+    let failed = file
+        .by_ref()
+        .take(INPUT as u64)
+        .read_to_end(&mut input)
+        .err();
     if input.len() < INPUT && file.read(&mut [0; 1])? > 0 {
         return Err(failed.unwrap_or(Error::from_raw_os_error(0)));
     }
@@ -47,7 +51,11 @@ fn keep_all(file: &mut File, map: &mut [u32; MAP], width: usize, height: usize) 
 }
 
 // Builds the camera's table, mends the listing by it, and writes what is printed.
-fn run<'a>(rt: &HostRuntime, camera_name: &'a [u8], listing_name: &'a [u8]) -> Result<(), Failure<'a>> {
+fn run<'a>(
+    rt: &HostRuntime,
+    camera_name: &'a [u8],
+    listing_name: &'a [u8],
+) -> Result<(), Failure<'a>> {
     let mut camera = parts::open(rt, camera_name).blame(camera_name)?;
     let mut listing = parts::open(rt, listing_name).blame(listing_name)?;
     let input = read_camera(rt, &mut camera).blame(camera_name)?;
@@ -67,7 +75,8 @@ fn run<'a>(rt: &HostRuntime, camera_name: &'a [u8], listing_name: &'a [u8]) -> R
         }
         Err(refusal) => listing_lines::refused_line(&mut out, 0, refusal),
     };
-    rt.write_all(&out[..parts::held(n, &out)]).blame(b"standard output")
+    rt.write_all(&out[..parts::held(n, &out)])
+        .blame(b"standard output")
 }
 
 fn main(rt: HostRuntime) {

@@ -70,9 +70,17 @@ fn asked(q: &[u64; FIELDS], n: usize) -> Call {
         } else {
             u8::try_from(q[0]).unwrap_or(255)
         },
-        handed: if matches!(row, 2 | 3) { n } else { q[2] as usize },
+        handed: if matches!(row, 2 | 3) {
+            n
+        } else {
+            q[2] as usize
+        },
         at: if q[1] % 16 == 6 { q[X] as usize } else { 0 },
-        lent: if matches!(row, 1 | 3) { n } else { q[3] as usize },
+        lent: if matches!(row, 1 | 3) {
+            n
+        } else {
+            q[3] as usize
+        },
     }
 }
 
@@ -172,7 +180,11 @@ fn answer_float(x: f64, out: &mut impl Write) -> io::Result<()> {
 }
 
 // Does what a line says.
-fn answer_question(q: &[u64; FIELDS], lent: &mut [u8; LENT], out: &mut impl Write) -> io::Result<()> {
+fn answer_question(
+    q: &[u64; FIELDS],
+    lent: &mut [u8; LENT],
+    out: &mut impl Write,
+) -> io::Result<()> {
     let x = exact::of_bits(q[X]);
     match q[1] {
         4 => answer_float(lens_c::lens_root(x), out),
@@ -205,5 +217,9 @@ fn answer(line: &[u8], lent: &mut [u8; LENT], out: &mut impl Write) -> io::Resul
 
 fn main(rt: HostRuntime) {
     let mut lent = [FILL; LENT];
-    parts::answer_lines(&rt, &mut [0; LINE], |line, out| answer(line, &mut lent, out));
+    parts::answer_lines(
+        &rt,
+        &mut [0; LINE],
+        |line, out| answer(line, &mut lent, out),
+    );
 }

@@ -36,7 +36,10 @@ impl<'a> Iterator for Lines<'a> {
 
 // Judges a text.
 fn judge(text: &[u8]) -> Judging {
-    Lines(text).fold(compare::start(), |judging, line| compare::step(judging, line))
+    Lines(text).fold(
+        compare::start(),
+        |judging, line| compare::step(judging, line),
+    )
 }
 
 // Writes what is told of two texts of one size line by line, and answers the count.

@@ -114,7 +114,12 @@ fn say_number(number: Option<u8>, out: &mut impl Write) -> io::Result<()> {
 }
 
 // Writes the first n of a buffer as they are after a call, or that all are kept.
-fn say_after<T: Shown>(before: &[T], after: &[T], n: usize, out: &mut impl Write) -> io::Result<()> {
+fn say_after<T: Shown>(
+    before: &[T],
+    after: &[T],
+    n: usize,
+    out: &mut impl Write,
+) -> io::Result<()> {
     let digits = T::DIGITS;
     write!(out, "\t")?;
     if before.iter().zip(after).all(|(a, b)| a.bits() == b.bits()) {
@@ -171,7 +176,12 @@ fn call_with_camera(q: &[u64; FIELDS], params: &[u8], lent: &mut [u8]) -> Option
     }
 }
 
-fn call_turn<N: Number>(q: &[u64; FIELDS], job: &mut [u8], table: &mut [N], answer: &mut [u8]) -> Option<u8> {
+fn call_turn<N: Number>(
+    q: &[u64; FIELDS],
+    job: &mut [u8],
+    table: &mut [N],
+    answer: &mut [u8],
+) -> Option<u8> {
     let job = job.get_mut(..q[4] as usize)?;
     let answer = answer.get_mut(..q[5] as usize)?;
     let table = table.get_mut(..q[6] as usize)?;
@@ -258,7 +268,11 @@ fn look_up(
 // ---- the lines
 
 // Does what a line says.
-fn answer_question(q: &[u64; FIELDS], buffers: &mut Buffers, out: &mut impl Write) -> io::Result<()> {
+fn answer_question(
+    q: &[u64; FIELDS],
+    buffers: &mut Buffers,
+    out: &mut impl Write,
+) -> io::Result<()> {
     match q[0] {
         0 => *buffers = filled(),
         1 => put_words(q, &mut buffers.read),
@@ -291,5 +305,9 @@ fn answer(line: &[u8], buffers: &mut Buffers, out: &mut impl Write) -> io::Resul
 
 fn main(rt: HostRuntime) {
     let mut buffers = filled();
-    parts::answer_lines(&rt, &mut [0; LINE], |line, out| answer(line, &mut buffers, out));
+    parts::answer_lines(
+        &rt,
+        &mut [0; LINE],
+        |line, out| answer(line, &mut buffers, out),
+    );
 }

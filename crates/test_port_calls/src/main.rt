@@ -105,10 +105,26 @@ fn answer_question(q: &[u64; FIELDS], out: &mut impl Write) -> io::Result<()> {
     let x = exact::of_bits(q[PAIRS]);
     let y = exact::of_bits(q[PAIRS + 1]);
     match q[1] {
-        0 => say(camera::distort(camera, Point(x, y)), out, |given, out| say_pixel(given, out)),
-        1 => say(camera::undistort(camera, Pixel(x, y)), out, |given, out| say_settled(given, out)),
-        2 => say(camera::dx_distort_x(camera, Point(x, y)), out, |given, out| say_jacobian(given, out)),
-        3 => say(camera::dx_distort_params(camera, Point(x, y)), out, |given, out| say_jacobian(given, out)),
+        0 => say(
+            camera::distort(camera, Point(x, y)),
+            out,
+            |given, out| say_pixel(given, out),
+        ),
+        1 => say(
+            camera::undistort(camera, Pixel(x, y)),
+            out,
+            |given, out| say_settled(given, out),
+        ),
+        2 => say(
+            camera::dx_distort_x(camera, Point(x, y)),
+            out,
+            |given, out| say_jacobian(given, out),
+        ),
+        3 => say(
+            camera::dx_distort_params(camera, Point(x, y)),
+            out,
+            |given, out| say_jacobian(given, out),
+        ),
         4 => {
             let mut list = [PAIRS, PAIRS + 2, PAIRS + 4].map(|k| record_asked(q[k], q[k + 1]));
             write!(out, "{}", observations::observe_all(camera, &mut list))?;
