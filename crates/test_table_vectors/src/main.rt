@@ -72,7 +72,11 @@ fn take_turns<N: Number>(
             Status::Running => write!(out, "running")?,
         }
         let at = job.at;
-        writeln!(out, "\t{}\t{}\t{}\t{}", at.done, at.updates, at.unsettled, at.first)?;
+        writeln!(
+            out,
+            "\t{}\t{}\t{}\t{}",
+            at.done, at.updates, at.unsettled, at.first
+        )?;
         if allowance == 0 || !matches!(turned.status, Status::Running) {
             break;
         }
@@ -87,10 +91,13 @@ fn say_box(word: &str, region: Region, out: &mut impl Write) -> io::Result<()> {
     writeln!(out)
 }
 
-// Builds the table of a fresh record, if there is room for it, and writes what comes of it. Before the first turn each
-// place holds the same.
-fn build<N: Number>(q: &[u64; FIELDS], fresh: Job, before: N, out: &mut impl Write) -> io::Result<()> {
-    let mut room = [before; PLACES];
+// Builds the table of a fresh record, if there is room for it, and writes what comes of it.
+fn build<N: Number>(
+    q: &[u64; FIELDS],
+    fresh: Job,
+    room: &mut [N],
+    out: &mut impl Write,
+) -> io::Result<()> {
     let cells = (q[1] as usize).saturating_mul(q[2] as usize);
     let Some(table) = room.get_mut(..cells.saturating_mul(2)) else {
         return writeln!(out, "bad");
@@ -116,8 +123,8 @@ fn answer_question(q: &[u64; FIELDS], out: &mut impl Write) -> io::Result<()> {
     let camera = camera::numbers::camera_of((model % 256) as u8, &numbers);
     match job::fresh(camera, width as usize, height as usize, strict == 1) {
         Err(refusal) => writeln!(out, "refused\t{}", lens::number(refusal)),
-        Ok(job) if sixteen == 1 => build(q, job, 16i16, out),
-        Ok(job) => build(q, job, 0.5f32, out),
+        Ok(job) if sixteen == 1 => build(q, job, &mut [16i16; PLACES], out),
+        Ok(job) => build(q, job, &mut [0.5f32; PLACES], out),
     }
 }
 
