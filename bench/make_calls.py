@@ -42,14 +42,13 @@ def exported(name, body):
 
 
 def matched(call, answered):
-    """An enum's answered case, and NaN for the other."""
-    enum, binding, value = answered
-    return (f"    match {call} {{\n        lens::{enum}::At({binding}) => {value},\n"
-            f"        lens::{enum}::Refused(_) => 0.0 / 0.0,\n    }}")
+    """A result's answer, and NaN for a refusal."""
+    binding, value = answered
+    return f"    match {call} {{\n        Ok({binding}) => {value},\n        Err(_) => 0.0 / 0.0,\n    }}"
 
 
-DISTORTED = ("Distorted", "pixel", "pixel.0 + pixel.1")
-UNDISTORTED = ("Undistorted", "settled", "settled.point.0 + settled.point.1")
+DISTORTED = ("pixel", "pixel.0 + pixel.1")
+UNDISTORTED = ("settled", "settled.point.0 + settled.point.1")
 
 
 def ours(model, operation):
@@ -72,8 +71,7 @@ def camera(model, operation):
     elif operation == "undistort":
         body = matched(call, UNDISTORTED)
     else:
-        body = (f"    let answer = {call};\n    let e = answer.jacobian.entries;\n"
-                f"    if answer.number == 0 {{ {entries(model, operation, 'e')} }} else {{ 0.0 / 0.0 }}")
+        body = matched(call, ("jacobian", entries(model, operation, "jacobian.entries")))
     return exported(f"camera_{model}_{operation}", body)
 
 
@@ -95,7 +93,7 @@ def rust(model, operation):
     return f"pub extern \"C\" fn rust_{model}_{operation}{SIGNATURE} {{\n    let a = {call}.0;\n    {total}\n}}\n"
 
 
-TANGENT = "    match arctan::tangent(x) {\n        arctan::Slope::Is(t) => t,\n        arctan::Slope::TooSteep => 0.0 / 0.0,\n    }"
+TANGENT = "    arctan::tangent(x).unwrap_or(0.0 / 0.0)"
 ONE_NUMBER = {  # ours and the platform's
     "root": ("    root::root(x)", "x.sqrt()"),
     "arctangent": ("    arctan::arctangent(x)", "x.atan()"),

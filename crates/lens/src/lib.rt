@@ -214,8 +214,8 @@ pub fn squared_radius(x: f64, y: f64) -> f64
 }
 
 // The mark of a list: 0.0 if every number is finite, and NaN if one isn't. By twos, since the compiler subtracts and
-// adds two numbers at once, and never changes the order in which a sum is added. A `for` over the pairs is no plainer: the
-// library has no chunks, and the two places and the odd last number would be counted from the pair's.
+// adds two numbers at once, and never changes the order in which a sum is added. A `for` over `chunks_exact(2)` is no
+// plainer: of each pair it has to be shown again that it has two places, and the odd last number is asked for elsewhere.
 pub fn marks(numbers: &[f64]) -> f64
     ensures { result ≡ mark (all_finite numbers.now) }
 {
