@@ -126,7 +126,11 @@ fn answer_question(q: &[u64; FIELDS], out: &mut impl Write) -> io::Result<()> {
             |given, out| say_jacobian(given, out),
         ),
         4 => {
-            let mut list = [PAIRS, PAIRS + 2, PAIRS + 4].map(|k| record_asked(q[k], q[k + 1]));
+            let mut list = [
+                record_asked(q[PAIRS], q[PAIRS + 1]),
+                record_asked(q[PAIRS + 2], q[PAIRS + 3]),
+                record_asked(q[PAIRS + 4], q[PAIRS + 5]),
+            ];
             write!(out, "{}", observations::observe_all(camera, &mut list))?;
             for record in list {
                 say_record(record, out)?;
