@@ -26,10 +26,8 @@ const FIELDS: usize = 24;
 
 const LINE: usize = 408;
 
-// The fields that the first of the words and the first pair stand in.
+// The field that the first of the words stands in.
 const FIRST: usize = 2;
-
-const PAIRS: usize = 18;
 
 // ---- what a line says
 
@@ -102,8 +100,9 @@ fn answer_question(q: &[u64; FIELDS], out: &mut impl Write) -> io::Result<()> {
         return write!(out, "bad");
     }
     let camera = camera_asked(q);
-    let x = exact::of_bits(q[PAIRS]);
-    let y = exact::of_bits(q[PAIRS + 1]);
+    let &[.., a, b, c, d, e, f] = q;
+    let x = exact::of_bits(a);
+    let y = exact::of_bits(b);
     match q[1] {
         0 => say(
             camera::distort(camera, Point(x, y)),
