@@ -26,8 +26,10 @@ const FIELDS: usize = 24;
 
 const LINE: usize = 408;
 
-// The field that the first of the words stands in.
+// The fields that the first of the words and the first pair stand in.
 const FIRST: usize = 2;
+
+const PAIRS: usize = 18;
 
 // ---- what a line says
 
@@ -100,9 +102,8 @@ fn answer_question(q: &[u64; FIELDS], out: &mut impl Write) -> io::Result<()> {
         return write!(out, "bad");
     }
     let camera = camera_asked(q);
-    let &[.., a, b, c, d, e, f] = q;
-    let x = exact::of_bits(a);
-    let y = exact::of_bits(b);
+    let x = exact::of_bits(q[PAIRS]);
+    let y = exact::of_bits(q[PAIRS + 1]);
     match q[1] {
         0 => say(
             camera::distort(camera, Point(x, y)),
