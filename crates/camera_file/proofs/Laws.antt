@@ -66,7 +66,7 @@ by_form :
 by_form true file e = e
 by_form false file e = refl
 
--- A camera file gives 14, 1 or 3 exactly when the table says so, in this order, and 0 if None holds.
+-- A camera file gives 14, 1 or 3 exactly when the table says so, in this order, and 0 if none holds.
 pub file_number : (text : List ℕ) → (told_file (parsed text)).number ≡ first (file_rows text)
 unfolding read
 file_number text =

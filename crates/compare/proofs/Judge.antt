@@ -82,7 +82,7 @@ next_taken w h u v i j = simp (eq-eqb u u refl, eq-eqb v v refl, lt-ltb u w i, l
 
 -- ---- the cells' lines
 
--- Some lines are those of the cells from a place on to the last
+-- some lines are those of the cells from a place on to the last
 record Rest (w h u v : ℕ) (lines : List (List ℕ)) : Type 0 where
   cells : List ℕ
   singles : all_single cells ≡ true
@@ -138,7 +138,7 @@ module _ (w h : ℕ) where
 
 -- ---- the table's line and the region's
 
--- Some lines are those of a listing
+-- some lines are those of a listing
 pub record Listing (lines : List (List ℕ)) : Type 0 where
   pub told : Listed
   pub fair : Fair told

@@ -112,7 +112,7 @@ pub refusal_alone : (old new : List ℕ) → read_listing old ≡ None → compa
 unfolding compared joined
 refusal_alone old new e = simp e (append-nil (refused_line 14))
 
--- whatever the new one is; and so where the new one is None, though the sizes should differ.
+-- whatever the new one is; and so where the new one is none, though the sizes should differ.
 pub refusal_alone_new : (old new : List ℕ) → read_listing new ≡ None → compared old new ≡ refused_line 14
 unfolding compared joined
 refusal_alone_new old new e = by_old (read_listing old)

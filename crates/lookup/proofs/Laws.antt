@@ -203,7 +203,7 @@ module _ (table : List Float) (region : Region) (width height : ℕ) (point : Po
   unfolding spread looked_up
   answers h o p a = rw ((judged h).0, (judged h).1, o, p, a) refl
 
-  -- Ok a cell's own point the cell's pixel comes back, wherever both indices work out to its whole numbers: a table of
+  -- At a cell's own point the cell's pixel comes back, wherever both indices work out to its whole numbers: a table of
   -- f32s, whose four cells that are used hold finite numbers, answers with the cell's two numbers as they are, but for
   -- -0, which may come back as +0. An index of -0 counts as 0.
   pub at_a_cell :
@@ -326,7 +326,7 @@ box =
 abbrev pub one_half : Point
 one_half = xy (f64 0x3ff0_0000_0000_0000) (f64 0x3fe0_0000_0000_0000)
 
--- Ok (1, 0.5) it gives (1, 0.5); the second numbers of the four cells reach from -1.5 to 2.5.
+-- At (1, 0.5) it gives (1, 0.5); the second numbers of the four cells reach from -1.5 to 2.5.
 pub by_hand :
     (lookup listed box 3 2 one_half ≡ Ok (uv one_half.0 one_half.1))
     × (least (used listed box 3 2 one_half 1) ≈ opposite (over 3 2))

@@ -15,7 +15,7 @@ use Rattle.listing_lines.proofs.Reading.{both_true}
 use Rattle.listing_lines.proofs.Laws.{cell_read, only_cell}
 use Rattle.mending.specs.Mended.{or_later, given, First}
 
--- ---- Some lines, and more behind them
+-- ---- some lines, and more behind them
 
 abbrev or_else : Option CellLine → Option CellLine → Option CellLine
 or_else (Some c) later = Some c

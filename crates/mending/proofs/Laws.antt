@@ -286,7 +286,7 @@ pieces_mended = mended_by_pieces
 -- ---- the map
 
 -- An empty map with room for the table has, once lines are kept in it, of each cell of the table exactly what the
--- lines give of it: the first line of the cell, and nothing where there is None.
+-- lines give of it: the first line of the cell, and nothing where there is none.
 pub kept_given :
     (width height u v : ℕ) →
     sized width height ≡ true →

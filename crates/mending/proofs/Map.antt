@@ -85,7 +85,7 @@ module _ (map : List ℕ) (p a b u v : ℕ) where
           )
       go false = refl
 
-  -- it itself is kept if None was
+  -- it itself is kept if none was
   kept_first : 3 * p + 3 ≤ length map → kept_from (keep_first map (3 * p) a b) (3 * p) u v ≡ or_else (kept_from map (3 * p) u v) (given_as u v a b)
   unfolding keep_first kept_from
   kept_first h = simp (le-leb (3 * p + 3) (length map) h) (go (eqb (get_or map (3 * p) 0) 0) refl)

@@ -15,7 +15,7 @@ abbrev pub or_later : ℕ → ℕ → Option CellLine → Option CellLine → Op
 or_later u v (Some c) later = cond (eqb c.u u && eqb c.v v) (Some c) later
 or_later u v None later = later
 
--- the first of the lines that is one of the cell (u, v), wherever it stands; a line that is None of a cell's gives
+-- the first of the lines that is one of the cell (u, v), wherever it stands; a line that is none of a cell's gives
 -- nothing
 unfoldable pub given : List (List ℕ) → ℕ → ℕ → Option CellLine
 given [] u v = None
