@@ -216,7 +216,9 @@ pub fn limit(camera: Camera) -> u32
     }
 }
 
-// A Jacobian as an answer, or 11.
+// A Jacobian as an answer, or 11. It is part of its callers' code: a call of its own would clear the answer's 272 bytes
+// first, and move them once more.
+#[inline(always)]
 fn finite_jacobian(jacobian: Jacobian) -> Result<Jacobian, Refusal>
     ensures { result ≡ finite_jacobian jacobian }
 {
