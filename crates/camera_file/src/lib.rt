@@ -115,22 +115,28 @@ fn asked_of(model: Option<u8>, width: usize, height: usize, line: &[u8]) -> Resu
     })
 }
 
-// What a text asks for, or why it asks for nothing: 14, then 1, then 3.
+// What a text asks for, or why it asks for nothing: 14, then 1, then 3. The length is tested before a byte is looked at,
+// and each field before the next is, so that what is refused costs no more than the bytes up to there.
 pub fn parse(text: &[u8]) -> Result<Asked, Refusal>
     ensures { result ≡ parsed text.now }
 {
-    let (word, named) = cut(text, b'\t');
-    let (name, sized) = cut(named, b'\t');
-    let (width, high) = cut(sized, b'\t');
-    let (height, line) = cut(high, b'\n');
-    if text.len() > LONGEST
-        || word != b"camera".as_slice()
-        || !is_name(name)
-        || !params_line::is_line(b"params", line)
-    {
+    if text.len() > LONGEST {
         return Err(Refusal::NotTheForm);
     }
+    let (word, named) = cut(text, b'\t');
+    if word != b"camera".as_slice() {
+        return Err(Refusal::NotTheForm);
+    }
+    let (name, sized) = cut(named, b'\t');
+    if !is_name(name) {
+        return Err(Refusal::NotTheForm);
+    }
+    let (width, high) = cut(sized, b'\t');
     let width = decimal::number_in(width).ok_or(Refusal::NotTheForm)?;
+    let (height, line) = cut(high, b'\n');
     let height = decimal::number_in(height).ok_or(Refusal::NotTheForm)?;
+    if !params_line::is_line(b"params", line) {
+        return Err(Refusal::NotTheForm);
+    }
     asked_of(model_of(name), width, height, line)
 }

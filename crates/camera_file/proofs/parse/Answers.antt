@@ -1,5 +1,5 @@
 -- `camera_file::parse` meets its contract: what the fields of a text decide is what the text asks for. Assumes nothing.
-use mathlib.Core.Path.{◌≡◌, sym, ap, ◌∙◌}
+use mathlib.Core.Path.{◌≡◌, refl, sym, ap, ◌∙◌}
 use Prim.Native.Nat.{ℕ}
 use Rattle.std.proofs.lemmas.Result.{err_from_is_err_and}
 use Rattle.std.proofs.Common.{Option, None, Result, Err}
@@ -10,7 +10,6 @@ use Rattle.camera_file.specs.Asked.{asked_of}
 use Rattle.camera_file.proofs.Models.{alike, unlike}
 use Rattle.camera_file.proofs.Stages.{Fields, not_short, other_word, no_name, no_params, no_width, no_height, of_form}
 use Rattle.camera_file.proofs.parse.Goals as goal
-use Rattle.camera_file.proofs.parse.Goals.{then-text-gt-LONGEST-via-then-text-gt-LONGEST, then-text-gt-LONGEST-via-else-text-gt-LONGEST+then-ne, then-text-gt-LONGEST-via-else-text-gt-LONGEST+else-ne+then-not-is_name, then-text-gt-LONGEST-via-else-text-gt-LONGEST+else-ne+else-not-is_name+then-not-is_line}
 
 -- the refusal that `ok_or` gives
 given : {o : Option ℕ} {r s : Refusal} → ◌≡◌ {A = Result ℕ Refusal} (Err r) (ok_or o s) → o ≡ None → r ≡ s
@@ -19,21 +18,44 @@ given {o} {r} {s} e f = let g : ◌≡◌ {A = Result ℕ Refusal} (Err r) (Err 
 pub returns-then-text-gt-LONGEST : goal.returns-then-text-gt-LONGEST
 returns-then-text-gt-LONGEST c =
     let f : Fields c.args.text.now _ _ _ _ _ _ _ _ = record {
+      word_is = refl;
+      named_is = refl;
+      name_is = refl;
+      sized_is = refl;
+      width_is = refl;
+      high_is = refl;
+      height_is = refl;
+      line_is = refl;
+    } in
+    not_short f c.if-text-gt-LONGEST.true
+
+pub returns-then-ne : goal.returns-then-ne
+returns-then-ne c =
+    let f : Fields c.args.text.now _ _ _ _ _ _ _ _ = record {
+      word_is = c.cut.ensures.first;
+      named_is = c.cut.ensures.rest;
+      name_is = refl;
+      sized_is = refl;
+      width_is = refl;
+      high_is = refl;
+      height_is = refl;
+      line_is = refl;
+    } in
+    other_word f c.if-text-gt-LONGEST.false (unlike _ c.as_slice.ensures c.ne.ensures c.if-ne.true)
+
+pub returns-then-not-is_name : goal.returns-then-not-is_name
+returns-then-not-is_name c =
+    let f : Fields c.args.text.now _ _ _ _ _ _ _ _ = record {
       word_is = c.cut.ensures.first;
       named_is = c.cut.ensures.rest;
       name_is = c.cut-2.ensures.first;
       sized_is = c.cut-2.ensures.rest;
-      width_is = c.cut-3.ensures.first;
-      high_is = c.cut-3.ensures.rest;
-      height_is = c.cut-4.ensures.first;
-      line_is = c.cut-4.ensures.rest;
+      width_is = refl;
+      high_is = refl;
+      height_is = refl;
+      line_is = refl;
     } in
-    elim c.then-text-gt-LONGEST.branch [
-      | then-text-gt-LONGEST-via-then-text-gt-LONGEST w ↦ not_short f w.if-text-gt-LONGEST.true
-      | then-text-gt-LONGEST-via-else-text-gt-LONGEST+then-ne w ↦ other_word f w.if-text-gt-LONGEST.false (unlike _ w.as_slice.ensures w.ne.ensures w.if-ne.true)
-      | then-text-gt-LONGEST-via-else-text-gt-LONGEST+else-ne+then-not-is_name w ↦ no_name f w.if-text-gt-LONGEST.false (alike _ w.as_slice.ensures w.ne.ensures w.if-ne.false) (sym w.is_name.ensures ∙ w.if-not-is_name.true)
-      | then-text-gt-LONGEST-via-else-text-gt-LONGEST+else-ne+else-not-is_name+then-not-is_line w ↦ no_params f w.if-text-gt-LONGEST.false (alike _ w.as_slice.ensures w.ne.ensures w.if-ne.false) (sym w.is_name.ensures ∙ w.if-not-is_name.false) (sym w.is_line.ensures ∙ w.if-not-is_line.true)
-    ]
+    no_name f c.if-text-gt-LONGEST.false (alike _ c.as_slice.ensures c.ne.ensures c.if-ne.false) (sym c.is_name.ensures ∙ c.if-not-is_name.true)
 
 pub returns-in_err-width : goal.returns-in_err-width
 returns-in_err-width c =
@@ -44,8 +66,8 @@ returns-in_err-width c =
       sized_is = c.cut-2.ensures.rest;
       width_is = c.cut-3.ensures.first;
       high_is = c.cut-3.ensures.rest;
-      height_is = c.cut-4.ensures.first;
-      line_is = c.cut-4.ensures.rest;
+      height_is = refl;
+      line_is = refl;
     } in
     let p = err_from_is_err_and c.from_residual.result c.from_residual.ensures.1 in
     let e = c.in_err-width.ensures in
@@ -74,6 +96,20 @@ returns-in_err-height c =
     (alike _ c.as_slice.ensures c.ne.ensures c.if-ne.false)
     (sym c.is_name.ensures ∙ c.if-not-is_name.false)
     (sym c.number_in-2.ensures ∙ e.ok_part))
+
+pub returns-then-not-is_line : goal.returns-then-not-is_line
+returns-then-not-is_line c =
+    let f : Fields c.args.text.now _ _ _ _ _ _ _ _ = record {
+      word_is = c.cut.ensures.first;
+      named_is = c.cut.ensures.rest;
+      name_is = c.cut-2.ensures.first;
+      sized_is = c.cut-2.ensures.rest;
+      width_is = c.cut-3.ensures.first;
+      high_is = c.cut-3.ensures.rest;
+      height_is = c.cut-4.ensures.first;
+      line_is = c.cut-4.ensures.rest;
+    } in
+    no_params f c.if-text-gt-LONGEST.false (alike _ c.as_slice.ensures c.ne.ensures c.if-ne.false) (sym c.is_name.ensures ∙ c.if-not-is_name.false) (sym c.is_line.ensures ∙ c.if-not-is_line.true)
 
 pub returns : goal.returns
 returns c =
