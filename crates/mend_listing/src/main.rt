@@ -4,6 +4,7 @@
 // once, a piece at a time. What can't be read is said on standard error, and then nothing is printed.
 #![tactic(auto)]
 
+use lens::Refusal;
 use mending::{LINE, MAP, OUTPUT};
 use parts::{Blame, Failure};
 use printer::{Built, NUMBERS};
@@ -20,19 +21,18 @@ const INPUT: usize = 4097;
 // What is read of a listing at once.
 const PIECE: usize = 4096;
 
+// What is said to have failed where not all could be written.
+const STANDARD_OUTPUT: &[u8] = b"standard output";
+
 // Reads a camera file, or as much of it as is looked at. A read that failed is let go where the next one says that the
 // file ends, and a file that ended and then went on is refused.
-fn read_camera(rt: &HostRuntime, file: &mut File) -> io::Result<Vec<u8>> {
-    let mut input = Vec::with_capacity(rt.alloc(), INPUT)?;
-    let failed = file
-        .by_ref()
-        .take(INPUT as u64)
-        .read_to_end(&mut input)
-        .err();
-    if input.len() < INPUT && file.read(&mut [0; 1])? > 0 {
-        return Err(failed.unwrap_or(Error::from_raw_os_error(0)));
+fn read_camera<'a>(file: &mut File, room: &'a mut [u8; INPUT]) -> io::Result<&'a [u8]> {
+    let (n, ended) = parts::fill(file, room);
+    if n < INPUT && file.read(&mut [0; 1])? > 0 {
+        // One that ended and then went on has no error of its own.
+        return Err(ended.err().unwrap_or(Error::from_raw_os_error(0)));
     }
-    Ok(input)
+    Ok(&room[..parts::held(n, room)])
 }
 
 // Keeps what a file gives of a table of this size, to its end. No file has more pieces than a u64 counts.
@@ -50,7 +50,37 @@ fn keep_all(file: &mut File, map: &mut [u32; MAP], width: usize, height: usize) 
     Err(Error::from(ErrorKind::FileTooLarge))
 }
 
-// Builds the camera's table, mends the listing by it, and writes what is printed.
+// Mends a listing by a fresh table, whose numbers stand in the room, and writes what is printed. Its own rooms are made
+// only here: a camera that is refused has no use for them.
+fn mend<'a>(
+    rt: &HostRuntime,
+    listing: &mut File,
+    listing_name: &'a [u8],
+    built: Built,
+    room: &[f32; NUMBERS],
+) -> Result<(), Failure<'a>> {
+    let Built {
+        width,
+        height,
+        updates,
+        region,
+    } = built;
+    let mut map = [0; MAP];
+    keep_all(listing, &mut map, width, height).blame(listing_name)?;
+    let mut out = [0; OUTPUT];
+    let n = mending::write_mended(&mut out, width, height, updates, region, room, &map);
+    rt.write_all(&out[..n]).blame(STANDARD_OUTPUT)
+}
+
+// Writes a refusal's line.
+fn refuse<'a>(rt: &HostRuntime, refusal: Refusal) -> Result<(), Failure<'a>> {
+    let mut out = [0; LINE];
+    let n = listing_lines::refused_line(&mut out, 0, refusal);
+    rt.write_all(&out[..parts::held(n, &out)])
+        .blame(STANDARD_OUTPUT)
+}
+
+// Builds the camera's table, and mends the listing by it.
 fn run<'a>(
     rt: &HostRuntime,
     camera_name: &'a [u8],
@@ -58,25 +88,13 @@ fn run<'a>(
 ) -> Result<(), Failure<'a>> {
     let mut camera = parts::open(rt, camera_name).blame(camera_name)?;
     let mut listing = parts::open(rt, listing_name).blame(listing_name)?;
-    let input = read_camera(rt, &mut camera).blame(camera_name)?;
+    let mut input = [0; INPUT];
+    let input = read_camera(&mut camera, &mut input).blame(camera_name)?;
     let mut room = [0.0; NUMBERS];
-    let mut map = [0; MAP];
-    let mut out = [0; OUTPUT];
-    let n = match printer::build(input.as_slice(), &mut room) {
-        Ok(built) => {
-            let Built {
-                width,
-                height,
-                updates,
-                region,
-            } = built;
-            keep_all(&mut listing, &mut map, width, height).blame(listing_name)?;
-            mending::write_mended(&mut out, width, height, updates, region, &room, &map)
-        }
-        Err(refusal) => listing_lines::refused_line(&mut out, 0, refusal),
-    };
-    rt.write_all(&out[..parts::held(n, &out)])
-        .blame(b"standard output")
+    match printer::build(input, &mut room) {
+        Ok(built) => mend(rt, &mut listing, listing_name, built, &room),
+        Err(refusal) => refuse(rt, refusal),
+    }
 }
 
 fn main(rt: HostRuntime) {
@@ -89,6 +107,6 @@ fn main(rt: HostRuntime) {
     let camera = parts::argument(&rt, 1, &mut camera);
     let listing = parts::argument(&rt, 2, &mut listing);
     if let Err(failure) = run(&rt, camera, listing) {
-        let _ = failure.tell(&rt);
+        failure.tell(&rt);
     }
 }

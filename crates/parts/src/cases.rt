@@ -3,26 +3,99 @@
 // part is four bytes that tell its length, the least first, and so many bytes.
 ghost use Rattle.std.specs.Prelude.{◌≤◌, length};
 
+use crate::held;
 use std::io;
-use std::io::{BufWriter, Printer, Read, StdinLock, Write};
-
-// Where a test writes.
-pub type Out<'a> = BufWriter<Printer<'a, HostRuntime>>;
+use std::io::{Printer, Read, StdinLock, Write};
 
 // The longest text that is read line by line.
 const TEXT: usize = 65536;
 
-// Reads until the room is full, the input ends or a read fails, and gives what was read.
-pub fn read_full<'a, R: Read>(input: &mut R, room: &'a mut [u8]) -> &'a [u8]
-    ensures { length result.now ≤ length room.old }
+// As much as a test gathers before it is written.
+const GATHERED: usize = 1024;
+
+// Where a test writes: what is written is gathered until the answer is whole. It is gathered here and not by std's
+// writer, which would ask for memory, as none of the programs does. What can't be written is let go, and nothing fails.
+#[derive(Drop)]
+pub struct Out<'a> {
+    to: Printer<'a, HostRuntime>,
+    room: [u8; GATHERED],
+    n: usize,
+}
+
+impl Out<'_> {
+    // Puts bytes behind what is gathered, and answers whether there was room for them.
+    fn gather(&mut self, bytes: &[u8]) -> bool {
+        let end = self.n.saturating_add(bytes.len());
+        let Some(place) = self.room.get_mut(self.n..end) else {
+            return false;
+        };
+        if place.len() != bytes.len() {
+            return false;
+        }
+        place.copy_from_slice(bytes);
+        self.n = end;
+        true
+    }
+
+    // Writes what is gathered.
+    fn hand_on(&mut self) {
+        let n = held(self.n, &self.room);
+        self.n = 0;
+        let _ = self.to.write_all(&self.room[..n]);
+    }
+
+    // Gathers bytes, behind a write of what was gathered where there is no room. More than there is ever room for go out
+    // as they are.
+    fn put(&mut self, bytes: &[u8]) {
+        if !self.gather(bytes) {
+            self.hand_on();
+            if !self.gather(bytes) {
+                let _ = self.to.write_all(bytes);
+            }
+        }
+    }
+}
+
+impl Write for Out<'_> {
+    fn write(&mut self, bytes: &[u8]) -> io::Result<usize> {
+        self.put(bytes);
+        Ok(bytes.len())
+    }
+
+    fn flush(&mut self) -> io::Result<()> {
+        self.hand_on();
+        Ok(())
+    }
+
+    // std's own would ask `write` again and again.
+    fn write_all(&mut self, bytes: &[u8]) -> io::Result<()> {
+        self.put(bytes);
+        Ok(())
+    }
+}
+
+// Reads until the room is full, the input ends or a read fails, and answers how many bytes were read, and with what it
+// failed.
+pub fn fill<R: Read>(input: &mut R, room: &mut [u8]) -> (usize, io::Result<()>)
+    ensures { result.0 ≤ length room.new }
 {
     let mut n = 0;
     while n < room.len() {
         match input.read(&mut room[n..]) {
-            Ok(0) | Err(_) => break,
+            Ok(0) => break,
             Ok(more) => n += more,
+            // It goes out with the count of what was read before, which `?` would lose.
+            Err(error) => return (n, Err(error)),
         }
     }
+    (n, Ok(()))
+}
+
+// The same, and gives what was read.
+pub fn read_full<'a, R: Read>(input: &mut R, room: &'a mut [u8]) -> &'a [u8]
+    ensures { length result.now ≤ length room.old }
+{
+    let (n, _) = fill(input, room);
     &room[..n]
 }
 
@@ -48,8 +121,9 @@ pub fn numbers<const FIELDS: usize>(line: &[u8]) -> Option<[u64; FIELDS]> {
     hexadecimal::fields(line, &mut numbers).then_some(numbers)
 }
 
-// Answers one case after the other, as long as `answer` says that there was one, and writes how many there were. No
-// input has more cases than a u64 counts.
+// Answers one case after the other, as long as `answer` says that there was one, and writes how many there were. Each
+// answer goes out before the next case is read, so that who asks may wait for it. No input has more cases than a u64
+// counts.
 fn count_answered<W: Write, F: FnMut(&mut W) -> io::Result<bool>>(
     out: &mut W,
     name: &str,
@@ -62,6 +136,7 @@ fn count_answered<W: Write, F: FnMut(&mut W) -> io::Result<bool>>(
         if !answer(out)? {
             break;
         }
+        out.flush()?;
         count = n;
     }
     writeln!(out, "{name}\t{count}")?;
@@ -77,9 +152,12 @@ pub fn answer_all<F: FnMut(&mut StdinLock<'_>, &mut Out<'_>) -> io::Result<bool>
     requires { (state : F) (input : _) (out : _) → F.pre state input out }
 {
     let mut input = rt.reader();
-    if let Ok(mut out) = BufWriter::new(rt.alloc(), io::writer(rt)) {
-        let _ = count_answered(&mut out, name, |out| answer(&mut input, out));
-    }
+    let mut out = Out {
+        to: io::writer(rt),
+        room: [0; GATHERED],
+        n: 0,
+    };
+    let _ = count_answered(&mut out, name, |out| answer(&mut input, out));
 }
 
 // Answers cases of parts: `answer` reads those behind the first, which is a line to write above the answer. None is left

@@ -1,11 +1,16 @@
 // What programs that read files by name share: their arguments, opening a file, and saying why that, or reading one,
 // failed.
 ghost use Rattle.std.specs.Prelude.{◌≤◌, length};
+ghost use Rattle.io.specs.Counts.{IsPrefixLen};
 
+use crate::held;
 use std::env::{Env, FillError};
 use std::fs;
 use std::fs::Files;
-use std::io::{Error, ErrorKind, Result};
+use std::io::{Cursor, Error, ErrorKind, Result, Write};
+
+// Room for the words that std has for an error.
+const WORDS: usize = 256;
 
 // Whether the program was given argument i; argument 0 is its own name.
 pub fn is_given(rt: &impl Env, i: usize) -> bool {
@@ -36,18 +41,31 @@ pub struct Failure<'a> {
     pub error: Error,
 }
 
+// How many bytes of std's words for an error are the system's: behind these std puts the error's number.
+fn of_the_system(words: &[u8]) -> usize
+    ensures { IsPrefixLen result words.now }
+{
+    let number = b" (os error ".as_slice();
+    match words.windows(number.len()).position(|w| w == number) {
+        Some(n) => held(n, words),
+        None => words.len(),
+    }
+}
+
 impl Failure<'_> {
-    // Writes a line to standard error: what failed, a colon, and the system's words for why. Behind these std puts the
-    // error's number.
-    pub fn tell(self, rt: &HostRuntime) -> Result<()> {
+    // Writes a line to standard error: what failed, a colon, and the system's words for why. Where that can't be
+    // written, nobody is left to tell; no memory is asked for, so that one who has none is told too.
+    pub fn tell(self, rt: &HostRuntime) {
         let Failure { what, error } = self;
-        let text = format!(in rt.alloc(); "{error}")?;
-        let words = text.as_str();
-        let words = words
-            .split_once(" (os error ")
-            .map_or(words, |(words, _)| words);
-        rt.stderr().write_all(what)?;
-        eprintln!(rt; ": {words}")
+        let mut words = Cursor::new([0u8; WORDS]);
+        let _ = write!(words, "{error}");
+        let n = words.position() as usize;
+        let words = words.into_inner();
+        let words = &words[..held(n, &words)];
+        let mut out = rt.stderr();
+        for part in [what, b": ", &words[..of_the_system(words)], b"\n"] {
+            let _ = out.write_all(part);
+        }
     }
 }
 

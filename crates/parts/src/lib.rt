@@ -9,7 +9,7 @@ ghost use Rattle.std.specs.Prelude.{cond, ◌≡◌, ltb, length};
 ghost use Rattle.io.specs.Counts.{IsPrefixLen};
 
 pub use cases::{
-    Out, answer_all, answer_cases, answer_lines, answer_text, numbers, read_full, read_part,
+    Out, answer_all, answer_cases, answer_lines, answer_text, fill, numbers, read_full, read_part,
     say_floats,
 };
 pub use files::{Blame, Failure, argument, is_given, open};
