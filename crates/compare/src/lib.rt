@@ -187,13 +187,16 @@ fn same_size(s: Judging, t: Judging) -> bool
 pub fn verdict(s: Judging, t: Judging) -> Result<(), Refusal>
     ensures { result ≡ verdict s t }
 {
-    if !whole(s) || !whole(t) {
+    if whole(s) {
+        if whole(t) {
+            if same_size(s, t) {
+                return Ok(());
+            }
+            return Err(Refusal::SizesDiffer);
+        }
         return Err(Refusal::NotTheForm);
     }
-    if !same_size(s, t) {
-        return Err(Refusal::SizesDiffer);
-    }
-    Ok(())
+    Err(Refusal::NotTheForm)
 }
 
 // What is told of two lines that are not the same.
@@ -228,7 +231,8 @@ pub fn counted(count: u64, told: Difference) -> u64
     ensures { result ≡ counted count told }
 {
     match told {
-        Difference::Same | Difference::Lines => count,
+        Difference::Same => count,
+        Difference::Lines => count,
         Difference::Cells { .. } => if count < MOST { count + 1 } else { count },
     }
 }

@@ -1,12 +1,15 @@
 -- `compare::counted` meets its contract. Assumes nothing.
-use mathlib.Core.Logic.{inl, inr}
 use borrow.Author.Tests.{lt-ltb, le-ltb}
 use Rattle.compare.specs.Told.{counted}
 use Rattle.compare.proofs.counted.Goals as goal
 
 pub returns-in-Same : goal.returns-in-Same
 unfolding counted
-returns-in-Same c = elim c.in-Same.is [ inl e ↦ simp e | inr e ↦ simp e ]
+returns-in-Same c = simp c.in-Same.is
+
+pub returns-in-Lines : goal.returns-in-Lines
+unfolding counted
+returns-in-Lines c = simp c.in-Lines.is
 
 pub returns-then-count-lt-MOST : goal.returns-then-count-lt-MOST
 unfolding counted

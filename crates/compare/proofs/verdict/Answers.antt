@@ -2,23 +2,19 @@
 use mathlib.Core.Path.{sym, ◌∙◌}
 use Rattle.compare.specs.Judged.{verdict}
 use Rattle.compare.proofs.verdict.Goals as goal
-use Rattle.compare.proofs.verdict.Goals.{then-not-whole-via-then-not-whole, then-not-whole-via-else-not-whole+then-not-whole-2}
 
-pub returns-then-not-whole : goal.returns-then-not-whole
+pub returns-then-same_size : goal.returns-then-same_size
 unfolding verdict
-returns-then-not-whole c =
-    elim c.then-not-whole.branch [
-      | then-not-whole-via-then-not-whole w ↦ simp (sym c.whole.ensures ∙ w.if-not-whole.true)
-      | then-not-whole-via-else-not-whole+then-not-whole-2 w ↦
-          simp (sym c.whole.ensures ∙ w.if-not-whole.false, sym w.whole-else-not-whole.ensures ∙ w.if-not-whole-2.true)
-    ]
+returns-then-same_size c = simp (sym c.whole.ensures ∙ c.if-whole.true, sym c.whole-then-whole.ensures ∙ c.if-whole-2.true, sym c.same_size.ensures ∙ c.if-same_size.true)
 
-pub returns-then-not-same_size : goal.returns-then-not-same_size
+pub returns-then-whole-2 : goal.returns-then-whole-2
 unfolding verdict
-returns-then-not-same_size c =
-    simp (sym c.whole.ensures ∙ c.if-not-whole.false, sym c.whole-else-not-whole.ensures ∙ c.if-not-whole-2.false, sym c.same_size.ensures ∙ c.if-not-same_size.true)
+returns-then-whole-2 c = simp (sym c.whole.ensures ∙ c.if-whole.true, sym c.whole-then-whole.ensures ∙ c.if-whole-2.true, sym c.same_size.ensures ∙ c.if-same_size.false)
+
+pub returns-then-whole : goal.returns-then-whole
+unfolding verdict
+returns-then-whole c = simp (sym c.whole.ensures ∙ c.if-whole.true, sym c.whole-then-whole.ensures ∙ c.if-whole-2.false)
 
 pub returns : goal.returns
 unfolding verdict
-returns c =
-    simp (sym c.whole.ensures ∙ c.if-not-whole.false, sym c.whole-else-not-whole.ensures ∙ c.if-not-whole-2.false, sym c.same_size.ensures ∙ c.if-not-same_size.false)
+returns c = simp (sym c.whole.ensures ∙ c.if-whole.false)
