@@ -15,7 +15,7 @@ TABLE = [
     ("a sweep, a plan, a state", "plans", "specs/Plan", ["Content", "Sweep", "Plan", "State", "nowhere", "begun", "fresh", "one_no", "all_units",
                                                    "found", "too_strict", "cells_done", "cell_in"]),
     ("calls, and A", "plans", "specs/Calls", ["both_or_neither", "tallied", "samples_done", "possible", "sound", "admitted", "judged", "Build", "allowed"]),
-    ("a call, by the contract", "distortion_table", "proofs/Calls", ["Called", "Turns"]),
+    ("a call, by the contract", "distortion_table", "proofs/Calls", ["Called", "turns", "Turns"]),
     ("a call, by the contract of `lens_turn`, `lens_turn16`", "lens_c", "proofs/Laws", ["Turned", "Turned16"]),
     ("what firmware holds", "turn_bytes", "specs/Calls", ["HeldBytes", "bytes_plan", "bytes_state", "bytes_said"]),
     ("our table's plan", "table_plans", "specs/Tables", ["Engine", "full", "Border", "corners_once", "opens_for", "sweep_by",
@@ -29,21 +29,24 @@ TABLE = [
 
 
 def lines_of(crate, name, wanted):
-    """The first and last line of each definition, comments above it aside."""
+    """The first and last line of each definition, comments above it aside. A record's field of the same name is passed over: it
+    stands without a definition's word before it."""
     text = open(f"crates/{crate}/{name}.antt", encoding="utf-8").read().split("\n")
-    found = {}
+    found, fields = {}, set()
     for i, line in enumerate(text):
-        m = re.match(r"( *)(?:(?:abbrev|unfoldable) )?pub (?:(?:abbrev|unfoldable|record|data) )?([^\s:]+)", line)
-        if not m or m.group(2) not in wanted or line.lstrip().startswith("pub mod"):
+        m = re.match(r"( *)((?:abbrev |unfoldable )?)pub ((?:abbrev |unfoldable |record |data )?)([^\s:]+)", line)
+        if not m or m.group(4) not in wanted or line.lstrip().startswith("pub mod"):
             continue
-        if m.group(2) in found:
+        is_field = not m.group(2) and not m.group(3)
+        if m.group(4) in found and (is_field or m.group(4) not in fields):
             continue
+        (fields.add if is_field else fields.discard)(m.group(4))
         indent, j = len(m.group(1)), i + 1
         while j < len(text) and text[j].strip() and (len(text[j]) - len(text[j].lstrip()) > indent
-                                                     or text[j].lstrip().startswith(m.group(2) + " ")
+                                                     or text[j].lstrip().startswith(m.group(4) + " ")
                                                      or text[j].strip() in ("}", ")")):
             j += 1
-        found[m.group(2)] = (i + 1, j)
+        found[m.group(4)] = (i + 1, j)
     missing = [w for w in wanted if w not in found]
     if missing:
         sys.exit(f"{crate}/{name}: no {missing}")
