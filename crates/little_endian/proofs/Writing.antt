@@ -70,9 +70,9 @@ pub eight_bytes : (w : ℕ) → to_le_bytes w64 w ≡ bytes 8 w
 unfolding bytes
 eight_bytes w = simp div-div-eq-div-mul
 
-pub four_bytes : (w : ℕ) → take 4 (to_le_bytes w64 w) ≡ bytes 4 w
+pub first_four : (w : ℕ) {l : List ℕ} → l ≡ to_le_bytes w64 w → get_or l 0 0 ∷ get_or l 1 0 ∷ get_or l 2 0 ∷ get_or l 3 0 ∷ [] ≡ bytes 4 w
 unfolding bytes
-four_bytes w = simp div-div-eq-div-mul
+first_four w e = simp (e, div-div-eq-div-mul)
 
 -- ---- lists of bytes side by side
 

@@ -80,7 +80,10 @@ pub fn put(out: &mut [u8], at: usize, count: usize, number: u64)
         let places = &mut out[at..at + count];
         match count {
             8 => places.copy_from_slice(&number.to_le_bytes()),
-            4 => places.copy_from_slice(&number.to_le_bytes()[..4]),
+            4 => {
+                let [first, second, third, fourth, ..] = number.to_le_bytes();
+                places.copy_from_slice(&[first, second, third, fourth]);
+            }
             _ => write(places, number),
         }
     }

@@ -2,9 +2,8 @@
 use mathlib.Core.Path.{◌∙◌, ap, sym}
 use Prim.Native.Nat.{ℕ}
 use native.Mathlib.Omega.{arith}
-use lib.ListN.{take}
 use Rattle.little_endian.specs.Bytes.{bytes}
-use Rattle.little_endian.proofs.Writing.{length_bytes, not_fitting, put_there, put_each, eight_bytes, four_bytes}
+use Rattle.little_endian.proofs.Writing.{length_bytes, not_fitting, put_there, put_each, eight_bytes, first_four}
 use Rattle.little_endian.proofs.put.Goals as goal
 use Rattle.little_endian.proofs.put.Goals.{else-at-out-via-then-at-out+else-count-out, else-at-out-via-else-at-out}
 
@@ -17,8 +16,7 @@ pub returns-in-4 : goal.returns-in-4
 returns-in-4 c =
     put_there c.args.at c.args.count c.args.number c.args.out.now c.if-count-out.true c.if-at-out.true _
     (c.copy_from_slice-in-4.ensures.after
-    ∙ ap (take 4) c.to_le_bytes-in-4.ensures
-    ∙ four_bytes c.args.number
+    ∙ first_four c.args.number c.to_le_bytes-in-4.ensures
     ∙ ap (λ (k : ℕ). bytes k c.args.number) (sym c.in-4.is))
 
 pub returns-in_default : goal.returns-in_default
