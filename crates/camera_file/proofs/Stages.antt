@@ -44,6 +44,25 @@ pub record Fields (text word named name sized width high height line : List ℕ)
   pub height_is : height ≡ before newline high
   pub line_is : line ≡ past newline high
 
+-- Fields that are cut off already, and by refl those that are not yet.
+pub fields :
+    {text word named name sized width high height line : List ℕ}
+    → word ≡ before tab text → named ≡ past tab text
+    → name ≡ before tab named → sized ≡ past tab named
+    → width ≡ before tab sized → high ≡ past tab sized
+    → height ≡ before newline high → line ≡ past newline high
+    → Fields text word named name sized width high height line
+fields a b c d e f g h = record {
+  word_is = a;
+  named_is = b;
+  name_is = c;
+  sized_is = d;
+  width_is = e;
+  high_is = f;
+  height_is = g;
+  line_is = h;
+}
+
 module _ {text word named name sized width high height line : List ℕ} (f : Fields text word named name sized width high height line) where
   tests : is_file text ≡ (leb (length text) longest && (same word camera_word && (is_name name && (is_number width && (is_number height && is_params line)))))
   unfolding is_file is_named is_wide is_high
